@@ -392,10 +392,9 @@ fn join<S: FrameSink>(
     if header % 32 == PICTURE_SET {
         return join_pps(terms, state, header % 32, unit, rbsp, sink);
     }
-    match terms.mode {
-        Mode::Units => unreachable!(),
-        Mode::Headers => join_slice(state, header, unit, rbsp, sink),
-        Mode::Full => join_whole_slice(alloc, state, header, unit, rbsp, sink),
+    match &state.decoder {
+        None => join_slice(state, header, unit, rbsp, sink),
+        Some(_) => join_whole_slice(alloc, state, header, unit, rbsp, sink),
     }
 }
 

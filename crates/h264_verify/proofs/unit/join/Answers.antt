@@ -1,4 +1,4 @@
-use Rattle.std.proofs.Common.{◌≡◌, ℕ, Bool, true, false, List, Option, Some, Result, length, ap, refl, sym, subst, ◌∙◌}
+use Rattle.std.proofs.Common.{◌≡◌, ℕ, Bool, true, false, List, Option, Some, None, Result, length, ap, refl, sym, subst, ◌∙◌}
 use Rattle.std.proofs.lemmas.Bool.{ne_eqb}
 use Rattle.h264_base.specs.declared.mode.Mode.{Mode}
 use Rattle.h264_base.specs.declared.mode.Mode.TheVariants as modes
@@ -15,7 +15,10 @@ use Rattle.h264_verify.specs.Keeping.{ended_pictures, ended_in}
 use Rattle.h264_verify.proofs.Playing.{gives-plays}
 use Rattle.h264_verify.specs.declared.state.State.{State}
 use Rattle.h264_verify.specs.declared.state.Terms.{Terms}
-use Rattle.h264_verify.specs.KeepingUnits.{KeepsWithin}
+use Rattle.h264_verify.specs.declared.decoder.Decoder.{Decoder}
+use Rattle.h264_verify.specs.Keeping.{WhereMade}
+use Rattle.h264_verify.proofs.Made.{some-made, none-made}
+use Rattle.h264_verify.specs.KeepingUnits.{KeepsWithin, KeepsSome}
 use Rattle.h264_verify.specs.Turning.{Joins}
 use Rattle.h264_base.specs.Body.{Body}
 use Rattle.h264_verify.specs.Units.{is_slice}
@@ -71,11 +74,14 @@ slice-here : (mode : Mode) (unit : NalUnit) (byte : ℕ) (o : Option Body) (x : 
 slice-here mode unit byte o x e b s seven eight =
     read-slice mode (nal_unit_type byte) (read-bytes _ _ _ _ s (bytes-by mode unit byte o e b)).0 (ne_eqb _ _ seven) (ne_eqb _ _ eight)
 
-pub unreachable-requires : goal.unreachable-requires
-unreachable-requires g c =
-    let here = slice-here c.args.terms.mode c.args.bytes.now.unit.now c.args.bytes.now.header c.args.bytes.now.rbsp.now _ c.requires.header c.requires.bytes c.in-Some.is c.if-header-eq-SEQUENCE_SET.false c.if-header-eq-PICTURE_SET.false in
-    let none : reads_slices modes.Units ≡ true = subst (λ (m : Mode). reads_slices m ≡ true) c.in-Units.is here.1 in
-    cc
+-- the mode of a unit that is read, and is no set, by whether frames are made
+headers-of : (P : Decoder → Type 0) (m : Mode) (o : Option Decoder) → o ≡ None → WhereMade m P o → reads_slices m ≡ true → m ≡ modes.Headers
+headers-of P modes.Units o e k r = cc
+headers-of P modes.Headers o e k r = refl
+headers-of P modes.Full o e k r = absurd (none-made P modes.Full o e k)
+
+here-in : (mode one : Mode) (ended : Bool) (state : State) → mode ≡ one → ended ≡ false → KeepsSome mode ended state → KeepsSome one false state
+here-in mode one ended state e f k = subst (λ (m : Mode). KeepsSome m false state) e (subst (λ (b : Bool). KeepsSome mode b state) f k)
 
 pub join_slice-requires-clause-rbsp : goal.join_slice-requires-clause-rbsp
 join_slice-requires-clause-rbsp g c = (read-bytes _ _ _ _ c.in-Some.is c.requires.bytes).1
@@ -85,6 +91,18 @@ join_slice-requires-clause-goes_on g c =
     let here = slice-here c.args.terms.mode c.args.bytes.now.unit.now c.args.bytes.now.header c.args.bytes.now.rbsp.now _ c.requires.header c.requires.bytes c.in-Some.is c.if-header-eq-SEQUENCE_SET.false c.if-header-eq-PICTURE_SET.false in
     slice-goes-on (nal_unit_type c.args.bytes.now.header) here.0
 
+pub join_slice-requires-clause-kept : goal.join_slice-requires-clause-kept
+join_slice-requires-clause-kept g c =
+    let here = slice-here c.args.terms.mode c.args.bytes.now.unit.now c.args.bytes.now.header c.args.bytes.now.rbsp.now _ c.requires.header c.requires.bytes c.in-Some.is c.if-header-eq-SEQUENCE_SET.false c.if-header-eq-PICTURE_SET.false in
+    let mode = headers-of _ c.args.terms.mode c.args.state.now.decoder c.in-None.is c.requires.kept.keeps.decoder here.1 in
+    here-in c.args.terms.mode modes.Headers _ _ mode (slice-goes-on (nal_unit_type c.args.bytes.now.header) here.0) c.requires.kept
+
+pub join_whole_slice-requires-clause-kept : goal.join_whole_slice-requires-clause-kept
+join_whole_slice-requires-clause-kept g c =
+    let here = slice-here c.args.terms.mode c.args.bytes.now.unit.now c.args.bytes.now.header c.args.bytes.now.rbsp.now _ c.requires.header c.requires.bytes c.in-Some.is c.if-header-eq-SEQUENCE_SET.false c.if-header-eq-PICTURE_SET.false in
+    let mode = (some-made _ c.args.terms.mode c.args.state.now.decoder _ c.in-Some-decoder.is c.requires.kept.keeps.decoder).0 in
+    here-in c.args.terms.mode modes.Full _ _ mode (slice-goes-on (nal_unit_type c.args.bytes.now.header) here.0) c.requires.kept
+
 pub join_whole_slice-requires-clause-rbsp : goal.join_whole_slice-requires-clause-rbsp
 join_whole_slice-requires-clause-rbsp g c = (read-bytes _ _ _ _ c.in-Some.is c.requires.bytes).1
 
@@ -93,29 +111,32 @@ join_whole_slice-requires-clause-goes_on g c =
     let here = slice-here c.args.terms.mode c.args.bytes.now.unit.now c.args.bytes.now.header c.args.bytes.now.rbsp.now _ c.requires.header c.requires.bytes c.in-Some.is c.if-header-eq-SEQUENCE_SET.false c.if-header-eq-PICTURE_SET.false in
     slice-goes-on (nal_unit_type c.args.bytes.now.header) here.0
 
-pub returns-in-Headers-clause-joins : goal.returns-in-Headers-clause-joins
+pub returns-in-None-clause-joins : goal.returns-in-None-clause-joins
 unfolding joined_by
-returns-in-Headers-clause-joins g c = λ frames before k.
+returns-in-None-clause-joins g c = λ frames before k.
     let here = slice-here c.args.terms.mode c.args.bytes.now.unit.now c.args.bytes.now.header c.args.bytes.now.rbsp.now _ c.requires.header c.requires.bytes c.in-Some.is c.if-header-eq-SEQUENCE_SET.false c.if-header-eq-PICTURE_SET.false in
-    let kept = subst (λ m. KeepsWithin m frames before (ends_picture (nal_unit_type c.args.bytes.now.header)) c.args.state.now) c.in-Headers.is k in
-    rw (ne_eqb _ _ c.if-header-eq-SEQUENCE_SET.false, ne_eqb _ _ c.if-header-eq-PICTURE_SET.false, c.in-Headers.is, slice-other (nal_unit_type c.args.bytes.now.header) before c.args.bytes.now.unit.now here.0) (joins-here modes.Headers _ _ frames before (ends_picture (nal_unit_type c.args.bytes.now.header)) _ _ _ _ _ (slice-goes-on (nal_unit_type c.args.bytes.now.header) here.0) (c.join_slice.ensures.joins frames before kept))
+    let mode = headers-of _ c.args.terms.mode c.args.state.now.decoder c.in-None.is c.requires.kept.keeps.decoder here.1 in
+    let kept = subst (λ m. KeepsWithin m frames before (ends_picture (nal_unit_type c.args.bytes.now.header)) c.args.state.now) mode k in
+    rw (ne_eqb _ _ c.if-header-eq-SEQUENCE_SET.false, ne_eqb _ _ c.if-header-eq-PICTURE_SET.false, mode, slice-other (nal_unit_type c.args.bytes.now.header) before c.args.bytes.now.unit.now here.0) (joins-here modes.Headers _ _ frames before (ends_picture (nal_unit_type c.args.bytes.now.header)) _ _ _ _ _ (slice-goes-on (nal_unit_type c.args.bytes.now.header) here.0) (c.join_slice.ensures.joins frames before kept))
 
-pub returns-in-Headers-clause-no_memory : goal.returns-in-Headers-clause-no_memory
-returns-in-Headers-clause-no_memory g c = λ frames before k m. absurd (c.join_slice.ensures.no_memory m)
+pub returns-in-None-clause-no_memory : goal.returns-in-None-clause-no_memory
+returns-in-None-clause-no_memory g c = λ frames before k m. absurd (c.join_slice.ensures.no_memory m)
 
-pub returns-in-Full-clause-joins : goal.returns-in-Full-clause-joins
+pub returns-in-Some-decoder-clause-joins : goal.returns-in-Some-decoder-clause-joins
 unfolding joined_by
-returns-in-Full-clause-joins g c = λ frames before k.
+returns-in-Some-decoder-clause-joins g c = λ frames before k.
     let here = slice-here c.args.terms.mode c.args.bytes.now.unit.now c.args.bytes.now.header c.args.bytes.now.rbsp.now _ c.requires.header c.requires.bytes c.in-Some.is c.if-header-eq-SEQUENCE_SET.false c.if-header-eq-PICTURE_SET.false in
-    let kept = subst (λ m. KeepsWithin m frames before (ends_picture (nal_unit_type c.args.bytes.now.header)) c.args.state.now) c.in-Full.is k in
-    rw (ne_eqb _ _ c.if-header-eq-SEQUENCE_SET.false, ne_eqb _ _ c.if-header-eq-PICTURE_SET.false, c.in-Full.is, whole-other (nal_unit_type c.args.bytes.now.header) before c.args.bytes.now.unit.now here.0) (joins-here modes.Full _ _ frames before (ends_picture (nal_unit_type c.args.bytes.now.header)) _ _ _ _ _ (slice-goes-on (nal_unit_type c.args.bytes.now.header) here.0) (c.join_whole_slice.ensures.joins frames before kept))
+    let mode = (some-made _ c.args.terms.mode c.args.state.now.decoder _ c.in-Some-decoder.is c.requires.kept.keeps.decoder).0 in
+    let kept = subst (λ m. KeepsWithin m frames before (ends_picture (nal_unit_type c.args.bytes.now.header)) c.args.state.now) mode k in
+    rw (ne_eqb _ _ c.if-header-eq-SEQUENCE_SET.false, ne_eqb _ _ c.if-header-eq-PICTURE_SET.false, mode, whole-other (nal_unit_type c.args.bytes.now.header) before c.args.bytes.now.unit.now here.0) (joins-here modes.Full _ _ frames before (ends_picture (nal_unit_type c.args.bytes.now.header)) _ _ _ _ _ (slice-goes-on (nal_unit_type c.args.bytes.now.header) here.0) (c.join_whole_slice.ensures.joins frames before kept))
 
-pub returns-in-Full-clause-no_memory : goal.returns-in-Full-clause-no_memory
-returns-in-Full-clause-no_memory g c = λ frames before k m.
+pub returns-in-Some-decoder-clause-no_memory : goal.returns-in-Some-decoder-clause-no_memory
+returns-in-Some-decoder-clause-no_memory g c = λ frames before k m.
     let here = slice-here c.args.terms.mode c.args.bytes.now.unit.now c.args.bytes.now.header c.args.bytes.now.rbsp.now _ c.requires.header c.requires.bytes c.in-Some.is c.if-header-eq-SEQUENCE_SET.false c.if-header-eq-PICTURE_SET.false in
-    let kept = subst (λ q. KeepsWithin q frames before (ends_picture (nal_unit_type c.args.bytes.now.header)) c.args.state.now) c.in-Full.is k in
+    let mode = (some-made _ c.args.terms.mode c.args.state.now.decoder _ c.in-Some-decoder.is c.requires.kept.keeps.decoder).0 in
+    let kept = subst (λ q. KeepsWithin q frames before (ends_picture (nal_unit_type c.args.bytes.now.header)) c.args.state.now) mode k in
     record {
-      full = c.in-Full.is;
+      full = mode;
       slice = subst (λ (b : ℕ). is_slice (nal_unit_type b) ≡ true) c.requires.header here.0;
       begins = c.join_whole_slice.ensures.no_memory frames before kept m;
     }
