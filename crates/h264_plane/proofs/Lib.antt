@@ -5,3 +5,5 @@ pub mod Frames
 pub mod Raster
 pub mod Own
 pub mod Rows
+pub mod Lanes
+pub mod Below
