@@ -7,7 +7,7 @@ use Rattle.h264_deblock.proofs.Signed.{clip1-is}
 use Rattle.h264_deblock.specs.Line.{filtered, is_within_limits, is_flat, turned, number, clip3, delta, step, bend, reach, second, normal, by_filter, strong, strong_side, Line, Side, Limits, Filter, Off, Normal, Strong}
 use Rattle.h264_deblock.specs.Rows.{filter_by, any_filter, is_on, is_smooth, side_by, sign}
 use Rattle.h264_deblock.specs.Inner.{SameInner}
-use Rattle.h264_deblock.proofs.Lines.{filtered_is, filtered_not, filtered_off, far}
+use Rattle.h264_deblock.proofs.Lines.{filtered_is, filtered_not, filtered_off, far, within_inner}
 use Rattle.h264_deblock.proofs.Beside.{same_line}
 use Rattle.h264_deblock.proofs.Groups.{any_four, any_other}
 
@@ -95,11 +95,6 @@ normal_line : (k : Limits) (t : ℕ) (l : Line) (p1 p0 q0 q1 : ℕ) → p1 ≡ s
     (let m : Line = record { p3 = l.p3; p2 = l.p2; p1 = p1; p0 = p0; q0 = q0; q1 = q1; q2 = l.q2; q3 = l.q3 } in m) ≡ normal false k t l
 unfolding normal
 normal_line k t l p1 p0 q0 q1 a b c d = rw (a, b, c, d) refl
-
--- the samples nearest to the edge say whether a line is within the limits
-pub within_inner : (k : Limits) (l m : Line) → SameInner l m → is_within_limits k l ≡ is_within_limits k m
-unfolding is_within_limits
-within_inner k l m e = rw (e.p1, e.p0, e.q0, e.q1) refl
 
 -- a choice by a test as a number
 cond_sign : (b : Bool) (x y : ℕ) → cond (nat_lt 0 (sign b)) x y ≡ cond b x y

@@ -3,7 +3,7 @@ use Rattle.std.proofs.Common.{◌≡◌, ⊎_elim, ℕ, zero, suc, ◌+◌, ◌-
 use Rattle.std.specs.Ordering.{int_eq}
 use Rattle.std.specs.List.{list_all}
 use Rattle.std.specs.Option.{option_map}
-use Rattle.std.proofs.lemmas.Bool.{eqb-true, cases_lt}
+use Rattle.std.proofs.lemmas.Bool.{and_parts, eqb-true, cases_lt}
 use Rattle.std.proofs.lemmas.Int.{ints}
 use Rattle.std.proofs.lemmas.List.{get_or_past}
 use Rattle.std.proofs.lemmas.Bool.Decides.{nat_tests, Decides-int_eq}
@@ -155,15 +155,10 @@ strong-lines v q b e t = three v q threes threes threes (strong-line v 0 q (e �
 
 -- ---- a macroblock whose blocks nothing tells apart
 
-both : (a b : Bool) → (a && b) ≡ true → (a ≡ true) × (b ≡ true)
-both true true e = (refl, refl)
-both true false e = absurd (cc)
-both false b e = absurd (cc)
-
 at-all : {A : Type 0} (p : A → Bool) (xs : List A) (n : ℕ) (d : A) → list_all p xs ≡ true → n < length xs → p (get_or xs n d) ≡ true
 at-all p [] n d e h = absurd (omega arith)
-at-all p (x ∷ xs) zero d e h = (both (p x) (list_all p xs) e).0
-at-all p (x ∷ xs) (suc n) d e h = at-all p xs n d (both (p x) (list_all p xs) e).1 (omega arith)
+at-all p (x ∷ xs) zero d e h = (and_parts (p x) (list_all p xs) e).0
+at-all p (x ∷ xs) (suc n) d e h = at-all p xs n d (and_parts (p x) (list_all p xs) e).1 (omega arith)
 
 pub blank : (totals : List ℕ) (n : ℕ) → are_blank totals ≡ true → n < length totals → nat_lt 0 (get_or totals n 0) ≡ false
 blank totals n e h = let z : get_or totals n 0 ≡ 0 = eqb-true (get_or totals n 0) 0 (at-all (λ t. t == 0) totals n 0 e h) in rw z refl
@@ -182,10 +177,10 @@ same-moves None b f e g = refl
 same-moves (Some a) None f e g = refl
 same-moves (Some a) (Some b) None e g = absurd (cc)
 same-moves (Some a) (Some b) (Some f) e g =
-    let p = both (a.picture == f.picture && int_eq a.vector.x f.vector.x) (int_eq a.vector.y f.vector.y) e in
-    let v = both (a.picture == f.picture) (int_eq a.vector.x f.vector.x) p.0 in
-    let q = both (b.picture == f.picture && int_eq b.vector.x f.vector.x) (int_eq b.vector.y f.vector.y) g in
-    let w = both (b.picture == f.picture) (int_eq b.vector.x f.vector.x) q.0 in
+    let p = and_parts (a.picture == f.picture && int_eq a.vector.x f.vector.x) (int_eq a.vector.y f.vector.y) e in
+    let v = and_parts (a.picture == f.picture) (int_eq a.vector.x f.vector.x) p.0 in
+    let q = and_parts (b.picture == f.picture && int_eq b.vector.x f.vector.x) (int_eq b.vector.y f.vector.y) g in
+    let w = and_parts (b.picture == f.picture) (int_eq b.vector.x f.vector.x) q.0 in
     let x : a.picture ≡ f.picture = eqb-true a.picture f.picture v.0 in
     let y : b.picture ≡ f.picture = eqb-true b.picture f.picture w.0 in
     let z : (a.picture == b.picture) ≡ true = rw (x, y) (eq-eqb f.picture f.picture refl) in
@@ -207,12 +202,9 @@ same-all xs ys f i j a b = ⊎_elim
     (λ (h : length xs ≤ i). still-left (get_or xs i None) (get_or ys j None) (get_or_past xs i None h))
     (cases_lt i (length xs))
 
-same-int : (a c : ℤ) → a ≡ c → int_eq a c ≡ true
-same-int a c h = (Decides-int_eq a c).1 h
-
 pub alike-self : (m : Option Motion) → alike m m ≡ true
 alike-self None = refl
-alike-self (Some a) = rw (eq-eqb a.picture a.picture refl, same-int a.vector.x a.vector.x refl, same-int a.vector.y a.vector.y refl) refl
+alike-self (Some a) = rw (eq-eqb a.picture a.picture refl, (Decides-int_eq a.vector.x a.vector.x).1 refl, (Decides-int_eq a.vector.y a.vector.y).1 refl) refl
 
 -- one motion does not move apart
 pub none-apart : (a b : Option Motion) → a ≡ b → moves_apart a b ≡ false
@@ -247,8 +239,8 @@ right-far a b c x y = rw (x, y) refl
 -- two blocks are predicted alike
 alike-parts : (a b : Motion) → alike (Some a) (Some b) ≡ true → (a.picture ≡ b.picture) × (a.vector.x ≡ b.vector.x) × (a.vector.y ≡ b.vector.y)
 alike-parts a b e =
-    let p = both (a.picture == b.picture && int_eq a.vector.x b.vector.x) (int_eq a.vector.y b.vector.y) e in
-    let v = both (a.picture == b.picture) (int_eq a.vector.x b.vector.x) p.0 in
+    let p = and_parts (a.picture == b.picture && int_eq a.vector.x b.vector.x) (int_eq a.vector.y b.vector.y) e in
+    let v = and_parts (a.picture == b.picture) (int_eq a.vector.x b.vector.x) p.0 in
     (eqb-true a.picture b.picture v.0, (Decides-int_eq a.vector.x b.vector.x).0 v.1, (Decides-int_eq a.vector.y b.vector.y).0 p.1)
 
 left-alike : (a b c : Option Motion) → alike a b ≡ true → moves_apart a c ≡ moves_apart b c
@@ -273,7 +265,7 @@ module _ (v : Bool) (e : Edge) (c : Contexts) (p q : CodedMacroblock) (beside : 
   on-at : (u : ℕ) → u < 4 → bs ≡ strength_at v 0 p q u
   on-at u h =
       let b : number_at v 0 u < 16 = few-at v 0 u (omega arith) h in
-      let x = both (are_blank e.totals) (are_alike e.motions) steady in
+      let x = and_parts (are_blank e.totals) (are_alike e.motions) steady in
       let like = at-all (λ o. alike o (get_or e.motions 0 None)) e.motions u None x.1 (omega arith) in
       let own : alike (get_or c.motions (number_at v 0 u) None) (get_or c.motions 0 None) ≡ true = rw (even.one.each (number_at v 0 u) b) (alike-self (get_or c.motions 0 None)) in
       outer-by v u e c p q bs h beside s i j

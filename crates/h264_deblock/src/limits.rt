@@ -21,7 +21,7 @@ use std::simd::prelude::*;
 pub struct LineLimits {
     pub alpha: u8,
     pub beta: u8,
-    /// By line tC0, or 254 where bS is 4 and 255 where it is 0.
+    /// By line tC0, or `STRONG` where bS is 4, and `OFF` where it is 0.
     pub numbers: [u8; 16],
 }
 

@@ -8,10 +8,10 @@ ghost use Rattle.h264_deblock.specs.Words.{names as names_of, zeros};
 use crate::edge_parameters::BoundaryStrength;
 use h264_tables::Strength;
 
-/// bS of each quarter of an edge's lines as a number, 0 to 4: each of them is 4, or none.
+/// bS of each quarter of an edge's lines as a number, 0 to 4. Where one of them is 4, all are.
 pub(crate) type Word = [u8; 4];
 
-/// bS of blocks on the two sides of an edge where one of them is intra; inside a macroblock it is one less.
+/// bS of the edge between two macroblocks of which one is intra. Inside an intra macroblock it is 3.
 pub(crate) const FOUR: u8 = 4;
 
 /// bS by its number.

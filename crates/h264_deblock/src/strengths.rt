@@ -15,7 +15,7 @@ ghost use Rattle.h264_near.specs.declared.motion.Motion.{Motion as Motions};
 ghost use Rattle.h264_deblock.specs.Steps.{HasStillLines};
 
 use crate::joined::is_joined;
-use crate::named::Word;
+use crate::named::{FOUR, Word};
 use h264_near::block::number;
 use h264_near::{Contexts, Edge, Motion, Partition};
 
@@ -32,11 +32,14 @@ const ONE: u8 = 1;
 /// bS of blocks of which one has coefficients.
 const TWO: u8 = 2;
 
+/// bS of an edge by which no sample changes.
 pub(crate) const ZEROS: Word = [0; 4];
 
+/// bS of the inner edges of an intra macroblock.
 const THREES: Word = [3; 4];
 
-pub(crate) const FOURS: Word = [4; 4];
+/// bS of the edge between two macroblocks of which one is intra.
+pub(crate) const FOURS: Word = [FOUR; 4];
 
 /// Whether two components differ by a whole sample or more.
 #[inline(always)]

@@ -3,7 +3,8 @@ use Rattle.std.specs.Int.{abs_diff}
 use Rattle.h264_deblock.specs.Line.{Line, Limits, Strong, is_within_limits, is_flat, turned}
 use Rattle.h264_deblock.specs.Rows.{line_of, sign, side_by, is_smooth}
 use Rattle.h264_deblock.specs.Inner.{inner_of}
-use Rattle.h264_deblock.proofs.ByLane.{strong_lane, within_inner, both_lane}
+use Rattle.h264_deblock.proofs.ByLane.{strong_lane, both_lane}
+use Rattle.h264_deblock.proofs.Lines.{within_inner}
 use Rattle.h264_deblock.proofs.filtered.strong.Goals as goal
 
 pub returns : goal.returns

@@ -1,7 +1,6 @@
 use Rattle.std.proofs.Common.{subst}
 use Rattle.h264_near.specs.declared.partition.Partition.{Partition}
 use Rattle.h264_near.specs.Partition.{MovesByPartition}
-use Rattle.h264_deblock.specs.Steps.{AreJoined}
 use Rattle.h264_deblock.proofs.Partitions.{joined16x16, joined16x8-columns, joined16x8-rows, joined8x16-rows, joined8x16-columns, joined8x8, not_equal}
 use Rattle.h264_deblock.proofs.joined.is_within.Goals as goal
 

@@ -1,5 +1,5 @@
 use Rattle.std.proofs.Common.{get_or, min, ap, ◌∙◌}
-use Rattle.h264_deblock.proofs.Sixteen.{fill}
+use Rattle.h264_deblock.proofs.Masks.{fill}
 use Rattle.h264_deblock.proofs.lanes.filled.Goals as goal
 
 pub returns : goal.returns
