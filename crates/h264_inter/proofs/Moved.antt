@@ -11,7 +11,7 @@ use Rattle.h264_inter.specs.declared.window.Window.{Window}
 use Rattle.h264_inter.specs.declared.window.Windows.{Windows}
 use Rattle.std.specs.Int.{int_shr}
 use Rattle.h264_plane.specs.Clip.{clip1}
-use Rattle.h264_inter.proofs.Eight.{sums_lane}
+use Rattle.h264_inter.proofs.SixTaps.{sums_lane}
 use Rattle.h264_inter.proofs.Strips.{lower}
 
 -- one row by another place that it is counted from

@@ -1,5 +1,5 @@
 -- Samples that are those of the reference picture: the picture's own, where they lie inside it, or a copy's.
-use Rattle.std.proofs.Common.{◌≡◌, ℕ, ◌+◌, ◌-◌, ◌<◌, ◌≤◌, List, arith, refl, ap, ◌∙◌, min, ℤ, pos, ◌+ℤ◌, ◌-ℤ◌, ◌≤ℤ◌, FitsSigned, to_z, of_z, w16}
+use Rattle.std.proofs.Common.{◌≡◌, ℕ, ◌+◌, ◌-◌, ◌<◌, ◌≤◌, List, arith, refl, ap, ◌∙◌, min, ℤ, pos, ◌+ℤ◌, ◌-ℤ◌, ◌≤ℤ◌}
 use Rattle.std.proofs.lemmas.Int.{ints}
 use Rattle.h264_plane.specs.Samples.{Samples, at}
 use Rattle.h264_inter.specs.Reference.{reference, whole, parts, IsCopy, HasBlock}
@@ -24,10 +24,6 @@ inside p x y a b q r e f =
 -- places that lie inside a size
 pub span_inside : (n count size width : ℕ) (z : ℤ) → pos n ≡ z → (z +ℤ pos count) ≤ℤ pos size → size ≡ width → n + count ≤ width
 span_inside n count size width z e p q = omega (arith, ints, e, p, q)
-
--- a component of a vector is the same in 16 bits
-pub component : (z : ℤ) → FitsSigned w16 z → to_z w16 (of_z w16 z) ≡ z
-component z fits = omega (arith, ints)
 
 -- the picture's own samples
 pub picture_shows : (p : Samples) (left top : ℤ) (columns rows m n : ℕ) → m + columns ≤ p.width → n + rows ≤ p.height → pos m ≡ left → pos n ≡ top →

@@ -1,7 +1,7 @@
 -- Vectors of eight signed numbers, as a check sees them: a list of their bits, of which one lane has a known value.
-use Rattle.std.proofs.Common.{◌≡◌, ℕ, zero, suc, ◌+◌, ◌-◌, ◌*◌, ◌%◌, ◌^◌, ◌<◌, ◌≤◌, Bool, false, true, cond, ◌++◌, ◌∷◌, [], List, map, map-id, length, get_or, replicate, refl, sym, ap, ◌∙◌, arith, ltb, T, nat_abs, unsigned_abs, w8, w16, w32, ℤ, pos, negsuc, ◌+ℤ◌, ◌-ℤ◌, ◌*ℤ◌, to_z, of_z, FitsSigned, inl, inr}
+use Rattle.std.proofs.Common.{◌≡◌, ℕ, ◌+◌, ◌-◌, ◌*◌, ◌%◌, ◌^◌, ◌<◌, ◌≤◌, Bool, false, true, cond, ◌++◌, ◌∷◌, [], List, map, map-id, length, get_or, replicate, refl, sym, ap, ◌∙◌, arith, ltb, T, nat_abs, unsigned_abs, w8, w16, w32, ℤ, pos, negsuc, ◌+ℤ◌, ◌-ℤ◌, ◌*ℤ◌, to_z, of_z, FitsSigned, inl, inr}
 use Rattle.std.proofs.Math.Facts.{sfits_widen}
-use Rattle.std.proofs.lemmas.Simd.{get_or-zip2, get_or-replicate, length-zip2, tops_compared, get_or-sel_l, length-sel_l, pick_l_left}
+use Rattle.std.proofs.lemmas.Simd.{get_or-zip2, get_or-replicate, length-zip2, tops_compared, get_or-sel_l, length-sel_l, pick_l_left, Each1-from_get_or}
 use Rattle.std.proofs.lemmas.Grind.{common_steps}
 use Rattle.std.proofs.lemmas.Int.{ints, to_z-of_z, of_z-to_z, wrapping_add_is, wrapping_sub_is, wrapping_mul_is, int_wrap_fits, fits_signed_from_abs, unsigned_abs-mul}
 use Rattle.std.proofs.Math.Nat.{mod-lt}
@@ -13,6 +13,8 @@ use lib.Signed.{lt_z, shr_z, non_neg}
 use mir.Syntax.{Width}
 use mir.Val.{bits, hbits, Fits}
 use Rattle.h264_plane.specs.Clip.{clip1}
+use Rattle.h264_plane.proofs.Below.{below_8}
+use Rattle.h264_plane.proofs.Lanes.{swizzled}
 
 -- lane k of a vector of eight has the value z
 pub record Lane (w : Width) (xs : List ℕ) (k : ℕ) (z : ℤ) : Type 0 where
@@ -141,15 +143,11 @@ weight_handed a i z h p s =
 
 -- ---- lists of lanes
 
-each_of : (P : ℕ → Type 0) (xs : List ℕ) → ((k : ℕ) → k < length xs → P (get_or xs k 0)) → Each1 P xs
-each_of P [] h = tt
-each_of P (x ∷ xs) h = (h 0 (omega arith), each_of P xs (λ k p. h (suc k) (omega (arith, p))))
-
 pub all_fit : (w y : Width) (xs : List ℕ) (f : ℕ → ℤ) → length xs ≡ 8 → ((k : ℕ) → k < 8 → Lane w xs k (f k)) → ((k : ℕ) → k < 8 → FitsSigned y (f k)) → Each1 (λ m. FitsSigned y (to_z w m)) xs
-all_fit w y xs f e h g = each_of (λ m. FitsSigned y (to_z w m)) xs (λ k p. (let q : k < 8 = omega (arith, p, e) in rw ((h k q).read) (g k q)))
+all_fit w y xs f e h g = Each1-from_get_or (λ m. FitsSigned y (to_z w m)) xs 0 (λ k p. (let q : k < 8 = omega (arith, p, e) in rw ((h k q).read) (g k q)))
 
 pub all_natural : (xs : List ℕ) (f : ℕ → ℕ) → length xs ≡ 8 → ((k : ℕ) → k < 8 → Lane w16 xs k (pos (f k))) → Each1 (λ m. T (non_neg (to_z w16 m)) × Fits w16 (nat_abs (to_z w16 m))) xs
-all_natural xs f e h = each_of (λ m. T (non_neg (to_z w16 m)) × Fits w16 (nat_abs (to_z w16 m))) xs (λ k p.
+all_natural xs f e h = Each1-from_get_or (λ m. T (non_neg (to_z w16 m)) × Fits w16 (nat_abs (to_z w16 m))) xs 0 (λ k p.
     (let q : k < 8 = omega (arith, p, e) in let l = h k q in let s = l.fits.sfits in rw (l.read) (tt, record { fits = omega (arith, s) })))
 
 -- ---- limits that change nothing, and those of a sample
@@ -203,33 +201,35 @@ picked_lane a ks k e t p q f =
     ∙ ap (to_z w8) (get_or-map (λ j. get_or c j 0) ks k 0 0 p ∙ get_or-map (of_z w8) a (get_or ks k 0) (pos 0) 0 (omega (arith, e)))
     ∙ to_z-of_z w8 _ f
 
-even_place : (k : ℕ) → k < 8 → get_or (0 ∷ 2 ∷ 4 ∷ 6 ∷ 8 ∷ 10 ∷ 12 ∷ 14 ∷ []) k 0 ≡ 2 * k
+abbrev even_places : List ℕ
+even_places = 0 ∷ 2 ∷ 4 ∷ 6 ∷ 8 ∷ 10 ∷ 12 ∷ 14 ∷ []
+
+abbrev odd_places : List ℕ
+odd_places = 1 ∷ 3 ∷ 5 ∷ 7 ∷ 9 ∷ 11 ∷ 13 ∷ 15 ∷ []
+
+even_place : (k : ℕ) → k < 8 → get_or even_places k 0 ≡ 2 * k
 even_place k p = grind (arith, common_steps)
 
-odd_place : (k : ℕ) → k < 8 → get_or (1 ∷ 3 ∷ 5 ∷ 7 ∷ 9 ∷ 11 ∷ 13 ∷ 15 ∷ []) k 0 ≡ 2 * k + 1
+odd_place : (k : ℕ) → k < 8 → get_or odd_places k 0 ≡ 2 * k + 1
 odd_place k p = grind (arith, common_steps)
 
-pub even_byte : (v : List ℕ) (k : ℕ) → length v ≡ 16 → k < 8 → get_or (pick_l 0 (v ++ v) (0 ∷ 2 ∷ 4 ∷ 6 ∷ 8 ∷ 10 ∷ 12 ∷ 14 ∷ [])) k 0 ≡ get_or v (2 * k) 0
-even_byte v k e p =
-    let ks = 0 ∷ 2 ∷ 4 ∷ 6 ∷ 8 ∷ 10 ∷ 12 ∷ 14 ∷ [] in
-    ap (λ (l : List ℕ). get_or l k 0) (pick_l_left 0 v v 16 ks e tt) ∙ get_or-map (λ j. get_or v j 0) ks k 0 0 p ∙ ap (λ j. get_or v j 0) (even_place k p)
+pub even_byte : (v : List ℕ) (k : ℕ) → length v ≡ 16 → k < 8 → get_or (pick_l 0 (v ++ v) even_places) k 0 ≡ get_or v (2 * k) 0
+even_byte v k e p = swizzled 16 v even_places k (2 * k) e tt p (even_place k p)
 
-pub odd_byte : (v : List ℕ) (k : ℕ) → length v ≡ 16 → k < 8 → get_or (pick_l 0 (v ++ v) (1 ∷ 3 ∷ 5 ∷ 7 ∷ 9 ∷ 11 ∷ 13 ∷ 15 ∷ [])) k 0 ≡ get_or v (2 * k + 1) 0
-odd_byte v k e p =
-    let ks = 1 ∷ 3 ∷ 5 ∷ 7 ∷ 9 ∷ 11 ∷ 13 ∷ 15 ∷ [] in
-    ap (λ (l : List ℕ). get_or l k 0) (pick_l_left 0 v v 16 ks e tt) ∙ get_or-map (λ j. get_or v j 0) ks k 0 0 p ∙ ap (λ j. get_or v j 0) (odd_place k p)
+pub odd_byte : (v : List ℕ) (k : ℕ) → length v ≡ 16 → k < 8 → get_or (pick_l 0 (v ++ v) odd_places) k 0 ≡ get_or v (2 * k + 1) 0
+odd_byte v k e p = swizzled 16 v odd_places k (2 * k + 1) e tt p (odd_place k p)
 
 pub even_lane : (a : List ℤ) (k : ℕ) → length a ≡ 16 → k < 8 → FitsSigned w8 (get_or a (2 * k) (pos 0)) →
-    get_or (map (to_z w8) (pick_l 0 (map (of_z w8) a ++ map (of_z w8) a) (0 ∷ 2 ∷ 4 ∷ 6 ∷ 8 ∷ 10 ∷ 12 ∷ 14 ∷ []))) k (pos 0) ≡ get_or a (2 * k) (pos 0)
+    get_or (map (to_z w8) (pick_l 0 (map (of_z w8) a ++ map (of_z w8) a) even_places)) k (pos 0) ≡ get_or a (2 * k) (pos 0)
 even_lane a k e p f =
     let place = even_place k p in
-    picked_lane a (0 ∷ 2 ∷ 4 ∷ 6 ∷ 8 ∷ 10 ∷ 12 ∷ 14 ∷ []) k e tt p (omega (arith, place, p)) (rw place f) ∙ ap (λ j. get_or a j (pos 0)) place
+    picked_lane a even_places k e tt p (omega (arith, place, p)) (rw place f) ∙ ap (λ j. get_or a j (pos 0)) place
 
 pub odd_lane : (a : List ℤ) (k : ℕ) → length a ≡ 16 → k < 8 → FitsSigned w8 (get_or a (2 * k + 1) (pos 0)) →
-    get_or (map (to_z w8) (pick_l 0 (map (of_z w8) a ++ map (of_z w8) a) (1 ∷ 3 ∷ 5 ∷ 7 ∷ 9 ∷ 11 ∷ 13 ∷ 15 ∷ []))) k (pos 0) ≡ get_or a (2 * k + 1) (pos 0)
+    get_or (map (to_z w8) (pick_l 0 (map (of_z w8) a ++ map (of_z w8) a) odd_places)) k (pos 0) ≡ get_or a (2 * k + 1) (pos 0)
 odd_lane a k e p f =
     let place = odd_place k p in
-    picked_lane a (1 ∷ 3 ∷ 5 ∷ 7 ∷ 9 ∷ 11 ∷ 13 ∷ 15 ∷ []) k e tt p (omega (arith, place, p)) (rw place f) ∙ ap (λ j. get_or a j (pos 0)) place
+    picked_lane a odd_places k e tt p (omega (arith, place, p)) (rw place f) ∙ ap (λ j. get_or a j (pos 0)) place
 
 -- ---- sums of two products
 
@@ -355,21 +355,10 @@ apart_lane a b c k ea eb ec p x y z =
 
 -- ---- eight pairs
 
-pub by_eight : (P : ℕ → Type 0) → P 0 → P 1 → P 2 → P 3 → P 4 → P 5 → P 6 → P 7 → (k : ℕ) → k < 8 → P k
-by_eight P a b c d e f g h zero p = a
-by_eight P a b c d e f g h (suc zero) p = b
-by_eight P a b c d e f g h (suc (suc zero)) p = c
-by_eight P a b c d e f g h (suc (suc (suc zero))) p = d
-by_eight P a b c d e f g h (suc (suc (suc (suc zero)))) p = e
-by_eight P a b c d e f g h (suc (suc (suc (suc (suc zero))))) p = f
-by_eight P a b c d e f g h (suc (suc (suc (suc (suc (suc zero)))))) p = g
-by_eight P a b c d e f g h (suc (suc (suc (suc (suc (suc (suc zero))))))) p = h
-by_eight P a b c d e f g h (suc (suc (suc (suc (suc (suc (suc (suc k)))))))) p = absurd (let n : ⊥ = omega arith in n)
-
 -- a list of one pair eight times
 abbrev pub eight_pairs : ℤ → ℤ → List ℤ
 eight_pairs y z = y ∷ z ∷ y ∷ z ∷ y ∷ z ∷ y ∷ z ∷ y ∷ z ∷ y ∷ z ∷ y ∷ z ∷ y ∷ z ∷ []
 
 pub pair_of_eight : (y z : ℤ) (k : ℕ) → k < 8 → (get_or (eight_pairs y z) (2 * k) (pos 0) ≡ y) × (get_or (eight_pairs y z) (2 * k + 1) (pos 0) ≡ z)
-pair_of_eight y z = by_eight (λ k. (get_or (eight_pairs y z) (2 * k) (pos 0) ≡ y) × (get_or (eight_pairs y z) (2 * k + 1) (pos 0) ≡ z))
+pair_of_eight y z = below_8 (λ k. (get_or (eight_pairs y z) (2 * k) (pos 0) ≡ y) × (get_or (eight_pairs y z) (2 * k + 1) (pos 0) ≡ z))
     (refl, refl) (refl, refl) (refl, refl) (refl, refl) (refl, refl) (refl, refl) (refl, refl) (refl, refl)

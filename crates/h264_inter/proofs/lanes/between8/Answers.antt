@@ -2,7 +2,7 @@ use Rattle.std.proofs.Common.{◌≡◌, ◌+◌, ◌*◌, get_or, replicate, ap
 use Rattle.std.proofs.lemmas.Simd.{get_or-replicate}
 use Rattle.std.specs.Int.{int_shr}
 use Rattle.h264_plane.specs.Clip.{clip1}
-use Rattle.h264_inter.proofs.Eight.{between_lane}
+use Rattle.h264_inter.proofs.SixTaps.{between_lane}
 use Rattle.h264_inter.proofs.lanes.between8.Goals as goal
 
 pub returns-clause-each : goal.returns-clause-each

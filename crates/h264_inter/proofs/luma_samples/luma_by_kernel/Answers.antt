@@ -1,7 +1,7 @@
-use Rattle.std.proofs.Common.{◌≡◌, refl, arith, ◌∙◌, ap, rules}
-use Rattle.std.proofs.lemmas.Int.{ints}
+use Rattle.std.proofs.Common.{◌≡◌, refl, arith, ◌∙◌, ap, rules, w16}
+use Rattle.std.proofs.lemmas.Int.{ints, to_z-of_z}
 use Rattle.h264_inter.specs.Reference.{whole, parts}
-use Rattle.h264_inter.proofs.Shown.{component, luma_is, picture_shows, span_inside}
+use Rattle.h264_inter.proofs.Shown.{luma_is, picture_shows, span_inside}
 use Rattle.h264_inter.proofs.luma_samples.luma_by_kernel.Goals as goal
 
 pub natural-requires : goal.natural-requires
@@ -28,8 +28,8 @@ place-requires-clause-rows g c = rw c.of-lines.ensures (omega (arith, span_insid
 pub returns-then-is_inside-2 : goal.returns-then-is_inside-2
 returns-then-is_inside-2 g c =
     let a = c.args in
-    let mx = component a.vector.x (search rules) in
-    let my = component a.vector.y (search rules) in
+    let mx = to_z-of_z w16 a.vector.x (search rules) in
+    let my = to_z-of_z w16 a.vector.y (search rules) in
     let across : c.whole_luma.result ≡ whole 2 a.vector.x = c.whole_luma.ensures.value ∙ ap (whole 2) mx in
     let down : c.whole_luma-2.result ≡ whole 2 a.vector.y = c.whole_luma-2.ensures.value ∙ ap (whole 2) my in
     luma_is a.reference.now a.reference.now a.vector g.row.W g.row.H a.x a.y c.natural.result c.natural-then-is_inside-2.result _ _ _
