@@ -1,5 +1,5 @@
 -- Matrices by their rows, and by their entries.
-use Rattle.std.proofs.Common.{add-one, ◌≡◌, ◌↔◌, ◌+◌, ◌*◌, ℤ, ℕ, zero, suc, ◌<◌, refl, sym, ap, ◌∙◌, arith, pos, ◌*ℤ◌, true, false, List, ◌∷◌, length, drop, get_or, Result, Ok, Err, MatchResult, IfOk, IsOk, IsTrue}
+use Rattle.std.proofs.Common.{add-one, ◌≡◌, ◌↔◌, ◌+◌, ◌*◌, ℤ, ℕ, ◌<◌, refl, sym, ap, ◌∙◌, arith, pos, ◌*ℤ◌, true, false, List, ◌∷◌, length, drop, get_or, Result, Ok, Err, MatchResult, IfOk, IsOk, IsTrue}
 use Rattle.std.proofs.lemmas.Int.{ints}
 use Rattle.std.proofs.lemmas.Grind.{elements}
 use Rattle.std.proofs.lemmas.List.{get_or-take, get_or-drop}
@@ -11,10 +11,8 @@ use Rattle.h264_scale.specs.declared.fours.Four.{Four}
 use Rattle.h264_scale.specs.declared.fours.Block.{Block}
 use Rattle.h264_scale.specs.declared.transform.TransformRange.{TransformRange}
 use Rattle.h264_scale.proofs.Scaled.{scaled_is}
-use Rattle.h264_scale.proofs.Within.{four_of}
-
-abbrev pub rows : Four → Four → Four → Four → Block
-rows a b c d = record { r0 = a; r1 = b; r2 = c; r3 = d }
+use Rattle.h264_plane.proofs.Below.{below_4}
+use Rattle.h264_scale.proofs.Within.{four_of, rows}
 
 pub rows_of_block : {a b c d a' b' c' d' : Four} → a ≡ a' → b ≡ b' → c ≡ c' → d ≡ d' → rows a b c d ≡ rows a' b' c' d'
 rows_of_block p q r s = rw (p, q, r, s) refl
@@ -30,14 +28,6 @@ pub block_fits_is : (m : ℕ → ℕ → ℤ) → block_fits (block_of m) ≡ al
 unfolding block_fits four_fits
 block_fits_is m = refl
 
--- what holds at 0, 1, 2 and 3
-pub by_four : (P : ℕ → Type 0) → P 0 → P 1 → P 2 → P 3 → (i : ℕ) → i < 4 → P i
-by_four P a b c d zero p = a
-by_four P a b c d (suc zero) p = b
-by_four P a b c d (suc (suc zero)) p = c
-by_four P a b c d (suc (suc (suc zero))) p = d
-by_four P a b c d (suc (suc (suc (suc i)))) p = absurd (let f : ⊥ = omega arith in f)
-
 -- the range, by matrices and by entries
 pub plain_fits : (m : ℕ → ℕ → ℤ) → block_residual_fits (block_of m) ≡ residual_fits m
 unfolding block_residual_fits residual_fits block_fits four_fits block_fits_last four_fits_last
@@ -49,11 +39,11 @@ unfolding block_residual residual_at
 plain_entries m =
     let r = block_residual (block_of m) in
     record {
-      each = λ i j p q. by_four (λ k. get_or r (4 * k + j) (pos 0) ≡ residual_at m k j)
-          (by_four (λ k. get_or r (4 * 0 + k) (pos 0) ≡ residual_at m 0 k) refl refl refl refl j q)
-          (by_four (λ k. get_or r (4 * 1 + k) (pos 0) ≡ residual_at m 1 k) refl refl refl refl j q)
-          (by_four (λ k. get_or r (4 * 2 + k) (pos 0) ≡ residual_at m 2 k) refl refl refl refl j q)
-          (by_four (λ k. get_or r (4 * 3 + k) (pos 0) ≡ residual_at m 3 k) refl refl refl refl j q)
+      each = λ i j p q. below_4 (λ k. get_or r (4 * k + j) (pos 0) ≡ residual_at m k j)
+          (below_4 (λ k. get_or r (4 * 0 + k) (pos 0) ≡ residual_at m 0 k) refl refl refl refl j q)
+          (below_4 (λ k. get_or r (4 * 1 + k) (pos 0) ≡ residual_at m 1 k) refl refl refl refl j q)
+          (below_4 (λ k. get_or r (4 * 2 + k) (pos 0) ≡ residual_at m 2 k) refl refl refl refl j q)
+          (below_4 (λ k. get_or r (4 * 3 + k) (pos 0) ≡ residual_at m 3 k) refl refl refl refl j q)
           i p;
     }
 

@@ -1,4 +1,4 @@
-use Rattle.std.proofs.Common.{◌≡◌, ◌↔◌, ◌+◌, ◌*◌, ◌/◌, ◌%◌, ◌^◌, ℤ, ℕ, zero, suc, ◌<◌, refl, sym, ap, ◌∙◌, arith, pos, negsuc, neg_ℤ, ◌*ℤ◌, ◌+ℤ◌, ◌-ℤ◌, true, false, List, [], get_or, Result, Ok, Err, MatchResult, IfOk, IsOk, IsTrue}
+use Rattle.std.proofs.Common.{◌≡◌, ◌↔◌, ◌+◌, ◌*◌, ◌/◌, ◌%◌, ◌^◌, ℤ, ℕ, refl, sym, ap, ◌∙◌, arith, pos, negsuc, neg_ℤ, ◌*ℤ◌, ◌+ℤ◌, ◌-ℤ◌, true, false, List, [], get_or, Result, Ok, Err, MatchResult, IfOk, IsOk, IsTrue}
 use Rattle.std.proofs.lemmas.Int.{ints}
 use Rattle.std.proofs.lemmas.Bool.{false≢true}
 use Rattle.std.specs.Int.{int_shr}
@@ -7,6 +7,7 @@ use Rattle.h264_scale.specs.Dc.{hadamard2, product2, chroma_coefficient, f2_of, 
 use Rattle.h264_scale.specs.Fours.{four_fits, matrix_four, corners, dc2_scaled, dc2_four, four_dc_fits, four_dc, row_then, factor_at}
 use Rattle.h264_scale.specs.declared.fours.Four.{Four}
 use Rattle.h264_scale.specs.declared.transform.TransformRange.{TransformRange}
+use Rattle.h264_plane.proofs.Below.{below_2}
 use Rattle.h264_scale.proofs.Scaled.{times_times}
 use Rattle.h264_scale.proofs.Products.{one_times, less_times, times_one, times_less, shr_multiple, and_is}
 use Rattle.h264_scale.proofs.Within.{four_of}
@@ -63,18 +64,13 @@ dc2_fits_is levels qp =
     and_is (ap four_fits (corners_are (chroma_coefficient levels)) ∙ four_fits_is (f2_of levels))
     (ap four_fits (scaled_four_at levels qp) ∙ four_fits_is (dc2_at levels qp))
 
-by_two : (P : ℕ → Type 0) → P 0 → P 1 → (i : ℕ) → i < 2 → P i
-by_two P a b zero p = a
-by_two P a b (suc zero) p = b
-by_two P a b (suc (suc i)) p = absurd (let f : ⊥ = omega arith in f)
-
 four_entries : (m : ℕ → ℕ → ℤ) → HasEntries2 (row_then (matrix_four m) []) m
 four_entries m =
     let r = row_then (matrix_four m) [] in
     record {
-      each = λ i j p q. by_two (λ k. get_or r (2 * k + j) (pos 0) ≡ m k j)
-          (by_two (λ k. get_or r (2 * 0 + k) (pos 0) ≡ m 0 k) refl refl j q)
-          (by_two (λ k. get_or r (2 * 1 + k) (pos 0) ≡ m 1 k) refl refl j q)
+      each = λ i j p q. below_2 (λ k. get_or r (2 * k + j) (pos 0) ≡ m k j)
+          (below_2 (λ k. get_or r (2 * 0 + k) (pos 0) ≡ m 0 k) refl refl j q)
+          (below_2 (λ k. get_or r (2 * 1 + k) (pos 0) ≡ m 1 k) refl refl j q)
           i p;
     }
 

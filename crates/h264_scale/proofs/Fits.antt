@@ -9,7 +9,7 @@ fits16_in : (z : ℤ) → fits16 z ≡ true → IsShort z
 unfolding fits16
 fits16_in z e = record { low = grind (arith, ints); high = grind (arith, ints) }
 
-fits_last_in : (z : ℤ) → fits_last z ≡ true → IsShort z
+pub fits_last_in : (z : ℤ) → fits_last z ≡ true → IsShort z
 unfolding fits_last
 fits_last_in z e = record { low = grind (arith, ints); high = grind (arith, ints) }
 

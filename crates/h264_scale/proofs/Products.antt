@@ -9,8 +9,9 @@ use Rattle.h264_scale.specs.Dc.{hadamard, product4, f16_of, scaled_dc16, dc16_at
 use Rattle.h264_scale.specs.Fours.{four, block_of, block_fits, transposed, summed, hadamard_block, dc_scaled, dc_block, rows_of, block_dc_fits, block_dc, factor_at}
 use Rattle.h264_scale.specs.declared.fours.Block.{Block}
 use Rattle.h264_scale.specs.declared.transform.TransformRange.{TransformRange}
+use Rattle.h264_plane.proofs.Below.{below_4}
 use Rattle.h264_scale.proofs.Scaled.{times_times, shr_times}
-use Rattle.h264_scale.proofs.Blocks.{rows_of_block, block_is, by_four, block_fits_is}
+use Rattle.h264_scale.proofs.Blocks.{rows_of_block, block_is, block_fits_is}
 use Rattle.h264_scale.proofs.Within.{four_of}
 
 -- ---- the sums are the product of matrices
@@ -160,11 +161,11 @@ rows_entries : (m : ℕ → ℕ → ℤ) → HasEntries (rows_of (block_of m)) m
 rows_entries m =
     let r = rows_of (block_of m) in
     record {
-      each = λ i j p q. by_four (λ k. get_or r (4 * k + j) (pos 0) ≡ m k j)
-          (by_four (λ k. get_or r (4 * 0 + k) (pos 0) ≡ m 0 k) refl refl refl refl j q)
-          (by_four (λ k. get_or r (4 * 1 + k) (pos 0) ≡ m 1 k) refl refl refl refl j q)
-          (by_four (λ k. get_or r (4 * 2 + k) (pos 0) ≡ m 2 k) refl refl refl refl j q)
-          (by_four (λ k. get_or r (4 * 3 + k) (pos 0) ≡ m 3 k) refl refl refl refl j q)
+      each = λ i j p q. below_4 (λ k. get_or r (4 * k + j) (pos 0) ≡ m k j)
+          (below_4 (λ k. get_or r (4 * 0 + k) (pos 0) ≡ m 0 k) refl refl refl refl j q)
+          (below_4 (λ k. get_or r (4 * 1 + k) (pos 0) ≡ m 1 k) refl refl refl refl j q)
+          (below_4 (λ k. get_or r (4 * 2 + k) (pos 0) ≡ m 2 k) refl refl refl refl j q)
+          (below_4 (λ k. get_or r (4 * 3 + k) (pos 0) ≡ m 3 k) refl refl refl refl j q)
           i p;
     }
 

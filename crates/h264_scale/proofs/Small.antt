@@ -6,8 +6,8 @@ use Rattle.h264_scale.specs.Residual.{IsIn, fits_last}
 use Rattle.h264_scale.specs.Fours.{IsWithin, AreWithin, four_size, size, IsSmall, IsShort, IsShortFour, IsShortBlock, block_fits, four_fits_last, block_fits_last, half, halves, joined, transposed, block_e, block_f, block_residual_fits, block_residual, rounded, rounded_block, dc_only, four}
 use Rattle.h264_scale.specs.declared.fours.Four.{Four}
 use Rattle.h264_scale.specs.declared.fours.Block.{Block}
-use Rattle.h264_scale.proofs.Fits.{four_true, short_block_fits}
-use Rattle.h264_scale.proofs.Within.{in_sum, in_difference, in_half, in_more, within_more, within_half, within_plus, within_minus}
+use Rattle.h264_scale.proofs.Fits.{fits_last_in, four_true, short_block_fits, transposed_in}
+use Rattle.h264_scale.proofs.Within.{in_sum, in_difference, in_half, in_more, rows, within_more, within_half, within_plus, within_minus}
 
 -- ---- bounds
 
@@ -128,14 +128,6 @@ pub record AreSteps (d : Block) : Type 0 where
   pub h_in : AreWithin 32735 (joined (halves (block_f (block_e d))))
   pub last : block_fits_last (joined (halves (block_f (block_e d)))) ≡ true
 
-pub turned_short : (m : Block) → IsShortBlock m → IsShortBlock (transposed m)
-turned_short m h = record {
-  r0 = record { a = h.r0.a; b = h.r1.a; c = h.r2.a; d = h.r3.a };
-  r1 = record { a = h.r0.b; b = h.r1.b; c = h.r2.b; d = h.r3.b };
-  r2 = record { a = h.r0.c; b = h.r1.c; c = h.r2.c; d = h.r3.c };
-  r3 = record { a = h.r0.d; b = h.r1.d; c = h.r2.d; d = h.r3.d };
-}
-
 pub small_steps : (d : Block) → IsSmall d → AreSteps d
 small_steps d small =
     let n : ℕ = 32735 in
@@ -148,9 +140,9 @@ small_steps d small =
     let h = joined_in _ _ n (halves f) (omega arith) g in
     let short = λ (m : Block) (p : AreWithin 32735 m). short_block 32735 m (omega arith) p in
     record {
-      turned = turned_short d (short d own);
-      halves_short = turned_short (block_e d) (short (block_e d) e_in_rows);
-      joined_short = turned_short f (short f f_in_rows);
+      turned = transposed_in d (short d own);
+      halves_short = transposed_in (block_e d) (short (block_e d) e_in_rows);
+      joined_short = transposed_in f (short f f_in_rows);
       d_short = short d own;
       e_short = short (block_e d) e_in_rows;
       f_short = short f f_in_rows;
@@ -180,9 +172,6 @@ none = four (pos 0) (pos 0) (pos 0) (pos 0)
 abbrev row : ℤ → Four
 row z = four z z z z
 
-abbrev rows : Four → Four → Four → Four → Block
-rows a b c d = record { r0 = a; r1 = b; r2 = c; r3 = d }
-
 flat_e : (z : ℤ) → block_e (dc_only z) ≡ rows (four z z (pos 0) (pos 0)) none none none
 flat_e z = simp plus_none refl
 
@@ -205,10 +194,6 @@ none_short = record { a = zero_short; b = zero_short; c = zero_short; d = zero_s
 row_short : (z : ℤ) → IsShort z → IsShortFour (row z)
 row_short z h = record { a = h; b = h; c = h; d = h }
 
-pub last_short : (z : ℤ) → fits_last z ≡ true → IsShort z
-unfolding fits_last
-last_short z e = record { low = grind (arith, ints); high = grind (arith, ints) }
-
 rows_last : (z : ℤ) → fits_last z ≡ true → block_fits_last (rows (row z) (row z) (row z) (row z)) ≡ true
 unfolding block_fits_last four_fits_last
 rows_last z e = let each = four_true _ _ _ _ e e e e in four_true _ _ _ _ each each each each
@@ -216,7 +201,7 @@ rows_last z e = let each = four_true _ _ _ _ e e e e in four_true _ _ _ _ each e
 pub flat_fits : (z : ℤ) → fits_last z ≡ true → block_residual_fits (dc_only z) ≡ true
 unfolding block_residual_fits
 flat_fits z e =
-    let h = last_short z e in
+    let h = fits_last_in z e in
     let first : IsShortFour (four z (pos 0) (pos 0) (pos 0)) = record { a = h; b = zero_short; c = zero_short; d = zero_short } in
     let second : IsShortFour (four z z (pos 0) (pos 0)) = record { a = h; b = h; c = zero_short; d = zero_short } in
     five_true (block_fits (dc_only z)) (block_fits (block_e (dc_only z))) (block_fits (block_f (block_e (dc_only z)))) (block_fits (halves (block_f (block_e (dc_only z)))))

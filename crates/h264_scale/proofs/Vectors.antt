@@ -13,7 +13,7 @@ use Rattle.h264_scale.proofs.Within.{half_low, half_high, in_more}
 use Rattle.h264_scale.specs.declared.fours.Four.{Four}
 use Rattle.h264_scale.specs.declared.fours.Block.{Block}
 use Rattle.h264_scale.proofs.Rounded.{cons_is, all_cons, all_none}
-use Rattle.h264_scale.proofs.Blocks.{by_four}
+use Rattle.h264_plane.proofs.Below.{below_4}
 use Rattle.h264_scale.proofs.Small.{in_own}
 use Rattle.std.proofs.lemmas.Bool.{cases_lt}
 
@@ -121,11 +121,11 @@ by_place_same f g h =
     cons_is (at 1 3 (omega arith) (omega arith)) (cons_is (at 2 3 (omega arith) (omega arith)) (cons_is (at 3 2 (omega arith) (omega arith)) (cons_is (at 3 3 (omega arith) (omega arith)) refl)))))))))))))))
 
 short_entry : (m : ℕ → ℕ → ℤ) → IsShortBlock (block_of m) → (i j : ℕ) → i < 4 → j < 4 → IsShort (m i j)
-short_entry m h i j p q = by_four (λ k. IsShort (m k j))
-    (by_four (λ k. IsShort (m 0 k)) h.r0.a h.r0.b h.r0.c h.r0.d j q)
-    (by_four (λ k. IsShort (m 1 k)) h.r1.a h.r1.b h.r1.c h.r1.d j q)
-    (by_four (λ k. IsShort (m 2 k)) h.r2.a h.r2.b h.r2.c h.r2.d j q)
-    (by_four (λ k. IsShort (m 3 k)) h.r3.a h.r3.b h.r3.c h.r3.d j q) i p
+short_entry m h i j p q = below_4 (λ k. IsShort (m k j))
+    (below_4 (λ k. IsShort (m 0 k)) h.r0.a h.r0.b h.r0.c h.r0.d j q)
+    (below_4 (λ k. IsShort (m 1 k)) h.r1.a h.r1.b h.r1.c h.r1.d j q)
+    (below_4 (λ k. IsShort (m 2 k)) h.r2.a h.r2.b h.r2.c h.r2.d j q)
+    (below_4 (λ k. IsShort (m 3 k)) h.r3.a h.r3.b h.r3.c h.r3.d j q) i p
 
 pub passed_places : (m : ℕ → ℕ → ℤ) (l : List ℤ) → l ≡ by_place m → IsShortBlock (block_of m) → map (to_z w16) (map (of_z w16) l) ≡ by_place m
 passed_places m l p h = rw p (by_place_same (λ i j. to_z w16 (of_z w16 (m i j))) m (λ i j d e. kept (m i j) (short_entry m h i j d e)))

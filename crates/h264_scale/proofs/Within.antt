@@ -43,6 +43,9 @@ within_half n v p = record { a = in_half n v.a p.a; b = in_half n v.b p.b; c = i
 pub four_of : {a b c d a' b' c' d' : ℤ} → a ≡ a' → b ≡ b' → c ≡ c' → d ≡ d' → four a b c d ≡ four a' b' c' d'
 four_of p q r s = rw (p, q, r, s) refl
 
+abbrev pub rows : Four → Four → Four → Four → Block
+rows a b c d = record { r0 = a; r1 = b; r2 = c; r3 = d }
+
 -- two rows with the same parts are one
 pub four_is : (v w : Four) → v.a ≡ w.a → v.b ≡ w.b → v.c ≡ w.c → v.d ≡ w.d → v ≡ w
 four_is v w p q r s = four_of p q r s

@@ -23,7 +23,7 @@ pub struct Block {
     pub r3: Four,
 }
 
-/// Whether a number lies in the range of the transform.
+/// Whether a number lies in the range of the transform: -2 ^ 15 to 2 ^ 15 - 1 (8.5.12.2).
 #[tactic(auto, unfolding(crate::specs::Residual::fits16))]
 #[inline(always)]
 pub fn fits16(x: i32) -> bool
@@ -32,7 +32,7 @@ pub fn fits16(x: i32) -> bool
     -32768 <= x && x <= 32767
 }
 
-/// Whether a number lies in the range of the last values.
+/// Whether a number lies in the range of the last values, to which 32 is added: -2 ^ 15 to 2 ^ 15 - 33 (8.5.12.2).
 #[tactic(auto, unfolding(crate::specs::Residual::fits_last))]
 #[inline(always)]
 pub fn fits_last(x: i32) -> bool

@@ -90,7 +90,7 @@ fn rounded_rows(m: Rows) -> [i16; 16]
     ((all + i16x16::splat(32)) >> i16x16::splat(6)).to_array()
 }
 
-/// Whether the entries are so small that no later value leaves its range: each later value is at most their sum without signs.
+/// Whether the entries are so small that no later value leaves its range: each later value is at most their sum without signs, and a last one may be 32735.
 #[inline(always)]
 fn are_small(d: &[i32; 16]) -> bool
     ensures { IsTrue result ↔ (size_below 16 d.now ≤ 32735) }
@@ -218,7 +218,7 @@ pub fn small_residual(levels: &[i16; 16], qp: u8) -> Option<[i16; 16]>
     Some(transform(columns))
 }
 
-/// That of a block whose DC coefficient was scaled apart.
+/// The residual of a block whose DC coefficient was scaled apart, and whose coefficients are small.
 #[inline(always)]
 pub fn small_residual_with_dc(dc: i16, levels: &[i16; 15], qp: u8) -> Option<[i16; 16]>
     requires { qp ≤ 51 }

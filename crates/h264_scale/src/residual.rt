@@ -6,11 +6,13 @@ use crate::fours::{Block, Four};
 use crate::lanes::{small_residual, small_residual_with_dc};
 use crate::transform::{TransformRange, flat, tested_residual};
 
-/// The three columns of v, by qp % 6 (8.5.9).
+/// The first column of the matrix v, by qp % 6 (8.5.9): what entries in an even row and an even column are multiplied by.
 pub const V0: [u8; 6] = [10, 11, 13, 14, 16, 18];
 
+/// Its second column: for an odd row and an odd column.
 pub const V1: [u8; 6] = [16, 18, 20, 23, 25, 29];
 
+/// Its third column: for all other entries.
 pub const V2: [u8; 6] = [13, 14, 16, 18, 20, 23];
 
 /// What a coefficient is multiplied by.
