@@ -3,9 +3,8 @@ ghost use Rattle.h264_plane.specs.Samples.{at, look};
 ghost use Rattle.h264_deblock.specs.Edge.{taps};
 ghost use Rattle.h264_deblock.specs.Rows.{line_of, HasLine, AreWritten, in_turn};
 
-use crate::lanes::sixteen;
 use crate::rows::Rows;
-use h264_plane::Plane;
+use h264_plane::{Plane, eight, sixteen};
 use std::simd::prelude::*;
 
 /// The lanes of two vectors in turn.
@@ -46,7 +45,7 @@ pub fn pair_in_turn(a: &[u8], i: usize, b: &[u8], j: usize) -> [u8; 16]
     requires second { j + 8 ≤ length b.now }
     ensures { (u : ℕ) → u < 16 → slice_index result u ≡ in_turn (slice_index a.now (i + u / 2)) (slice_index b.now (j + u / 2)) u }
 {
-    woven(u8x8::from_slice(&a[i..]), u8x8::from_slice(&b[j..]))
+    woven(eight(a, i), eight(b, j))
 }
 
 /// Puts sixteen samples in their place.

@@ -7,10 +7,10 @@ ghost use Rattle.h264_deblock.specs.Rows.{filter_by};
 ghost use Rattle.h264_deblock.specs.Inner.{inner_of, limits_at, HasInner, SameInner, AreBeside, AreNearest, AreNearestWritten};
 
 use crate::columns::{columns_of, pair_in_turn};
-use crate::lanes::{all, chosen, either, joined, near, plus, sixteen};
+use crate::lanes::{all, chosen, either, joined, near, plus};
 use crate::limits::{LineLimits, Mix, STRONG};
 use crate::line::{below_four, moved, shifts_by, weak, within};
-use h264_plane::Plane;
+use h264_plane::{Plane, sixteen};
 use std::simd::prelude::*;
 
 /// The samples that the filter of an edge of chroma reads, of 8 lines of Cb and then of 8 lines of Cr.

@@ -5,34 +5,8 @@ ghost use Rattle.std.specs.Prelude.{◌≡◌, ℕ, ◌+◌, ◌-◌, ◌*◌, �
 ghost use Rattle.std.specs.Int.{abs_diff};
 ghost use Rattle.h264_deblock.specs.Rows.{sign};
 
+use h264_plane::{beside, eight, narrow, widened};
 use std::simd::prelude::*;
-
-/// Sixteen samples of a slice, from a place on.
-#[inline(always)]
-pub fn sixteen(samples: &[u8], place: usize) -> u8x16
-    requires { place + 16 ≤ length samples.now }
-    ensures { (n : ℕ) → n < 16 → slice_index result n ≡ slice_index samples.now (place + n) }
-{
-    u8x16::from_slice(&samples[place..])
-}
-
-/// Eight samples of a slice, from a place on.
-#[inline(always)]
-fn eight(samples: &[u8], place: usize) -> u8x8
-    requires { place + 8 ≤ length samples.now }
-    ensures { (n : ℕ) → n < 8 → get_or result n 0 ≡ slice_index samples.now (place + n) }
-{
-    u8x8::from_slice(&samples[place..])
-}
-
-/// Two eights of samples side by side.
-#[inline(always)]
-fn beside(a: u8x8, b: u8x8) -> u8x16
-    ensures first { (n : ℕ) → n < 8 → get_or result n 0 ≡ get_or a n 0 }
-    ensures second { (n : ℕ) → n < 8 → get_or result (8 + n) 0 ≡ get_or b n 0 }
-{
-    a.shuffle(b, [0, 1, 2, 3, 4, 5, 6, 7, 8, 9, 10, 11, 12, 13, 14, 15])
-}
 
 /// Eight samples of a slice from a place on, and then eight of another.
 #[inline(always)]
@@ -150,22 +124,6 @@ pub fn near(a: u8x16, b: u8x16, limit: u8) -> u8x16
     ensures { (n : ℕ) → n < 16 → get_or result n 0 ≡ sign (nat_lt (abs_diff (get_or a n 0) (get_or b n 0)) limit) }
 {
     least(above(all(limit), distance(a, b)), all(1))
-}
-
-#[inline(always)]
-fn widened(a: u8x16) -> u16x16
-    ensures same { result ≡ a }
-    ensures small { (n : ℕ) → n < 16 → get_or result n 0 < 256 }
-{
-    a.cast::<u16>()
-}
-
-#[inline(always)]
-fn narrow(a: u16x16) -> u8x16
-    requires { (n : ℕ) → n < 16 → get_or a n 0 < 256 }
-    ensures { result ≡ a }
-{
-    a.cast::<u8>()
 }
 
 #[inline(always)]

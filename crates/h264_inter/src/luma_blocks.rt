@@ -5,13 +5,14 @@ ghost use Rattle.h264_inter.specs.Luma.{six, half as half_of, central as central
 ghost use Rattle.h264_inter.specs.Rows.{AllSix, AreSixTaps, LastFiveOfBoth, AllSixOfBoth, AreUpTo, partner as partner_of};
 
 use crate::lanes::{
-    beside, between8, bytes, central8, eight, half8, joined, load, load16, mean8, mean16, plus,
-    raised, riffled, sixteen, times,
+    beside, between8, bytes, central8, half8, joined, load, load16, mean8, mean16, plus, raised,
+    riffled, times,
 };
 use crate::lines::Lines;
 use crate::pairs::{SixTaps, difference_and, pair_sums, sum_rounded};
 use crate::rows::{first_windows, next_windows};
 use crate::window::{Window, Windows};
+use h264_plane::{eight, sixteen};
 use std::simd::prelude::*;
 
 /// `W` samples of row `y` from column `x` on, by value, so that they are read before any is written.

@@ -1,4 +1,4 @@
-use crate::{Component, Frame, Plane, Pool};
+use crate::{Component, Frame, Plane, Pool, beside, eight, narrow, sixteen, widened};
 use std::alloc::AllocError;
 use std::process::Abort;
 
@@ -13,6 +13,11 @@ fn planes(rt: HostRuntime) -> Result<(), AllocError> {
 fn frames(rt: HostRuntime) -> Result<(), AllocError> {
     a_frame_has_three_planes(&rt)?;
     one_frame_is_written_while_another_is_read(&rt)
+}
+
+#[test]
+fn vectors(rt: HostRuntime) {
+    halves_change_places(&rt);
 }
 
 /// The samples of a row as a number in base 10, each sample being a digit.
@@ -92,4 +97,16 @@ fn one_frame_is_written_while_another_is_read(
     assert_eq!(rt; pool.frame(1).y.get(0, 0), 7);
     assert_eq!(rt; pool.frame(2).y.get(0, 0), 6);
     Ok(())
+}
+
+fn halves_change_places(rt: &impl Abort) {
+    let samples = [9, 1, 2, 3, 4, 5, 6, 7, 8, 8, 7, 6, 5, 4, 3, 2, 1];
+    let whole = sixteen(&samples, 1);
+    assert_eq!(rt; digits(&whole.to_array()), 1_234_567_887_654_321);
+    assert_eq!(rt;
+        digits(&narrow(widened(whole)).to_array()),
+        1_234_567_887_654_321
+    );
+    let turned = beside(eight(&samples, 9), eight(&samples, 1));
+    assert_eq!(rt; digits(&turned.to_array()), 8_765_432_112_345_678);
 }

@@ -1,8 +1,0 @@
-use Rattle.h264_plane.proofs.Lanes.{first_beside, second_beside}
-use Rattle.h264_deblock.proofs.lanes.beside.Goals as goal
-
-pub returns-clause-first : goal.returns-clause-first
-returns-clause-first c n p = first_beside 8 8 c.args.a c.args.b n c.fits-a.0 c.fits-b.0 p
-
-pub returns-clause-second : goal.returns-clause-second
-returns-clause-second c n p = second_beside 8 8 c.args.a c.args.b n c.fits-a.0 c.fits-b.0

@@ -1,5 +1,0 @@
-use Rattle.std.proofs.lemmas.Simd.{get_or-chunk}
-use Rattle.h264_deblock.proofs.lanes.eight.Goals as goal
-
-pub returns : goal.returns
-returns c n p = get_or-chunk c.args.place 8 c.args.samples.now n 0 p
