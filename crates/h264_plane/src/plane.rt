@@ -204,8 +204,6 @@ impl Plane {
         requires rows { y + H ≤ self.old.height }
         ensures { ShowsSamples self.old self.new (with_block W H x y block.now (at self.old)) }
     {
-        // The invariant, which this read shows, bounds the rows below.
-        let _ = &self.height;
         let width = self.width;
         put_rows::<W, H>(self.samples.as_mut_slice(), width, x, y, block);
     }
