@@ -18,6 +18,7 @@ pub enum IntraChromaPredMode {
 
 impl IntraChromaPredMode {
     /// The mode of a number of table 8-5, 0 to 3. A number above 3 counts as 3.
+    #[inline(always)]
     pub fn of_number(number: u8) -> IntraChromaPredMode
         ensures { result ≡ mode_chroma_of number }
     {
@@ -30,6 +31,7 @@ impl IntraChromaPredMode {
     }
 
     /// Its number in table 8-5.
+    #[inline(always)]
     pub fn number(self) -> u8
         ensures number { result ≡ number_chroma self }
         ensures back { mode_chroma_of result ≡ self }
@@ -38,6 +40,7 @@ impl IntraChromaPredMode {
     }
 
     /// Whether there are the sides that it needs (8.3.4).
+    #[inline]
     pub fn is_possible(self, sides: Sides) -> bool
         ensures { result ≡ is_possible_chroma self sides }
     {

@@ -17,6 +17,7 @@ pub enum Intra16x16PredMode {
 
 impl Intra16x16PredMode {
     /// The mode of a number of table 8-4, 0 to 3. A number above 3 counts as 3.
+    #[inline(always)]
     pub fn of_number(number: u8) -> Intra16x16PredMode
         ensures { result ≡ mode16_of number }
     {
@@ -29,6 +30,7 @@ impl Intra16x16PredMode {
     }
 
     /// Its number in table 8-4.
+    #[inline(always)]
     pub fn number(self) -> u8
         ensures number { result ≡ number16 self }
         ensures back { mode16_of result ≡ self }
@@ -37,6 +39,7 @@ impl Intra16x16PredMode {
     }
 
     /// Whether there are the sides that it needs (8.3.3).
+    #[inline]
     pub fn is_possible(self, sides: Sides) -> bool
         ensures { result ≡ is_possible16 self sides }
     {

@@ -23,6 +23,7 @@ pub enum Intra4x4PredMode {
 
 impl Intra4x4PredMode {
     /// The mode of a number of table 8-2, 0 to 8. A number above 8 counts as 8.
+    #[inline(always)]
     pub fn of_number(number: u8) -> Intra4x4PredMode
         ensures { result ≡ mode4_of number }
     {
@@ -40,6 +41,7 @@ impl Intra4x4PredMode {
     }
 
     /// Its number in table 8-2.
+    #[inline(always)]
     pub fn number(self) -> u8
         ensures number { result ≡ number4 self }
         ensures back { mode4_of result ≡ self }
@@ -48,6 +50,7 @@ impl Intra4x4PredMode {
     }
 
     /// Whether there are the sides that it needs (8.3.1.2).
+    #[inline]
     pub fn is_possible(self, sides: Sides4) -> bool
         ensures { result ≡ is_possible4 self sides }
     {

@@ -5,6 +5,10 @@ use Rattle.std.proofs.lemmas.List.{get_or-replicate}
 use Rattle.std.proofs.lemmas.Option.{slice_get-get_or}
 use Rattle.h264_cavlc.specs.Block.{Block}
 use Rattle.h264_near.specs.declared.motion.Motion.{Motion}
+use Rattle.h264_intra.specs.declared.luma4.Intra4x4PredMode.{Intra4x4PredMode}
+use Rattle.h264_intra.specs.declared.luma4.Intra4x4PredMode.TheVariants.{Dc, Vertical}
+use Rattle.h264_intra.specs.declared.luma16.Intra16x16PredMode.{Intra16x16PredMode}
+use Rattle.h264_intra.specs.declared.chroma.IntraChromaPredMode.{IntraChromaPredMode}
 use Rattle.h264_near.specs.Coded.{CodedMacroblock, Intra4x4, Intra16x16, Inter}
 use Rattle.h264_mbsyntax.specs.declared.macroblock.Kind.TheVariants as kind
 use Rattle.h264_mbsyntax.specs.declared.macroblock.Macroblock.{Macroblock}
@@ -55,7 +59,7 @@ with-pattern table width picture slice qp f m = m
 pub no-motion : (motions : List (Option Motion)) (n : ℕ) → motions ≡ replicate 16 None → n < 16 → ◌≡◌ {A = Option (Option Motion)} (Some None) (Some (get_or motions n None))
 no-motion motions n e h = rw e (ap Some (sym (get_or-replicate 16 n None None h)))
 
-pub holds-intra4x4 : (mb : Macroblock) (slice chroma : ℕ) (modes : List ℕ) (c : Coefficients) → mb.kind ≡ kind.Intra4x4 → mb.contexts.modes ≡ modes → mb.chroma_mode ≡ chroma → mb.contexts.slice ≡ slice → mb.contexts.intra ≡ true → mb.contexts.qp ≡ mb.qp → mb.contexts.motions ≡ replicate 16 None → mb.residual.luma_dc_total ≡ 0 → length mb.contexts.totals ≡ 16 → length mb.contexts.chroma_totals ≡ 8 → length modes ≡ 16 → StoredCoefficients mb.qp mb.contexts.totals mb.residual.luma mb.contexts.chroma_totals mb.residual.chroma_ac mb.residual.chroma_dc_totals mb.residual.chroma_dc c → HoldsMacroblock mb (coded slice (Intra4x4 modes chroma) c)
+pub holds-intra4x4 : (mb : Macroblock) (slice : ℕ) (chroma : IntraChromaPredMode) (modes : List Intra4x4PredMode) (c : Coefficients) → mb.kind ≡ kind.Intra4x4 → mb.contexts.modes ≡ modes → mb.chroma_mode ≡ chroma → mb.contexts.slice ≡ slice → mb.contexts.intra ≡ true → mb.contexts.qp ≡ mb.qp → mb.contexts.motions ≡ replicate 16 None → mb.residual.luma_dc_total ≡ 0 → length mb.contexts.totals ≡ 16 → length mb.contexts.chroma_totals ≡ 8 → length modes ≡ 16 → StoredCoefficients mb.qp mb.contexts.totals mb.residual.luma mb.contexts.chroma_totals mb.residual.chroma_ac mb.residual.chroma_dc_totals mb.residual.chroma_dc c → HoldsMacroblock mb (coded slice (Intra4x4 modes chroma) c)
 unfolding coded no_block
 holds-intra4x4 mb slice chroma modes c ek em ec es ei eq ev ed nt nc nm s = record {
   contexts = record {
@@ -64,7 +68,7 @@ holds-intra4x4 mb slice chroma modes c ek em ec es ei eq ev ed nt nc nm s = reco
     qp = s.qp ∙ sym eq;
     totals = s.luma.counted ∙ whole mb.contexts.totals 16 (omega arith);
     chroma_totals = s.chroma.ac.counted ∙ whole mb.contexts.chroma_totals 8 (omega arith);
-    modes = λ n h. rw em (slice_get-get_or modes n 0 (omega arith));
+    modes = λ n h. rw em (slice_get-get_or modes n Vertical (omega arith));
     motions = λ n h. no-motion mb.contexts.motions n ev h;
   };
   qp = s.qp;
@@ -73,7 +77,7 @@ holds-intra4x4 mb slice chroma modes c ek em ec es ei eq ev ed nt nc nm s = reco
   chroma = rw ek (record { each = s.chroma.dc.each }, record { each = s.chroma.ac.each });
 }
 
-pub holds-intra16x16 : (mb : Macroblock) (slice chroma mode : ℕ) (c : Coefficients) → mb.kind ≡ kind.Intra16x16 mode → mb.contexts.modes ≡ replicate 16 2 → mb.chroma_mode ≡ chroma → mb.contexts.slice ≡ slice → mb.contexts.intra ≡ true → mb.contexts.qp ≡ mb.qp → mb.contexts.motions ≡ replicate 16 None → length mb.contexts.totals ≡ 16 → length mb.contexts.chroma_totals ≡ 8 → StoredCoefficients16 mb.qp mb.residual.luma_dc_total mb.residual.luma_dc mb.contexts.totals mb.residual.luma_ac mb.contexts.chroma_totals mb.residual.chroma_ac mb.residual.chroma_dc_totals mb.residual.chroma_dc c → HoldsMacroblock mb (coded slice (Intra16x16 mode chroma) c)
+pub holds-intra16x16 : (mb : Macroblock) (slice : ℕ) (chroma : IntraChromaPredMode) (mode : Intra16x16PredMode) (c : Coefficients) → mb.kind ≡ kind.Intra16x16 mode → mb.contexts.modes ≡ replicate 16 Dc → mb.chroma_mode ≡ chroma → mb.contexts.slice ≡ slice → mb.contexts.intra ≡ true → mb.contexts.qp ≡ mb.qp → mb.contexts.motions ≡ replicate 16 None → length mb.contexts.totals ≡ 16 → length mb.contexts.chroma_totals ≡ 8 → StoredCoefficients16 mb.qp mb.residual.luma_dc_total mb.residual.luma_dc mb.contexts.totals mb.residual.luma_ac mb.contexts.chroma_totals mb.residual.chroma_ac mb.residual.chroma_dc_totals mb.residual.chroma_dc c → HoldsMacroblock mb (coded slice (Intra16x16 mode chroma) c)
 unfolding coded
 holds-intra16x16 mb slice chroma mode c ek em ec es ei eq ev nt nc s = record {
   contexts = record {
@@ -82,7 +86,7 @@ holds-intra16x16 mb slice chroma mode c ek em ec es ei eq ev nt nc s = record {
     qp = s.qp ∙ sym eq;
     totals = s.luma.counted ∙ whole mb.contexts.totals 16 (omega arith);
     chroma_totals = s.chroma.ac.counted ∙ whole mb.contexts.chroma_totals 8 (omega arith);
-    modes = λ n h. rw em (ap Some (sym (get_or-replicate 16 n 2 0 h)));
+    modes = λ n h. rw em (ap Some (sym (get_or-replicate 16 n Dc Vertical h)));
     motions = λ n h. no-motion mb.contexts.motions n ev h;
   };
   qp = s.qp;
@@ -91,7 +95,7 @@ holds-intra16x16 mb slice chroma mode c ek em ec es ei eq ev nt nc s = record {
   chroma = rw ek (record { each = s.chroma.dc.each }, record { each = s.chroma.ac.each });
 }
 
-pub holds-pcm : (mb : Macroblock) (slice : ℕ) (samples : List ℕ) → mb.kind ≡ kind.Pcm → mb.pcm ≡ samples → mb.contexts.slice ≡ slice → mb.contexts.intra ≡ true → mb.contexts.qp ≡ 0 → mb.contexts.totals ≡ replicate 16 16 → mb.contexts.chroma_totals ≡ replicate 8 16 → mb.contexts.modes ≡ replicate 16 2 → mb.contexts.motions ≡ replicate 16 None → HoldsMacroblock mb (pcm_of slice mb.qp samples)
+pub holds-pcm : (mb : Macroblock) (slice : ℕ) (samples : List ℕ) → mb.kind ≡ kind.Pcm → mb.pcm ≡ samples → mb.contexts.slice ≡ slice → mb.contexts.intra ≡ true → mb.contexts.qp ≡ 0 → mb.contexts.totals ≡ replicate 16 16 → mb.contexts.chroma_totals ≡ replicate 8 16 → mb.contexts.modes ≡ replicate 16 Dc → mb.contexts.motions ≡ replicate 16 None → HoldsMacroblock mb (pcm_of slice mb.qp samples)
 unfolding pcm_of
 holds-pcm mb slice samples ek ep es ei eq et ec em ev = record {
   contexts = record {
@@ -100,7 +104,7 @@ holds-pcm mb slice samples ek ep es ei eq et ec em ev = record {
     qp = sym eq;
     totals = sym et;
     chroma_totals = sym ec;
-    modes = λ n h. rw em (ap Some (sym (get_or-replicate 16 n 2 0 h)));
+    modes = λ n h. rw em (ap Some (sym (get_or-replicate 16 n Dc Vertical h)));
     motions = λ n h. no-motion mb.contexts.motions n ev h;
   };
   qp = refl;
@@ -137,7 +141,7 @@ some-at (Some x) e = refl
 pub all-derived : (motions : List (Option Motion)) (n : ℕ) → map is_some motions ≡ replicate 16 true → n < 16 → option_map (λ x. Some x) (get_or motions n None) ≡ Some (get_or motions n None)
 all-derived motions n e h = some-at (get_or motions n None) (sym (math.get_or-map is_some motions n None) ∙ (ap (λ l. get_or l n false) e ∙ get_or-replicate 16 n true false h))
 
-pub holds-inter : (mb : Macroblock) (slice : ℕ) (d : Derived) (within : Bool) (partition : Partition) (c : Coefficients) → mb.kind ≡ kind.Inter partition → MovesByPartition partition mb.contexts.motions → Agrees within mb.contexts.motions (replicate 16 true) d → within ≡ true → mb.contexts.modes ≡ replicate 16 2 → mb.contexts.slice ≡ slice → mb.contexts.intra ≡ false → mb.contexts.qp ≡ mb.qp → mb.residual.luma_dc_total ≡ 0 → length mb.contexts.totals ≡ 16 → length mb.contexts.chroma_totals ≡ 8 → StoredCoefficients mb.qp mb.contexts.totals mb.residual.luma mb.contexts.chroma_totals mb.residual.chroma_ac mb.residual.chroma_dc_totals mb.residual.chroma_dc c → HoldsMacroblock mb (coded slice (Inter d.motions) c)
+pub holds-inter : (mb : Macroblock) (slice : ℕ) (d : Derived) (within : Bool) (partition : Partition) (c : Coefficients) → mb.kind ≡ kind.Inter partition → MovesByPartition partition mb.contexts.motions → Agrees within mb.contexts.motions (replicate 16 true) d → within ≡ true → mb.contexts.modes ≡ replicate 16 Dc → mb.contexts.slice ≡ slice → mb.contexts.intra ≡ false → mb.contexts.qp ≡ mb.qp → mb.residual.luma_dc_total ≡ 0 → length mb.contexts.totals ≡ 16 → length mb.contexts.chroma_totals ≡ 8 → StoredCoefficients mb.qp mb.contexts.totals mb.residual.luma mb.contexts.chroma_totals mb.residual.chroma_ac mb.residual.chroma_dc_totals mb.residual.chroma_dc c → HoldsMacroblock mb (coded slice (Inter d.motions) c)
 unfolding coded no_block
 holds-inter mb slice d within partition c ek parted a w em es ei eq ed nt nc s = record {
   contexts = record {
@@ -146,7 +150,7 @@ holds-inter mb slice d within partition c ek parted a w em es ei eq ed nt nc s =
     qp = s.qp ∙ sym eq;
     totals = s.luma.counted ∙ whole mb.contexts.totals 16 (omega arith);
     chroma_totals = s.chroma.ac.counted ∙ whole mb.contexts.chroma_totals 8 (omega arith);
-    modes = λ n h. rw em (ap Some (sym (get_or-replicate 16 n 2 0 h)));
+    modes = λ n h. rw em (ap Some (sym (get_or-replicate 16 n Dc Vertical h)));
     motions = λ n h. rw (a.same w) (all-derived d.motions n a.derived h);
   };
   qp = s.qp;

@@ -10,7 +10,8 @@ use Rattle.h264_base.specs.Grammar.{Grammar}
 use Rattle.h264_base.specs.Meets.{Reader, Meets, Is}
 use Rattle.h264_base.proofs.Steps.{Leads, leads-on, stop, done, finish}
 use Rattle.h264_cavlc.specs.Block.{Block, residual_block}
-use Rattle.h264_near.specs.declared.samples.Samples.{Samples}
+use Rattle.h264_intra.specs.declared.luma4.Intra4x4PredMode.{Intra4x4PredMode}
+use Rattle.h264_intra.specs.declared.sides.Sides.{Sides}
 use Rattle.h264_near.specs.Coded.{CodedMacroblock}
 use Rattle.h264_near.specs.Intra.{predicted_mode, block_samples, luma_nc, chroma_nc}
 use Rattle.h264_near.proofs.Places.{front, seam}
@@ -20,25 +21,25 @@ use Rattle.h264_mbsyntax.specs.Stored.{Stored, shown, IsBlank}
 
 module _ {S : Type 0} {took : S → List Call → Type 0} {failures : S → ℕ} where
   -- one more mode
-  pub modes-next : {g : Grammar (List ℕ)} {old now mid : Reader} {s s' s'' : S} {x : ℕ} (width : ℕ) (picture : List CodedMacroblock) (slice : ℕ) (constrained : Bool) (b predicted : ℕ) (samples : Samples) (modes later : List ℕ) → b < 16 → predicted ≡ predicted_mode width picture slice constrained modes → samples ≡ block_samples width picture slice constrained modes → later ≡ modes ++ x ∷ [] → Leads took failures g (block_modes width picture slice constrained (16 - b) modes) old now s s' → Meets took failures (Is (λ (t : ℕ). t)) (block_mode predicted samples) now mid s' s'' (Ok x) → Leads took failures g (block_modes width picture slice constrained (16 - (b + 1)) later) old mid s s''
+  pub modes-next : {g : Grammar (List Intra4x4PredMode)} {old now mid : Reader} {s s' s'' : S} {x : Intra4x4PredMode} (width : ℕ) (picture : List CodedMacroblock) (slice : ℕ) (constrained : Bool) (b : ℕ) (predicted : Intra4x4PredMode) (samples : Sides) (modes later : List Intra4x4PredMode) → b < 16 → predicted ≡ predicted_mode width picture slice constrained modes → samples ≡ block_samples width picture slice constrained modes → later ≡ modes ++ x ∷ [] → Leads took failures g (block_modes width picture slice constrained (16 - b) modes) old now s s' → Meets took failures (Is (λ (t : Intra4x4PredMode). t)) (block_mode predicted samples) now mid s' s'' (Ok x) → Leads took failures g (block_modes width picture slice constrained (16 - (b + 1)) later) old mid s s''
   unfolding block_modes
   modes-next {g} {old} {now} {mid} {s} {s'} {s''} {x} width picture slice constrained b predicted samples modes later h p q e l m =
       let n : 16 - b ≡ suc (16 - (b + 1)) = omega arith in
       let P : ℕ → Type 0 = λ k. Leads took failures g (block_modes width picture slice constrained k modes) old now s s' in
-      let M : ℕ → Type 0 = λ p. Meets took failures (Is (λ (t : ℕ). t)) (block_mode p samples) now mid s' s'' (Ok x) in
-      let N : Samples → Type 0 = λ q. Meets took failures (Is (λ (t : ℕ). t)) (block_mode (predicted_mode width picture slice constrained modes) q) now mid s' s'' (Ok x) in
+      let M : Intra4x4PredMode → Type 0 = λ p. Meets took failures (Is (λ (t : Intra4x4PredMode). t)) (block_mode p samples) now mid s' s'' (Ok x) in
+      let N : Sides → Type 0 = λ q. Meets took failures (Is (λ (t : Intra4x4PredMode). t)) (block_mode (predicted_mode width picture slice constrained modes) q) now mid s' s'' (Ok x) in
       rw e (leads-on (λ t. block_modes width picture slice constrained (16 - (b + 1)) (modes ++ t ∷ [])) (subst P n l) (subst N q (subst M p m)))
 
-  pub modes-stop : {X : Type 0} {R : X → List ℕ → Type 0} {g : Grammar (List ℕ)} {old now mid : Reader} {s s' s'' : S} {e : Stop} (width : ℕ) (picture : List CodedMacroblock) (slice : ℕ) (constrained : Bool) (b predicted : ℕ) (samples : Samples) (modes : List ℕ) → b < 16 → predicted ≡ predicted_mode width picture slice constrained modes → samples ≡ block_samples width picture slice constrained modes → Leads took failures g (block_modes width picture slice constrained (16 - b) modes) old now s s' → Meets {X = ℕ} took failures (Is (λ (t : ℕ). t)) (block_mode predicted samples) now mid s' s'' (Err e) → Meets took failures R g old mid s s'' (Err e)
+  pub modes-stop : {X : Type 0} {R : X → List Intra4x4PredMode → Type 0} {g : Grammar (List Intra4x4PredMode)} {old now mid : Reader} {s s' s'' : S} {e : Stop} (width : ℕ) (picture : List CodedMacroblock) (slice : ℕ) (constrained : Bool) (b : ℕ) (predicted : Intra4x4PredMode) (samples : Sides) (modes : List Intra4x4PredMode) → b < 16 → predicted ≡ predicted_mode width picture slice constrained modes → samples ≡ block_samples width picture slice constrained modes → Leads took failures g (block_modes width picture slice constrained (16 - b) modes) old now s s' → Meets {X = Intra4x4PredMode} took failures (Is (λ (t : Intra4x4PredMode). t)) (block_mode predicted samples) now mid s' s'' (Err e) → Meets took failures R g old mid s s'' (Err e)
   unfolding block_modes
   modes-stop {R = R} {g} {old} {now} {mid} {s} {s'} {s''} {e} width picture slice constrained b predicted samples modes h p q l m =
       let n : 16 - b ≡ suc (16 - (b + 1)) = omega arith in
       let P : ℕ → Type 0 = λ k. Leads took failures g (block_modes width picture slice constrained k modes) old now s s' in
-      let M : ℕ → Type 0 = λ p. Meets {X = ℕ} took failures (Is (λ (t : ℕ). t)) (block_mode p samples) now mid s' s'' (Err e) in
-      let N : Samples → Type 0 = λ q. Meets {X = ℕ} took failures (Is (λ (t : ℕ). t)) (block_mode (predicted_mode width picture slice constrained modes) q) now mid s' s'' (Err e) in
+      let M : Intra4x4PredMode → Type 0 = λ p. Meets {X = Intra4x4PredMode} took failures (Is (λ (t : Intra4x4PredMode). t)) (block_mode p samples) now mid s' s'' (Err e) in
+      let N : Sides → Type 0 = λ q. Meets {X = Intra4x4PredMode} took failures (Is (λ (t : Intra4x4PredMode). t)) (block_mode (predicted_mode width picture slice constrained modes) q) now mid s' s'' (Err e) in
       finish (subst P n l) (stop (λ t. block_modes width picture slice constrained (16 - (b + 1)) (modes ++ t ∷ [])) (subst N q (subst M p m)))
 
-  pub modes-over : {g : Grammar (List ℕ)} {old now : Reader} {s s' : S} (width : ℕ) (picture : List CodedMacroblock) (slice : ℕ) (constrained : Bool) (b : ℕ) (modes all : List ℕ) → 16 ≤ b → modes ≡ all → Leads took failures g (block_modes width picture slice constrained (16 - b) modes) old now s s' → Meets took failures (Is (λ (t : List ℕ). t)) g old now s s' (Ok all)
+  pub modes-over : {g : Grammar (List Intra4x4PredMode)} {old now : Reader} {s s' : S} (width : ℕ) (picture : List CodedMacroblock) (slice : ℕ) (constrained : Bool) (b : ℕ) (modes all : List Intra4x4PredMode) → 16 ≤ b → modes ≡ all → Leads took failures g (block_modes width picture slice constrained (16 - b) modes) old now s s' → Meets took failures (Is (λ (t : List Intra4x4PredMode). t)) g old now s s' (Ok all)
   unfolding block_modes
   modes-over {g} {old} {now} {s} {s'} width picture slice constrained b modes all h e l =
       let n : 16 - b ≡ 0 = omega arith in

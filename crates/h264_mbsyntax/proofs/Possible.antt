@@ -2,7 +2,7 @@
 use Rattle.std.proofs.Common.{◌≡◌, ⊎_elim, ℕ, zero, suc, ◌+◌, ◌<◌, ◌≤◌, ◌==◌, ◌||◌, not, nat_lt, Bool, true, false, IsTrue, List, [], ◌∷◌, ◌++◌, length, map, replicate, get_or, Option, Some, None, Result, Ok, Err, refl, arith, length-append, if◌then◌else◌}
 use Rattle.std.specs.Option.{is_some, unwrap_or}
 use Rattle.std.specs.List.{AllByRecursion, range_with_len}
-use Rattle.std.proofs.lemmas.Bool.{leb-true, cases_lt}
+use Rattle.std.proofs.lemmas.Bool.{cases_lt}
 use Rattle.std.proofs.lemmas.List.{take-append-le, get_or_append_left}
 use Rattle.std.proofs.Math.Seq.{take-append_seam, get_or-append_seam}
 use Rattle.h264_base.specs.declared.mode.SliceType.{SliceType}
@@ -14,7 +14,9 @@ use Rattle.h264_base.specs.Grammar.{Grammar}
 use Rattle.h264_base.specs.Meets.{Reader, Meets}
 use Rattle.h264_cavlc.proofs.Gives.{Gives, gives-done, gives-any, gives-bind, gives-check, gives-if}
 use Rattle.h264_near.specs.declared.motion.Motion.{Motion}
-use Rattle.h264_near.specs.declared.samples.Samples.{Samples}
+use Rattle.h264_intra.specs.declared.luma4.Intra4x4PredMode.{Intra4x4PredMode}
+use Rattle.h264_intra.specs.declared.luma4.Intra4x4PredMode.TheVariants.{Vertical}
+use Rattle.h264_intra.specs.declared.sides.Sides.{Sides}
 use Rattle.h264_near.specs.Coded.{CodedMacroblock}
 use Rattle.h264_near.specs.Intra.{block_samples, macroblock_samples}
 use Rattle.h264_vectors.specs.declared.slice.SliceContext.{SliceContext}
@@ -45,32 +47,32 @@ named slice i (Some p) e h = e
 -- ---- modes
 
 module _ (width : ℕ) (slice : SliceContext) (picture : List CodedMacroblock) where
-  abbrev samples : List ℕ → Samples
+  abbrev samples : List Intra4x4PredMode → Sides
   samples modes = block_samples width picture slice.number slice.constrained_intra modes
 
-  gives-mode : (predicted : ℕ) (s : Samples) → Gives (block_mode predicted s) (λ mode. IsTrue (fits_block mode s))
+  gives-mode : (predicted : Intra4x4PredMode) (s : Sides) → Gives (block_mode predicted s) (λ mode. IsTrue (fits_block mode s))
   unfolding block_mode
   gives-mode predicted s = gives-bind _ _ _ _ (gives-any _) (λ flag f. gives-bind _ _ _ _ (gives-any _) (λ mode m. gives-bind _ _ _ _ (gives-check _ _ _) (λ x h. gives-done _ mode h)))
 
-  sides-next : (modes : List ℕ) (mode : ℕ) → HaveSides width slice picture modes → IsTrue (fits_block mode (samples modes)) → HaveSides width slice picture (modes ++ mode ∷ [])
+  sides-next : (modes : List Intra4x4PredMode) (mode : Intra4x4PredMode) → HaveSides width slice picture modes → IsTrue (fits_block mode (samples modes)) → HaveSides width slice picture (modes ++ mode ∷ [])
   sides-next modes mode all own b h =
       let l = length-append modes (mode ∷ []) in
       ⊎_elim
-      (λ (q : b < length modes). rw (get_or_append_left modes (mode ∷ []) 0 b q, take-append-le b modes (mode ∷ []) (omega arith)) (all b q))
-      (λ (q : length modes ≤ b). let e : b ≡ length modes = omega arith in rw (e, get_or-append_seam modes mode [] 0, take-append_seam modes (mode ∷ [])) own)
+      (λ (q : b < length modes). rw (get_or_append_left modes (mode ∷ []) Vertical b q, take-append-le b modes (mode ∷ []) (omega arith)) (all b q))
+      (λ (q : length modes ≤ b). let e : b ≡ length modes = omega arith in rw (e, get_or-append_seam modes mode [] Vertical, take-append_seam modes (mode ∷ [])) own)
       (cases_lt b (length modes))
 
-  gives-modes : (n : ℕ) (modes : List ℕ) → HaveSides width slice picture modes → Gives (block_modes width picture slice.number slice.constrained_intra n modes) (λ all. (length all ≡ length modes + n) × HaveSides width slice picture all)
+  gives-modes : (n : ℕ) (modes : List Intra4x4PredMode) → HaveSides width slice picture modes → Gives (block_modes width picture slice.number slice.constrained_intra n modes) (λ all. (length all ≡ length modes + n) × HaveSides width slice picture all)
   unfolding block_modes
   gives-modes zero modes h = gives-done _ modes (omega arith, h)
   gives-modes (suc n) modes h = gives-bind _ _ _ _ (gives-mode _ (samples modes)) (λ mode m. longer mode (gives-modes n (modes ++ mode ∷ []) (sides-next modes mode h m)))
     where
-      longer : (mode : ℕ) → Gives (block_modes width picture slice.number slice.constrained_intra n (modes ++ mode ∷ [])) (λ all. (length all ≡ length (modes ++ mode ∷ []) + n) × HaveSides width slice picture all) → Gives (block_modes width picture slice.number slice.constrained_intra n (modes ++ mode ∷ [])) (λ all. (length all ≡ length modes + suc n) × HaveSides width slice picture all)
+      longer : (mode : Intra4x4PredMode) → Gives (block_modes width picture slice.number slice.constrained_intra n (modes ++ mode ∷ [])) (λ all. (length all ≡ length (modes ++ mode ∷ []) + n) × HaveSides width slice picture all) → Gives (block_modes width picture slice.number slice.constrained_intra n (modes ++ mode ∷ [])) (λ all. (length all ≡ length modes + suc n) × HaveSides width slice picture all)
       longer mode g = record { gives = λ body i v j e. let r = g.gives body i v j e in let l = length-append modes (mode ∷ []) in let k = r.0 in (omega arith, r.1) }
 
   gives-chroma : Gives (chroma_mode (macroblock_samples width picture slice.number slice.constrained_intra)) (HasChromaSides width slice picture)
   unfolding chroma_mode
-  gives-chroma = gives-bind _ _ _ _ (gives-any _) (λ e t. gives-bind _ _ _ _ (gives-check _ _ _) (λ x k. gives-bind _ _ _ _ (gives-check _ _ _) (λ y h. gives-done _ _ (record { known = leb-true _ _ k; sides = h }))))
+  gives-chroma = gives-bind _ _ _ _ (gives-any _) (λ e t. gives-bind _ _ _ _ (gives-any _) (λ x k. gives-bind _ _ _ _ (gives-check _ _ _) (λ y h. gives-done _ _ (record { sides = h }))))
 
   -- ---- intra macroblocks
 

@@ -10,9 +10,11 @@ use Rattle.h264_tables.specs.declared.table.Table.TheVariants.{CodedBlockPattern
 use Rattle.h264_tables.specs.Table.{code_table}
 use Rattle.h264_bits.specs.Forms.{natural}
 use Rattle.h264_near.specs.Coded.{CodedMacroblock, Prediction, Intra4x4, Intra16x16, Pcm, Inter, no_residual}
+use Rattle.h264_intra.specs.declared.luma16.Intra16x16PredMode.{Intra16x16PredMode}
+use Rattle.h264_intra.specs.Luma16.{mode16_of, is_possible16}
 use Rattle.h264_near.specs.Intra.{macroblock_samples}
 use Rattle.h264_vectors.specs.declared.slice.SliceContext.{SliceContext}
-use Rattle.h264_mbsyntax.specs.Intra.{block_modes, chroma_mode, fits_luma, pcm_samples}
+use Rattle.h264_mbsyntax.specs.Intra.{block_modes, chroma_mode, pcm_samples}
 use Rattle.h264_mbsyntax.specs.Residual.{Coefficients, coefficients, coefficients16, totals_of, levels_of}
 use Rattle.h264_vectors.specs.Inter.{motions}
 
@@ -45,15 +47,15 @@ intra4x4 width slice picture = do
   Done (coded slice.number (Intra4x4 modes chroma) c)
 
 -- what mb_type says of Intra 16x16 macroblocks, from 1 on (Table 7-11): the mode, and the pattern
-abbrev pub mode_of : ℕ → ℕ
-mode_of kind = (kind - 1) % 4
+abbrev pub mode_of : ℕ → Intra16x16PredMode
+mode_of kind = mode16_of ((kind - 1) % 4)
 
 unfoldable pub pattern_of : ℕ → ℕ
 pattern_of kind = (kind - 1) / 4 % 3 * 16 + (if nat_lt kind 13 then 0 else 15)
 
 unfoldable pub intra16x16 : ℕ → SliceContext → List CodedMacroblock → ℕ → ℕ → Grammar CodedMacroblock
 intra16x16 width slice picture bit kind = do
-  _ ← check IntraMode bit (fits_luma (mode_of kind) (macroblock_samples width picture slice.number slice.constrained_intra))
+  _ ← check IntraMode bit (is_possible16 (mode_of kind) (macroblock_samples width picture slice.number slice.constrained_intra))
   chroma ← chroma_mode (macroblock_samples width picture slice.number slice.constrained_intra)
   c ← coefficients16 width picture slice.number (predicted_qp slice picture) (pattern_of kind)
   Done (coded slice.number (Intra16x16 (mode_of kind) chroma) c)

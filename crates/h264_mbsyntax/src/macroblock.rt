@@ -4,6 +4,7 @@
 ghost use Rattle.std.specs.Prelude.{◌≡◌, ℕ, ◌+◌, ◌-◌, ◌*◌, ◌/◌, ◌%◌, ◌<◌, ◌≤◌, ◌^◌, List, [], replicate, None, true, false, OnOk};
 ghost use Rattle.h264_base.specs.Call.{HasRoom, IsQuiet};
 ghost use Rattle.h264_base.specs.Meets.{Meets, Is, Answers};
+ghost use Rattle.h264_intra.specs.declared.luma4.Intra4x4PredMode.TheVariants.{Dc};
 ghost use Rattle.h264_near.specs.Coded.{CodedMacroblock};
 ghost use Rattle.h264_near.specs.Keeps.{Keeps};
 ghost use Rattle.h264_mbsyntax.specs.Macroblock as syntax;
@@ -13,10 +14,11 @@ ghost use Rattle.h264_vectors.specs.Agrees.{Usable};
 ghost use Rattle.h264_mbsyntax.specs.Holds.{HoldsMacroblock};
 ghost use Rattle.h264_mbsyntax.specs.Possible.{IsRead};
 
-use crate::intra::{fits_luma, read_block_modes, read_chroma_mode};
+use crate::intra::{read_block_modes, read_chroma_mode};
 use crate::residual::{Residual, read_coefficients, read_coefficients16};
 use h264_base::{ElementName, Elements, Rule, SliceType, Stop};
 use h264_bits::{Bits, Found, check, read_align, read_bytes, read_ue};
+use h264_intra::{Intra4x4PredMode, Intra16x16PredMode, IntraChromaPredMode};
 use h264_near::{Contexts, Motion, Near, Partition};
 use h264_tables::Table;
 use h264_vectors::{SliceContext, Surroundings, read_motions};
@@ -27,7 +29,7 @@ pub enum Kind {
     /// I_4x4: the modes are the contexts'.
     Intra4x4,
     /// Intra 16x16.
-    Intra16x16 { mode: u8 },
+    Intra16x16 { mode: Intra16x16PredMode },
     /// I_PCM.
     Pcm,
     /// P: references and vectors are the contexts'. The blocks of each partition have one reference and one vector.
@@ -40,7 +42,7 @@ pub struct Macroblock {
     pub kind: Kind,
     pub contexts: Contexts,
     /// intra_chroma_pred_mode, in I_4x4 and Intra 16x16.
-    pub chroma_mode: u8,
+    pub chroma_mode: IntraChromaPredMode,
     /// QP_Y.
     pub qp: u8,
     /// The samples of I_PCM: 256 of Y, 64 of Cb and 64 of Cr.
@@ -55,8 +57,8 @@ impl Macroblock {
     {
         Macroblock {
             kind: Kind::Pcm,
-            contexts: intra_contexts(0, 0, [0; 16], [0; 8], [2; 16]),
-            chroma_mode: 0,
+            contexts: intra_contexts(0, 0, [0; 16], [0; 8], [Intra4x4PredMode::Dc; 16]),
+            chroma_mode: IntraChromaPredMode::Dc,
             qp: 0,
             pcm: [0; 384],
             residual: Residual {
@@ -79,7 +81,7 @@ fn intra_contexts(
     qp: u8,
     totals: [u8; 16],
     chroma_totals: [u8; 8],
-    modes: [u8; 16],
+    modes: [Intra4x4PredMode; 16],
 ) -> Contexts
     ensures slice { result.slice ≡ slice }
     ensures intra { result.intra ≡ true }
@@ -114,7 +116,7 @@ fn inter_contexts(
     ensures qp { result.qp ≡ qp }
     ensures totals { result.totals ≡ totals }
     ensures chroma_totals { result.chroma_totals ≡ chroma_totals }
-    ensures modes { result.modes ≡ replicate 16 2 }
+    ensures modes { result.modes ≡ replicate 16 Dc }
     ensures motions { result.motions ≡ motions }
 {
     Contexts {
@@ -123,13 +125,19 @@ fn inter_contexts(
         qp,
         totals,
         chroma_totals,
-        modes: [2; 16],
+        modes: [Intra4x4PredMode::Dc; 16],
         motions,
     }
 }
 
 /// Makes `mb` an intra macroblock, of which the residual is not read yet.
-fn begin_intra(mb: &mut Macroblock, kind: Kind, slice: u32, modes: [u8; 16], chroma_mode: u8)
+fn begin_intra(
+    mb: &mut Macroblock,
+    kind: Kind,
+    slice: u32,
+    modes: [Intra4x4PredMode; 16],
+    chroma_mode: IntraChromaPredMode,
+)
     ensures kind { mb.new.kind ≡ kind }
     ensures chroma_mode { mb.new.chroma_mode ≡ chroma_mode }
     ensures slice { mb.new.contexts.slice ≡ slice }
@@ -148,7 +156,7 @@ fn begin_intra(mb: &mut Macroblock, kind: Kind, slice: u32, modes: [u8; 16], chr
 fn begin_inter(mb: &mut Macroblock, slice: u32)
     ensures slice { mb.new.contexts.slice ≡ slice }
     ensures intra { mb.new.contexts.intra ≡ false }
-    ensures modes { mb.new.contexts.modes ≡ replicate 16 2 }
+    ensures modes { mb.new.contexts.modes ≡ replicate 16 Dc }
     ensures motions { mb.new.contexts.motions ≡ replicate 16 None }
     ensures luma_dc_total { mb.new.residual.luma_dc_total ≡ 0 }
 {
@@ -176,7 +184,7 @@ fn read_intra4x4<S: Elements>(
 {
     let Surroundings { near, slice } = around;
     let modes = read_block_modes(bits, near, slice.number, slice.constrained_intra, sink)?;
-    let samples = near.samples(slice.number, slice.constrained_intra, &[0; 16], 0);
+    let samples = near.macroblock_samples(slice.number, slice.constrained_intra);
     let chroma_mode = read_chroma_mode(bits, samples, sink)?;
     begin_intra(mb, Kind::Intra4x4, slice.number, modes, chroma_mode);
     let table = Table::CodedBlockPatternIntra;
@@ -203,7 +211,8 @@ fn read_pcm<S: Elements>(
     mb.kind = Kind::Pcm;
     mb.qp = qp;
     mb.pcm.copy_from_slice(samples);
-    mb.contexts = intra_contexts(slice.number, 0, [16; 16], [16; 8], [2; 16]);
+    let modes = [Intra4x4PredMode::Dc; 16];
+    mb.contexts = intra_contexts(slice.number, 0, [16; 16], [16; 8], modes);
     Ok(())
 }
 
@@ -243,15 +252,15 @@ fn read_intra16x16<S: Elements>(
     ensures same { OnOk result (mb.new.contexts.slice ≡ around.entry.slice.now.number) }
 {
     let Surroundings { near, slice } = around;
-    let samples = near.samples(slice.number, slice.constrained_intra, &[0; 16], 0);
-    let mode = ((mb_type.value - 1) % 4) as u8;
-    check(fits_luma(mode, samples), Rule::IntraMode, mb_type.bit)?;
+    let samples = near.macroblock_samples(slice.number, slice.constrained_intra);
+    let mode = Intra16x16PredMode::of_number(((mb_type.value - 1) % 4) as u8);
+    check(mode.is_possible(samples), Rule::IntraMode, mb_type.bit)?;
     let chroma_mode = read_chroma_mode(bits, samples, sink)?;
     begin_intra(
         mb,
         Kind::Intra16x16 { mode },
         slice.number,
-        [2; 16],
+        [Intra4x4PredMode::Dc; 16],
         chroma_mode,
     );
     let pattern = pattern_of(mb_type.value);

@@ -7,6 +7,7 @@ ghost use Rattle.h264_vectors.specs.Agrees.{Usable};
 use crate::{Kind, Macroblock, read_macroblock, skip_macroblock};
 use h264_base::{ElementName, Elements, Failed, Rule, SliceType, Stop};
 use h264_bits::Bits;
+use h264_intra::Intra4x4PredMode;
 use h264_near::{Contexts, Motion, Near, Vector};
 use h264_rbsp::Rbsp;
 use h264_units::Splitter;
@@ -121,7 +122,7 @@ fn near(alloc: Global) -> Result<Near, AllocError> {
         qp: 26,
         totals: [0; 16],
         chroma_totals: [0; 8],
-        modes: [2; 16],
+        modes: [Intra4x4PredMode::Dc; 16],
         motions: [None; 16],
     };
     let mut near = Near::new(alloc, 2)?;
@@ -222,7 +223,7 @@ fn each_intra16x16(
         add_intra16x16(&mut digits, t)?;
         read_whole(rt, &slice(slice_type, 1), &digits, &mut mb)?;
         match mb.kind {
-            Kind::Intra16x16 { mode } => assert_eq!(rt; mode as u32, (t - 1) % 4),
+            Kind::Intra16x16 { mode } => assert_eq!(rt; u32::from(mode.number()), (t - 1) % 4),
             _ => assert!(rt; false, "type {t}"),
         }
     }
@@ -235,7 +236,10 @@ fn predicted_modes(rt: &(impl Abort + AllocGlobal)) -> Result<(), Fail> {
     let i = slice(SliceType::I, 1);
     read_text(rt, &i, "1 1111111111111111 1 00100", &mut mb)?;
     assert!(rt; matches!(mb.kind, Kind::Intra4x4));
-    assert_eq!(rt; (mb.contexts.modes, mb.qp), ([2; 16], 26));
+    assert_eq!(rt;
+        (mb.contexts.modes, mb.qp),
+        ([Intra4x4PredMode::Dc; 16], 26)
+    );
     Ok(())
 }
 
@@ -246,7 +250,8 @@ fn a_mode_of_its_own(rt: &(impl Abort + AllocGlobal)) -> Result<(), Fail> {
     let text = "1 0001 111111111111111 1 1 00000110101 1111111111111111 01 01 11111111";
     read_text(rt, &i, text, &mut mb)?;
     let modes = mb.contexts.modes;
-    assert_eq!(rt; (modes[0], modes[1], mb.qp), (1, 1, 0));
+    let across = Intra4x4PredMode::Horizontal;
+    assert_eq!(rt; (modes[0], modes[1], mb.qp), (across, across, 0));
     Ok(())
 }
 

@@ -5,6 +5,7 @@ use Rattle.std.specs.List.{slice_get}
 use Rattle.std.proofs.lemmas.Option.{slice_get-get_or}
 use Rattle.h264_near.specs.declared.context.Contexts.{Contexts}
 use Rattle.h264_near.specs.declared.context.Edge.{Edge}
+use Rattle.h264_intra.specs.declared.luma4.Intra4x4PredMode.TheVariants.{Vertical}
 use Rattle.h264_near.specs.Coded.{CodedMacroblock, number_of, chroma_number_of, total_part, chroma_part, mode_part, motion_part}
 use Rattle.h264_near.specs.Along.{edge_total, edge_chroma, edge_mode, edge_motion, edge_side}
 use Rattle.h264_near.specs.Strength.{side_part}
@@ -65,7 +66,7 @@ module _ (c : Contexts) (m : CodedMacroblock) (s : AreContexts c m) (all : lengt
       → e.slice ≡ c.slice → e.intra ≡ c.intra → e.qp ≡ c.qp
       → ((k : ℕ) → k < 4 → get_or e.totals k 0 ≡ get_or c.totals (luma k) 0)
       → ((b k : ℕ) → b < 2 → k < 2 → get_or e.chroma (b * 2 + k) 0 ≡ get_or c.chroma_totals (part b k) 0)
-      → ((k : ℕ) → k < 4 → get_or e.modes k 0 ≡ get_or c.modes (luma k) 0)
+      → ((k : ℕ) → k < 4 → get_or e.modes k Vertical ≡ get_or c.modes (luma k) Vertical)
       → ((k : ℕ) → k < 4 → get_or e.motions k None ≡ get_or c.motions (luma k) None)
       → Borders luma part e m
   borders luma part e few small es ei eq et eb em ev = record {
@@ -99,7 +100,7 @@ module _ (c : Contexts) (m : CodedMacroblock) (s : AreContexts c m) (all : lengt
   pub lower-edge : (e : Edge) → e.slice ≡ c.slice → e.intra ≡ c.intra → e.qp ≡ c.qp
       → e.totals ≡ get_or c.totals 10 0 ∷ get_or c.totals 11 0 ∷ get_or c.totals 14 0 ∷ get_or c.totals 15 0 ∷ []
       → e.chroma ≡ get_or c.chroma_totals 2 0 ∷ get_or c.chroma_totals 3 0 ∷ get_or c.chroma_totals 6 0 ∷ get_or c.chroma_totals 7 0 ∷ []
-      → e.modes ≡ get_or c.modes 10 0 ∷ get_or c.modes 11 0 ∷ get_or c.modes 14 0 ∷ get_or c.modes 15 0 ∷ []
+      → e.modes ≡ get_or c.modes 10 Vertical ∷ get_or c.modes 11 Vertical ∷ get_or c.modes 14 Vertical ∷ get_or c.modes 15 Vertical ∷ []
       → e.motions ≡ get_or c.motions 10 None ∷ get_or c.motions 11 None ∷ get_or c.motions 14 None ∷ get_or c.motions 15 None ∷ []
       → Lower e m
   unfolding number_of chroma_number_of
@@ -108,13 +109,13 @@ module _ (c : Contexts) (m : CodedMacroblock) (s : AreContexts c m) (all : lengt
       (by-two-two (λ c k. chroma_number_of c k 1 < 8) (lit< tt) (lit< tt) (lit< tt) (lit< tt)) es ei eq
       (by-four (λ k. get_or e.totals k 0 ≡ get_or c.totals (number_of k 3) 0) (rw et refl) (rw et refl) (rw et refl) (rw et refl))
       (by-two-two (λ b k. get_or e.chroma (b * 2 + k) 0 ≡ get_or c.chroma_totals (chroma_number_of b k 1) 0) (rw eb refl) (rw eb refl) (rw eb refl) (rw eb refl))
-      (by-four (λ k. get_or e.modes k 0 ≡ get_or c.modes (number_of k 3) 0) (rw em refl) (rw em refl) (rw em refl) (rw em refl))
+      (by-four (λ k. get_or e.modes k Vertical ≡ get_or c.modes (number_of k 3) Vertical) (rw em refl) (rw em refl) (rw em refl) (rw em refl))
       (by-four (λ k. get_or e.motions k None ≡ get_or c.motions (number_of k 3) None) (rw ev refl) (rw ev refl) (rw ev refl) (rw ev refl))
 
   pub right-edge : (e : Edge) → e.slice ≡ c.slice → e.intra ≡ c.intra → e.qp ≡ c.qp
       → e.totals ≡ get_or c.totals 5 0 ∷ get_or c.totals 7 0 ∷ get_or c.totals 13 0 ∷ get_or c.totals 15 0 ∷ []
       → e.chroma ≡ get_or c.chroma_totals 1 0 ∷ get_or c.chroma_totals 3 0 ∷ get_or c.chroma_totals 5 0 ∷ get_or c.chroma_totals 7 0 ∷ []
-      → e.modes ≡ get_or c.modes 5 0 ∷ get_or c.modes 7 0 ∷ get_or c.modes 13 0 ∷ get_or c.modes 15 0 ∷ []
+      → e.modes ≡ get_or c.modes 5 Vertical ∷ get_or c.modes 7 Vertical ∷ get_or c.modes 13 Vertical ∷ get_or c.modes 15 Vertical ∷ []
       → e.motions ≡ get_or c.motions 5 None ∷ get_or c.motions 7 None ∷ get_or c.motions 13 None ∷ get_or c.motions 15 None ∷ []
       → Right e m
   unfolding number_of chroma_number_of
@@ -123,7 +124,7 @@ module _ (c : Contexts) (m : CodedMacroblock) (s : AreContexts c m) (all : lengt
       (by-two-two (λ c k. chroma_number_of c 1 k < 8) (lit< tt) (lit< tt) (lit< tt) (lit< tt)) es ei eq
       (by-four (λ k. get_or e.totals k 0 ≡ get_or c.totals (number_of 3 k) 0) (rw et refl) (rw et refl) (rw et refl) (rw et refl))
       (by-two-two (λ b k. get_or e.chroma (b * 2 + k) 0 ≡ get_or c.chroma_totals (chroma_number_of b 1 k) 0) (rw eb refl) (rw eb refl) (rw eb refl) (rw eb refl))
-      (by-four (λ k. get_or e.modes k 0 ≡ get_or c.modes (number_of 3 k) 0) (rw em refl) (rw em refl) (rw em refl) (rw em refl))
+      (by-four (λ k. get_or e.modes k Vertical ≡ get_or c.modes (number_of 3 k) Vertical) (rw em refl) (rw em refl) (rw em refl) (rw em refl))
       (by-four (λ k. get_or e.motions k None ≡ get_or c.motions (number_of 3 k) None) (rw ev refl) (rw ev refl) (rw ev refl) (rw ev refl))
 
 -- an edge where there is a macroblock

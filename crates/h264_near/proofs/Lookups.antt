@@ -6,6 +6,8 @@ use Rattle.std.proofs.Math.Nat.{mod-lt}
 use Rattle.h264_near.specs.declared.near.Near.{Near}
 use Rattle.h264_near.specs.Along.{edge_total, edge_chroma, edge_mode, edge_motion, edge_side}
 use Rattle.h264_near.specs.Strength.{side_part}
+use Rattle.h264_intra.specs.declared.luma4.Intra4x4PredMode.{Intra4x4PredMode}
+use Rattle.h264_intra.specs.declared.luma4.Intra4x4PredMode.TheVariants.{Vertical}
 use Rattle.h264_near.specs.Coded.{CodedMacroblock, number_of, chroma_number_of, column_of, row_of, total_part, chroma_part, mode_part, motion_part}
 use Rattle.h264_near.specs.Intra.{with_totals, with_modes}
 use Rattle.h264_near.specs.Motions.{with_motions, neighbour}
@@ -50,7 +52,7 @@ same_chroma : (slice c x y : ℕ) (totals : List ℕ) → chroma_part slice c x 
 unfolding chroma_part
 same_chroma slice c x y totals = rw (eq-eqb slice slice refl) refl
 
-same_mode : (slice : ℕ) (constrained : Bool) (x y : ℕ) (modes : List ℕ) → mode_part slice constrained x y (with_modes slice modes) ≡ slice_get modes (number_of x y)
+same_mode : (slice : ℕ) (constrained : Bool) (x y : ℕ) (modes : List Intra4x4PredMode) → mode_part slice constrained x y (with_modes slice modes) ≡ slice_get modes (number_of x y)
 unfolding mode_part
 same_mode slice constrained x y modes = rw (eq-eqb slice slice refl) refl
 
@@ -72,8 +74,8 @@ module _ (width : ℕ) (picture : List CodedMacroblock) (slice : ℕ) (some : 0 
   pub chroma-own : (totals : List ℕ) (b c x y i j n : ℕ) → i ≡ suc x → j ≡ suc y → n ≡ chroma_number_of c x y → x < 2 → y < 2 → n < b → b ≤ length totals → Some (get_or totals n 0) ≡ around 2 (chroma_part slice c) width picture (with_totals slice [] (take b totals)) i j
   chroma-own totals b c x y i j n ei ej en hx hy h k = rw (ei, ej) (sym (own 2 (chroma_part slice c) width picture (with_totals slice [] (take b totals)) some two x y hx hy ∙ same_chroma slice c x y (take b totals) ∙ rw (sym en) (taken 0 totals b n h k)))
 
-  pub mode-own : (constrained : Bool) (modes : List ℕ) (b x y i j : ℕ) → i ≡ suc x → j ≡ suc y → x < 4 → y < 4 → number_of x y < b → b ≤ length modes → Some (get_or modes (number_of x y) 0) ≡ around 4 (mode_part slice constrained) width picture (with_modes slice (take b modes)) i j
-  mode-own constrained modes b x y i j ei ej hx hy h k = rw (ei, ej) (sym (own 4 (mode_part slice constrained) width picture (with_modes slice (take b modes)) some four x y hx hy ∙ same_mode slice constrained x y (take b modes) ∙ taken 0 modes b (number_of x y) h k))
+  pub mode-own : (constrained : Bool) (modes : List Intra4x4PredMode) (b x y i j : ℕ) → i ≡ suc x → j ≡ suc y → x < 4 → y < 4 → number_of x y < b → b ≤ length modes → Some (get_or modes (number_of x y) Vertical) ≡ around 4 (mode_part slice constrained) width picture (with_modes slice (take b modes)) i j
+  mode-own constrained modes b x y i j ei ej hx hy h k = rw (ei, ej) (sym (own 4 (mode_part slice constrained) width picture (with_modes slice (take b modes)) some four x y hx hy ∙ same_mode slice constrained x y (take b modes) ∙ taken Vertical modes b (number_of x y) h k))
 
   pub above-edge : (near : Near) → Keeps width picture near → IsEdge Lower (get_or near.above.items near.column None) (last_in width picture (length picture % width))
   above-edge near k = rw k.column (k.above (length picture % width) (mod-lt (length picture) some))

@@ -1,6 +1,7 @@
 -- What neighbours need of a skipped macroblock.
-use Rattle.std.proofs.Common.{ℕ, replicate, Some, None, false, refl}
+use Rattle.std.proofs.Common.{replicate, Some, None, false, refl}
 use Rattle.std.proofs.lemmas.List.{get_or-replicate}
+use Rattle.h264_intra.specs.declared.luma4.Intra4x4PredMode.TheVariants.{Dc, Vertical}
 use Rattle.h264_near.specs.declared.context.Contexts.{Contexts}
 use Rattle.h264_near.specs.declared.skipped.Skipped.{Skipped}
 use Rattle.h264_near.specs.Coded.{CodedMacroblock}
@@ -15,7 +16,7 @@ contexts_of s = record {
   qp = s.qp;
   totals = replicate 16 0;
   chroma_totals = replicate 8 0;
-  modes = replicate 16 2;
+  modes = replicate 16 Dc;
   motions = replicate 16 (Some s.motion);
 }
 
@@ -26,6 +27,6 @@ skipped-contexts s m i = record {
   qp = rw i.prediction i.qp;
   totals = i.totals;
   chroma_totals = i.chroma_totals;
-  modes = λ n h. rw (i.prediction, get_or-replicate {A = ℕ} 16 n 2 0 h) refl;
+  modes = λ n h. rw (i.prediction, get_or-replicate 16 n Dc Vertical h) refl;
   motions = λ n h. rw (i.prediction, get_or-replicate 16 n (Some s.motion) None h) refl;
 }

@@ -1,5 +1,7 @@
 -- bS of pairs that were worked by hand.
 use Rattle.std.proofs.Common.{◌≡◌, ℕ, Some, None, refl, pos, replicate, [], ◌∷◌}
+use Rattle.h264_intra.specs.declared.luma16.Intra16x16PredMode.TheVariants as luma
+use Rattle.h264_intra.specs.declared.chroma.IntraChromaPredMode.TheVariants as chroma
 use Rattle.h264_near.specs.Coded.{CodedMacroblock, Inter, Intra16x16, no_residual, number_of}
 use Rattle.h264_near.specs.Place.{part_at}
 use Rattle.h264_near.specs.Strength.{side_part, strength_of, strength}
@@ -9,7 +11,7 @@ abbrev moved : ℕ → ℕ → ℕ → ℕ → CodedMacroblock
 moved slice picture x total = record { slice = slice; prediction = Inter (replicate 16 (Some (record { ref_idx = 0; picture = picture; vector = record { x = pos x; y = pos 0 } }))); qp = 26; totals = replicate 16 total; chroma_totals = replicate 8 0; residual = no_residual }
 
 abbrev still : CodedMacroblock
-still = record { slice = 0; prediction = Intra16x16 2 0; qp = 26; totals = replicate 16 0; chroma_totals = replicate 8 0; residual = no_residual }
+still = record { slice = 0; prediction = Intra16x16 luma.Dc chroma.Dc; qp = 26; totals = replicate 16 0; chroma_totals = replicate 8 0; residual = no_residual }
 
 -- inside a macroblock without coefficients nothing is filtered; at its edges by pictures and vectors, across slices too; 2 by coefficients; 4 and 3 by intra
 pub pairs : (strength 2 (moved 0 7 0 0 ∷ moved 1 7 3 0 ∷ []) 2 1 3 1 ≡ Some 0) × (strength 2 (moved 0 7 0 0 ∷ moved 1 7 3 0 ∷ []) 4 1 5 1 ≡ Some 0) × (strength 2 (moved 0 7 0 0 ∷ moved 1 7 4 0 ∷ []) 4 1 5 1 ≡ Some 1) × (strength 2 (moved 0 7 0 0 ∷ moved 1 8 0 0 ∷ []) 4 1 5 1 ≡ Some 1) × (strength 2 (moved 0 7 0 0 ∷ moved 1 7 0 1 ∷ []) 4 1 5 1 ≡ Some 2) × (strength 2 (moved 0 7 0 0 ∷ still ∷ []) 4 1 5 1 ≡ Some 4) × (strength 2 (moved 0 7 0 0 ∷ still ∷ []) 5 1 6 1 ≡ Some 3) × (strength 2 (still ∷ []) 4 1 5 1 ≡ None)

@@ -2,14 +2,18 @@
 use Rattle.std.specs.Prelude.{ℕ, ◌+◌, ◌*◌, ◌/◌, ◌%◌, Bool, true, false, not, List, [], Option, Some, None, ℤ, ◌==◌, ◌&&◌, ◌||◌, if◌then◌else◌, slice_get}
 use Rattle.std.specs.Option.{option_map}
 use Rattle.std.proofs.Common.{get_or}
+use Rattle.h264_intra.specs.declared.luma4.Intra4x4PredMode.{Intra4x4PredMode}
+use Rattle.h264_intra.specs.declared.luma4.Intra4x4PredMode.TheVariants.{Dc}
+use Rattle.h264_intra.specs.declared.luma16.Intra16x16PredMode.{Intra16x16PredMode}
+use Rattle.h264_intra.specs.declared.chroma.IntraChromaPredMode.{IntraChromaPredMode}
 use Rattle.h264_near.specs.declared.motion.Motion.{Motion}
 
 -- how a macroblock is predicted; blocks are 4x4 luma blocks by their number (6.4.3)
 pub data Prediction : Type 0 where
-  -- Intra4x4PredMode of each block that is decoded, and intra_chroma_pred_mode
-  Intra4x4 : List ℕ → ℕ → Prediction
-  -- Intra16x16PredMode, and intra_chroma_pred_mode
-  Intra16x16 : ℕ → ℕ → Prediction
+  -- Intra4x4PredMode of each block that is decoded (Table 8-2), and intra_chroma_pred_mode (Table 8-5)
+  Intra4x4 : List Intra4x4PredMode → IntraChromaPredMode → Prediction
+  -- Intra16x16PredMode (Table 8-4), and intra_chroma_pred_mode
+  Intra16x16 : Intra16x16PredMode → IntraChromaPredMode → Prediction
   -- I_PCM: its samples, Y, then Cb, then Cr
   Pcm : List ℕ → Prediction
   -- the reference and vector of each block, nothing where they are not derived yet
@@ -61,12 +65,12 @@ is_intra (Intra16x16 mode chroma) = true
 is_intra (Pcm samples) = true
 is_intra (Inter motions) = false
 
--- the mode that a block has for its neighbours' predicted modes (8.3.1.1): 2, DC, in macroblocks that are not I_4x4
-abbrev pub mode_in : Prediction → ℕ → Option ℕ
+-- the mode that a block has for its neighbours' predicted modes (8.3.1.1): DC in macroblocks that are not I_4x4
+abbrev pub mode_in : Prediction → ℕ → Option Intra4x4PredMode
 mode_in (Intra4x4 modes chroma) n = slice_get modes n
-mode_in (Intra16x16 mode chroma) n = Some 2
-mode_in (Pcm samples) n = Some 2
-mode_in (Inter motions) n = Some 2
+mode_in (Intra16x16 mode chroma) n = Some Dc
+mode_in (Pcm samples) n = Some Dc
+mode_in (Inter motions) n = Some Dc
 
 -- what a block that is decoded is predicted from; nothing in intra macroblocks
 abbrev pub motion_in : Prediction → ℕ → Option (Option Motion)
@@ -83,7 +87,7 @@ unfoldable pub chroma_part : ℕ → ℕ → ℕ → ℕ → CodedMacroblock →
 chroma_part slice c x y m = if m.slice == slice then slice_get m.chroma_totals (chroma_number_of c x y) else None
 
 -- its mode, where its samples may be used for intra prediction: not those of inter macroblocks under constrained_intra_pred_flag
-unfoldable pub mode_part : ℕ → Bool → ℕ → ℕ → CodedMacroblock → Option ℕ
+unfoldable pub mode_part : ℕ → Bool → ℕ → ℕ → CodedMacroblock → Option Intra4x4PredMode
 mode_part slice constrained x y m = if m.slice == slice && (is_intra m.prediction || not constrained) then mode_in m.prediction (number_of x y) else None
 
 unfoldable pub motion_part : ℕ → ℕ → ℕ → CodedMacroblock → Option (Option Motion)

@@ -1,17 +1,21 @@
 -- What a macroblock takes from its neighbours: nC, predicted intra modes, and which samples there are. A working form.
-use Rattle.std.specs.Prelude.{ℕ, suc, ◌+◌, ◌/◌, ◌%◌, min, Bool, List, [], length, Option, Some, None}
+use Rattle.std.specs.Prelude.{ℕ, suc, ◌+◌, ◌/◌, ◌%◌, nat_le, Bool, List, [], length, Option, Some, None, if◌then◌else◌}
 use Rattle.std.specs.Option.{is_some}
+use Rattle.h264_intra.specs.declared.luma4.Intra4x4PredMode.{Intra4x4PredMode}
+use Rattle.h264_intra.specs.declared.luma4.Intra4x4PredMode.TheVariants.{Dc}
+use Rattle.h264_intra.specs.declared.chroma.IntraChromaPredMode.TheVariants as chroma_mode
+use Rattle.h264_intra.specs.declared.sides.Sides.{Sides}
+use Rattle.h264_intra.specs.Luma4.{number4}
 use Rattle.h264_near.specs.Coded.{CodedMacroblock, Intra4x4, Inter, no_residual, total_part, chroma_part, mode_part, column_of, row_of}
 use Rattle.h264_near.specs.Place.{around}
-use Rattle.h264_near.specs.declared.samples.Samples.{Samples}
 
 -- the macroblock that is being decoded, as far as these totals, or these modes, are
 abbrev pub with_totals : ℕ → List ℕ → List ℕ → CodedMacroblock
 with_totals slice totals chroma_totals =
     record { slice = slice; prediction = Inter []; qp = 0; totals = totals; chroma_totals = chroma_totals; residual = no_residual }
 
-abbrev pub with_modes : ℕ → List ℕ → CodedMacroblock
-with_modes slice modes = record { slice = slice; prediction = Intra4x4 modes 0; qp = 0; totals = []; chroma_totals = []; residual = no_residual }
+abbrev pub with_modes : ℕ → List Intra4x4PredMode → CodedMacroblock
+with_modes slice modes = record { slice = slice; prediction = Intra4x4 modes chroma_mode.Dc; qp = 0; totals = []; chroma_totals = []; residual = no_residual }
 
 -- nC of nA and nB (9.2.1)
 abbrev pub mean : Option ℕ → Option ℕ → ℕ
@@ -37,15 +41,15 @@ chroma_nc width picture slice totals =
     let y = length totals / 2 % 2 in
     mean (around 2 part width picture current x (suc y)) (around 2 part width picture current (suc x) y)
 
--- predIntra4x4PredMode from those of A and B (8.3.1.1)
-abbrev pub lesser_mode : Option ℕ → Option ℕ → ℕ
-lesser_mode None None = 2
-lesser_mode None (Some b) = 2
-lesser_mode (Some a) None = 2
-lesser_mode (Some a) (Some b) = min a b
+-- predIntra4x4PredMode from those of A and B (8.3.1.1): the one of the lesser number
+abbrev pub lesser_mode : Option Intra4x4PredMode → Option Intra4x4PredMode → Intra4x4PredMode
+lesser_mode None None = Dc
+lesser_mode None (Some b) = Dc
+lesser_mode (Some a) None = Dc
+lesser_mode (Some a) (Some b) = if nat_le (number4 a) (number4 b) then a else b
 
 -- the predicted mode of the block after those with these modes
-unfoldable pub predicted_mode : ℕ → List CodedMacroblock → ℕ → Bool → List ℕ → ℕ
+unfoldable pub predicted_mode : ℕ → List CodedMacroblock → ℕ → Bool → List Intra4x4PredMode → Intra4x4PredMode
 predicted_mode width picture slice constrained modes =
     let current = with_modes slice modes in
     let x = column_of (length modes) in
@@ -54,7 +58,7 @@ predicted_mode width picture slice constrained modes =
     (around 4 (mode_part slice constrained) width picture current (suc x) y)
 
 -- which of the samples above, to the left and at the corner the block after those with these modes can be predicted from (8.3.1.2)
-unfoldable pub block_samples : ℕ → List CodedMacroblock → ℕ → Bool → List ℕ → Samples
+unfoldable pub block_samples : ℕ → List CodedMacroblock → ℕ → Bool → List Intra4x4PredMode → Sides
 block_samples width picture slice constrained modes =
     let current = with_modes slice modes in
     let x = column_of (length modes) in
@@ -66,5 +70,5 @@ block_samples width picture slice constrained modes =
     }
 
 -- the same of the whole macroblock (8.3.3, 8.3.4)
-unfoldable pub macroblock_samples : ℕ → List CodedMacroblock → ℕ → Bool → Samples
+unfoldable pub macroblock_samples : ℕ → List CodedMacroblock → ℕ → Bool → Sides
 macroblock_samples width picture slice constrained = block_samples width picture slice constrained []

@@ -1,6 +1,7 @@
 -- What the row of contexts, the left column and the corner hold. A working form.
 use Rattle.std.specs.Prelude.{◌≡◌, ℕ, ◌+◌, ◌*◌, ◌%◌, ◌<◌, List, length, Option, Some, None, vec_len, slice_get}
 use Rattle.std.proofs.Common.{get_or}
+use Rattle.h264_intra.specs.declared.luma4.Intra4x4PredMode.TheVariants.{Vertical}
 use Rattle.h264_near.specs.declared.context.Contexts.{Contexts}
 use Rattle.h264_near.specs.declared.context.Edge.{Edge}
 use Rattle.h264_near.specs.declared.near.Near.{Near}
@@ -19,7 +20,7 @@ pub record AreContexts (c : Contexts) (m : CodedMacroblock) : Type 0 where
   pub qp : filter_qp_of m.prediction m.qp ≡ c.qp
   pub totals : m.totals ≡ c.totals
   pub chroma_totals : m.chroma_totals ≡ c.chroma_totals
-  pub modes : (n : ℕ) → n < 16 → mode_in m.prediction n ≡ Some (get_or c.modes n 0)
+  pub modes : (n : ℕ) → n < 16 → mode_in m.prediction n ≡ Some (get_or c.modes n Vertical)
   pub motions : (n : ℕ) → n < 16 → motion_in m.prediction n ≡ Some (get_or c.motions n None)
 
 -- an edge holds these blocks of the macroblock
@@ -29,7 +30,7 @@ pub record Borders (luma : ℕ → ℕ) (chroma : ℕ → ℕ → ℕ) (e : Edge
   pub qp : filter_qp_of m.prediction m.qp ≡ e.qp
   pub totals : (k : ℕ) → k < 4 → slice_get m.totals (luma k) ≡ Some (get_or e.totals k 0)
   pub chroma_totals : (c k : ℕ) → c < 2 → k < 2 → slice_get m.chroma_totals (chroma c k) ≡ Some (get_or e.chroma (c * 2 + k) 0)
-  pub modes : (k : ℕ) → k < 4 → mode_in m.prediction (luma k) ≡ Some (get_or e.modes k 0)
+  pub modes : (k : ℕ) → k < 4 → mode_in m.prediction (luma k) ≡ Some (get_or e.modes k Vertical)
   pub motions : (k : ℕ) → k < 4 → motion_in m.prediction (luma k) ≡ Some (get_or e.motions k None)
 
 -- an edge where there is a macroblock, and none where there is none

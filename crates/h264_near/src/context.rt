@@ -2,6 +2,7 @@
 #![tactic(auto)]
 
 use crate::motion::Motion;
+use h264_intra::Intra4x4PredMode;
 
 /// What neighbours need of a macroblock. Blocks are by their number (6.4.3).
 #[derive(Clone, Copy)]
@@ -15,8 +16,8 @@ pub struct Contexts {
     pub totals: [u8; 16],
     /// How many coefficients each chroma block has: four of Cb, then of Cr.
     pub chroma_totals: [u8; 8],
-    /// The intra mode of each luma block, 2 where it has none.
-    pub modes: [u8; 16],
+    /// Intra4x4PredMode of each luma block, DC where it has none (8.3.1.1).
+    pub modes: [Intra4x4PredMode; 16],
     /// What each luma block is predicted from; nothing in an intra macroblock.
     pub motions: [Option<Motion>; 16],
 }
@@ -30,6 +31,6 @@ pub struct Edge {
     pub totals: [u8; 4],
     /// Two of Cb, then of Cr.
     pub chroma: [u8; 4],
-    pub modes: [u8; 4],
+    pub modes: [Intra4x4PredMode; 4],
     pub motions: [Option<Motion>; 4],
 }

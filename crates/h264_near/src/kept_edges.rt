@@ -8,6 +8,7 @@ ghost use Rattle.h264_near.specs.Skips.{IsSkipped};
 
 use crate::context::{Contexts, Edge};
 use crate::skipped::Skipped;
+use h264_intra::Intra4x4PredMode;
 
 /// An edge before anything is written to it.
 const NO_EDGE: Edge = Edge {
@@ -16,7 +17,7 @@ const NO_EDGE: Edge = Edge {
     qp: 0,
     totals: [0; 4],
     chroma: [0; 4],
-    modes: [0; 4],
+    modes: [Intra4x4PredMode::Dc; 4],
     motions: [None; 4],
 };
 
@@ -75,7 +76,7 @@ fn write_skipped(edge: &mut Edge, m: &Skipped)
     edge.qp = m.qp;
     edge.totals = [0; 4];
     edge.chroma = [0; 4];
-    edge.modes = [2; 4];
+    edge.modes = [Intra4x4PredMode::Dc; 4];
     edge.motions[0] = Some(m.motion);
     edge.motions[1] = Some(m.motion);
     edge.motions[2] = Some(m.motion);

@@ -12,7 +12,6 @@ mod lookup;
 pub mod motion;
 pub mod near;
 pub mod partition;
-pub mod samples;
 pub mod sides;
 pub mod skipped;
 #[cfg(test)]
@@ -22,6 +21,5 @@ pub use context::{Contexts, Edge};
 pub use motion::{Motion, Vector};
 pub use near::Near;
 pub use partition::{Partition, SubPartition};
-pub use samples::Samples;
 pub use sides::{Side, side_of, strength};
 pub use skipped::Skipped;

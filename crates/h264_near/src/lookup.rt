@@ -9,6 +9,7 @@ ghost use Rattle.h264_near.specs.Along.{edge_total, edge_chroma, edge_mode, edge
 use crate::context::Edge;
 use crate::motion::Motion;
 use crate::sides::Side;
+use h264_intra::Intra4x4PredMode;
 
 #[inline(always)]
 pub(crate) fn total_along(edge: &Option<Edge>, slice: u32, k: usize) -> Option<u8>
@@ -46,7 +47,12 @@ pub(crate) fn chroma_along(edge: &Option<Edge>, slice: u32, c: usize, k: usize) 
 }
 
 #[inline(always)]
-pub(crate) fn mode_along(edge: &Option<Edge>, slice: u32, constrained: bool, k: usize) -> Option<u8>
+pub(crate) fn mode_along(
+    edge: &Option<Edge>,
+    slice: u32,
+    constrained: bool,
+    k: usize,
+) -> Option<Intra4x4PredMode>
     requires { k < 4 }
     ensures { result ≡ edge_mode slice constrained k edge.now }
 {
@@ -103,16 +109,25 @@ pub(crate) fn mean(left: Option<u8>, above: Option<u8>) -> u8
     }
 }
 
-/// The predicted mode from those of A and B.
+/// The predicted mode from those of A and B: the one of the lesser number, and DC where A or B has none.
 #[inline(always)]
-pub(crate) fn lesser_mode(left: Option<u8>, above: Option<u8>) -> u8
+pub(crate) fn lesser_mode(
+    left: Option<Intra4x4PredMode>,
+    above: Option<Intra4x4PredMode>,
+) -> Intra4x4PredMode
     ensures { result ≡ lesser_mode_of left above }
 {
     match (left, above) {
-        (Some(left), Some(above)) => left.min(above),
-        (None, None) => 2,
-        (None, Some(_)) => 2,
-        (Some(_), None) => 2,
+        (Some(left), Some(above)) => {
+            if left.number() <= above.number() {
+                left
+            } else {
+                above
+            }
+        }
+        (None, None) => Intra4x4PredMode::Dc,
+        (None, Some(_)) => Intra4x4PredMode::Dc,
+        (Some(_), None) => Intra4x4PredMode::Dc,
     }
 }
 

@@ -3,7 +3,7 @@
 
 ghost use Rattle.std.specs.Prelude.{◌≡◌, ℕ, suc, ◌+◌, ◌/◌, ◌%◌, ◌<◌, ◌≤◌, List, [], ◌∷◌, ◌++◌, take, length, vec_len, IfOk, is_some, None};
 ghost use Rattle.h264_near.specs.Coded.{CodedMacroblock, total_part, chroma_part, mode_part, motion_part, column_of, row_of};
-ghost use Rattle.h264_near.specs.Intra.{with_totals, with_modes, luma_nc, chroma_nc as chroma_nc_of, predicted_mode, block_samples};
+ghost use Rattle.h264_near.specs.Intra.{with_totals, with_modes, luma_nc, chroma_nc as chroma_nc_of, predicted_mode, block_samples, macroblock_samples};
 ghost use Rattle.h264_near.specs.Place.{around};
 ghost use Rattle.h264_near.specs.Motions.{neighbour};
 ghost use Rattle.h264_near.specs.Raster.{last_in, last_left};
@@ -16,9 +16,9 @@ use crate::lookup::{
     chroma_along, derived, lesser_mode, mean, mode_along, motion_along, side_along, total_along,
 };
 use crate::motion::Motion;
-use crate::samples::Samples;
 use crate::sides::Side;
 use crate::skipped::Skipped;
+use h264_intra::{Intra4x4PredMode, Sides};
 use std::alloc::{AllocError, Global};
 
 /// The row of contexts above the next macroblock, the column to its left and the corner.
@@ -152,7 +152,13 @@ impl Near {
     }
 
     #[inline(always)]
-    fn left_mode(&self, slice: u32, constrained: bool, modes: &[u8; 16], b: usize) -> Option<u8>
+    fn left_mode(
+        &self,
+        slice: u32,
+        constrained: bool,
+        modes: &[Intra4x4PredMode; 16],
+        b: usize,
+    ) -> Option<Intra4x4PredMode>
         requires { b < 16 }
         ensures { (width : ℕ) (picture : List CodedMacroblock) → Keeps width picture self.now →
             result ≡ around 4 (mode_part slice constrained) width picture (with_modes slice (take b modes.now)) (column_of b) (suc (row_of b)) }
@@ -164,7 +170,13 @@ impl Near {
     }
 
     #[inline(always)]
-    fn upper_mode(&self, slice: u32, constrained: bool, modes: &[u8; 16], b: usize) -> Option<u8>
+    fn upper_mode(
+        &self,
+        slice: u32,
+        constrained: bool,
+        modes: &[Intra4x4PredMode; 16],
+        b: usize,
+    ) -> Option<Intra4x4PredMode>
         requires { b < 16 }
         ensures { (width : ℕ) (picture : List CodedMacroblock) → Keeps width picture self.now →
             result ≡ around 4 (mode_part slice constrained) width picture (with_modes slice (take b modes.now)) (suc (column_of b)) (row_of b) }
@@ -176,7 +188,13 @@ impl Near {
     }
 
     #[inline(always)]
-    fn corner_mode(&self, slice: u32, constrained: bool, modes: &[u8; 16], b: usize) -> Option<u8>
+    fn corner_mode(
+        &self,
+        slice: u32,
+        constrained: bool,
+        modes: &[Intra4x4PredMode; 16],
+        b: usize,
+    ) -> Option<Intra4x4PredMode>
         requires { b < 16 }
         ensures { (width : ℕ) (picture : List CodedMacroblock) → Keeps width picture self.now →
             result ≡ around 4 (mode_part slice constrained) width picture (with_modes slice (take b modes.now)) (column_of b) (row_of b) }
@@ -198,7 +216,13 @@ impl Near {
     /// The predicted mode of a 4x4 block, from the modes of the blocks before it in its macroblock (8.3.1.1).
     /// `constrained` is constrained_intra_pred_flag.
     #[inline]
-    pub fn mode(&self, slice: u32, constrained: bool, modes: &[u8; 16], b: usize) -> u8
+    pub fn mode(
+        &self,
+        slice: u32,
+        constrained: bool,
+        modes: &[Intra4x4PredMode; 16],
+        b: usize,
+    ) -> Intra4x4PredMode
         requires { b < 16 }
         ensures { (width : ℕ) (picture : List CodedMacroblock) → Keeps width picture self.now →
             result ≡ predicted_mode width picture slice constrained (take b modes.now) }
@@ -208,9 +232,15 @@ impl Near {
         lesser_mode(left, above)
     }
 
-    /// Which samples around a 4x4 block there are to predict from (8.3.1.2); those around block 0 are those of the macroblock.
+    /// Which samples around a 4x4 block there are to predict from (8.3.1.2).
     #[inline]
-    pub fn samples(&self, slice: u32, constrained: bool, modes: &[u8; 16], b: usize) -> Samples
+    pub fn samples(
+        &self,
+        slice: u32,
+        constrained: bool,
+        modes: &[Intra4x4PredMode; 16],
+        b: usize,
+    ) -> Sides
         requires { b < 16 }
         ensures { (width : ℕ) (picture : List CodedMacroblock) → Keeps width picture self.now →
             result ≡ block_samples width picture slice constrained (take b modes.now) }
@@ -218,11 +248,19 @@ impl Near {
         let above = self.upper_mode(slice, constrained, modes, b);
         let left = self.left_mode(slice, constrained, modes, b);
         let corner = self.corner_mode(slice, constrained, modes, b);
-        Samples {
-            above: above.is_some(),
+        Sides {
             left: left.is_some(),
+            above: above.is_some(),
             corner: corner.is_some(),
         }
+    }
+
+    /// Which samples around the macroblock there are to predict from (8.3.3, 8.3.4).
+    #[inline]
+    pub fn macroblock_samples(&self, slice: u32, constrained: bool) -> Sides
+        ensures { (width : ℕ) (picture : List CodedMacroblock) → Keeps width picture self.now → result ≡ macroblock_samples width picture slice constrained }
+    {
+        self.samples(slice, constrained, &[Intra4x4PredMode::Dc; 16], 0)
     }
 
     /// What stands in the row above: column 0 is the corner, 1 to 4 stand above, 5 to the right of these.

@@ -3,6 +3,7 @@
 
 use crate::block::{column, number, row};
 use crate::{Contexts, Motion, Near, Side, Skipped, Vector, side_of, strength};
+use h264_intra::Intra4x4PredMode;
 use std::process::Abort;
 use std::test::Fail;
 
@@ -14,7 +15,7 @@ fn macroblock(intra: bool, motion: Option<Motion>) -> Contexts {
         qp: 26,
         totals: [0, 1, 2, 3, 4, 5, 6, 7, 8, 9, 10, 11, 12, 13, 14, 15],
         chroma_totals: [3; 8],
-        modes: [1; 16],
+        modes: [Intra4x4PredMode::Horizontal; 16],
         motions: [motion; 16],
     }
 }
@@ -24,6 +25,12 @@ const MOVED: Motion = Motion {
     picture: 7,
     vector: Vector { x: 4, y: -8 },
 };
+
+const VERTICAL: Intra4x4PredMode = Intra4x4PredMode::Vertical;
+
+const DC: Intra4x4PredMode = Intra4x4PredMode::Dc;
+
+const UP: Intra4x4PredMode = Intra4x4PredMode::HorizontalUp;
 
 #[test]
 fn numbers(rt: HostRuntime) {
@@ -68,7 +75,7 @@ fn a_skipped_macroblock_beside(rt: HostRuntime) -> Result<(), Fail> {
         motion: MOVED,
     });
     assert_eq!(rt; near.nc(0, &[9; 16], 0), 0);
-    assert_eq!(rt; near.mode(0, false, &[9; 16], 2), 2);
+    assert_eq!(rt; near.mode(0, false, &[UP; 16], 2), DC);
     let beside = near.neighbour(0, &[None; 16], 0, 1);
     assert_eq!(rt; parts_of(beside.unwrap_or(None)), Some((7, 1, 4, -8)));
     let side = near.left_side(3);
@@ -94,7 +101,11 @@ fn ncs_are(rt: &impl Abort, near: &Near, rows: &[(u32, u8, usize, u8)]) {
 }
 
 /// constrained_intra_pred_flag, the mode of each block of the macroblock itself, a block, and the mode that is predicted.
-fn modes_are(rt: &impl Abort, near: &Near, rows: &[(bool, u8, usize, u8)]) {
+fn modes_are(
+    rt: &impl Abort,
+    near: &Near,
+    rows: &[(bool, Intra4x4PredMode, usize, Intra4x4PredMode)],
+) {
     for (constrained, modes, b, expected) in rows {
         assert!(rt; *b < 16);
         let found = near.mode(0, *constrained, &[*modes; 16], *b);
@@ -104,18 +115,18 @@ fn modes_are(rt: &impl Abort, near: &Near, rows: &[(bool, u8, usize, u8)]) {
 
 // Blocks of the macroblock itself are there.
 fn nothing_is_around(rt: &impl Abort, near: &Near) {
-    let samples = near.samples(0, false, &[0; 16], 0);
+    let samples = near.samples(0, false, &[VERTICAL; 16], 0);
     assert!(rt; !samples.above && !samples.left && !samples.corner);
     assert!(rt; near.left_edge().is_none() && near.above_edge().is_none());
     ncs_are(rt, near, &[(0, 0, 0, 0), (0, 6, 3, 6)]);
-    modes_are(rt, near, &[(false, 0, 0, 2), (false, 8, 3, 8)]);
+    modes_are(rt, near, &[(false, VERTICAL, 0, DC), (false, UP, 3, UP)]);
 }
 
 // Block 5 stands to the left of block 0, block 13 to the left of block 8. Nothing stands above, so the mode is DC; nor is a
 // macroblock of another slice to the left.
 fn the_left_is_there(rt: &impl Abort, near: &Near) {
     ncs_are(rt, near, &[(0, 0, 0, 5), (0, 9, 8, 11), (1, 0, 0, 0)]);
-    modes_are(rt, near, &[(false, 0, 0, 2)]);
+    modes_are(rt, near, &[(false, VERTICAL, 0, DC)]);
     assert_eq!(rt; near.chroma_nc(0, &[0; 8], 0), 3);
     assert!(rt; matches!(near.neighbour(0, &[None; 16], 0, 1), Some(None)));
 }
@@ -136,10 +147,17 @@ fn neighbours_above(rt: &impl Abort, near: &Near) {
 }
 
 fn all_sides_are_there(rt: &impl Abort, near: &Near) {
-    let samples = near.samples(0, true, &[0; 16], 0);
+    let samples = near.samples(0, true, &[VERTICAL; 16], 0);
     assert!(rt; !samples.above && samples.left && samples.corner);
     ncs_are(rt, near, &[(0, 0, 0, 8)]);
-    modes_are(rt, near, &[(false, 0, 0, 1), (true, 0, 0, 2)]);
+    modes_are(
+        rt,
+        near,
+        &[
+            (false, VERTICAL, 0, Intra4x4PredMode::Horizontal),
+            (true, VERTICAL, 0, DC),
+        ],
+    );
     assert!(rt; !near.above_right(0, false));
     match near.neighbour(0, &[None; 16], 1, 0) {
         Some(Some(motion)) => assert_eq!(rt; (motion.ref_idx, motion.vector.y), (1, -8)),

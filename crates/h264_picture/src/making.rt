@@ -61,7 +61,7 @@ fn given_within<'a>(
     ensures given { (width : ℕ) (picture : List CodedMacroblock) (place : ℕ → ℕ) (coded : CodedMacroblock) → across ≡ width →
         Keeps width picture near.now → length picture ≡ position.row * width + position.column → position.column < width →
         HoldsMacroblock read.now coded → coded.slice ≡ slice.now.number → IsPossible width slice.now picture coded.prediction →
-        ArePlaced slice.now references.now.places.now place →
+        length slice.now.references ≡ 16 → ArePlaced slice.now references.now.places.now place →
         coded_as result (levels_of slice.now.chroma_qp_index_offset coded) ≡ given_of width picture place
         (weights_by references.now.weights.now) slice.now.constrained_intra slice.now.chroma_qp_index_offset coded }
 {

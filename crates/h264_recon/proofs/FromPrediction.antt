@@ -8,19 +8,15 @@ use Rattle.h264_near.specs.Coded as coded
 use Rattle.h264_recon.specs.declared.macroblock.Motion.{Motion}
 use Rattle.h264_recon.specs.Predicted.{PcmSamples, Intra, Inter, Pcm, pcm_of}
 use Rattle.h264_recon.specs.declared.macroblock.IntraLuma.TheVariants.{Blocks, Whole}
-use Rattle.h264_intra.specs.Luma16.{mode16_of}
-use Rattle.h264_intra.specs.Chroma.{mode_chroma_of}
-use Rattle.h264_recon.specs.Given.{modes4_of, motions_of, prediction_of}
+use Rattle.h264_recon.specs.Given.{motions_of, prediction_of}
 
-pub intra-4x4 : (place : ℕ → ℕ) (p : coded.Prediction) (modes : List ℕ) (chroma : ℕ) (a : List Intra4x4PredMode) (b : IntraChromaPredMode) → p ≡ coded.Intra4x4 modes chroma → a ≡ modes4_of modes → b ≡ mode_chroma_of chroma →
-    Intra (record { luma = Blocks a; chroma = b }) ≡ prediction_of place p
+pub intra-4x4 : (place : ℕ → ℕ) (p : coded.Prediction) (modes : List Intra4x4PredMode) (chroma : IntraChromaPredMode) → p ≡ coded.Intra4x4 modes chroma → Intra (record { luma = Blocks modes; chroma = chroma }) ≡ prediction_of place p
 unfolding prediction_of
-intra-4x4 place p modes chroma a b e f g = rw (e, f, g) refl
+intra-4x4 place p modes chroma e = rw e refl
 
-pub intra-16x16 : (place : ℕ → ℕ) (p : coded.Prediction) (mode chroma : ℕ) (a : Intra16x16PredMode) (b : IntraChromaPredMode) → p ≡ coded.Intra16x16 mode chroma → a ≡ mode16_of mode → b ≡ mode_chroma_of chroma →
-    Intra (record { luma = Whole a; chroma = b }) ≡ prediction_of place p
+pub intra-16x16 : (place : ℕ → ℕ) (p : coded.Prediction) (mode : Intra16x16PredMode) (chroma : IntraChromaPredMode) → p ≡ coded.Intra16x16 mode chroma → Intra (record { luma = Whole mode; chroma = chroma }) ≡ prediction_of place p
 unfolding prediction_of
-intra-16x16 place p mode chroma a b e f g = rw (e, f, g) refl
+intra-16x16 place p mode chroma e = rw e refl
 
 pub from-pcm : (place : ℕ → ℕ) (p : coded.Prediction) (samples : List ℕ) (a : PcmSamples) → p ≡ coded.Pcm samples → a ≡ pcm_of samples → Pcm a ≡ prediction_of place p
 unfolding prediction_of

@@ -1,6 +1,9 @@
 -- The levels of a macroblock that was read are those of the coded macroblock.
 use Rattle.std.proofs.Common.{◌≡◌, ℕ, ◌+◌, ◌*◌, ◌<◌, ◌≤◌, Bool, List, [], get_or, Option, take, drop, replicate, ℤ, pos, refl, ap, sym, ◌∙◌, arith}
 use Rattle.h264_tables.specs.ChromaQp.{chroma_qp_of}
+use Rattle.h264_intra.specs.declared.luma4.Intra4x4PredMode.{Intra4x4PredMode}
+use Rattle.h264_intra.specs.declared.luma16.Intra16x16PredMode.{Intra16x16PredMode}
+use Rattle.h264_intra.specs.declared.chroma.IntraChromaPredMode.{IntraChromaPredMode}
 use Rattle.h264_near.specs.Coded as coded
 use Rattle.h264_near.specs.Coded.{CodedMacroblock}
 use Rattle.h264_mbsyntax.specs.Stored.{shown}
@@ -34,7 +37,7 @@ all-blocks size n totals stands ls l = table-ext n _ _ (λ k i. let e : 0 + k �
 
 -- ---- luma, by the prediction
 
-pub luma-4x4 : (p : coded.Prediction) (r : coded.Residual) (modes : List ℕ) (mode : ℕ) (totals ts : List ℕ) (ls : List (List ℤ)) (v : LumaLevels) → p ≡ coded.Intra4x4 modes mode → v ≡ luma_blocks ts ls → totals ≡ ts → ls ≡ blocks_from 0 16 r.luma → v ≡ luma_levels p totals r
+pub luma-4x4 : (p : coded.Prediction) (r : coded.Residual) (modes : List Intra4x4PredMode) (mode : IntraChromaPredMode) (totals ts : List ℕ) (ls : List (List ℤ)) (v : LumaLevels) → p ≡ coded.Intra4x4 modes mode → v ≡ luma_blocks ts ls → totals ≡ ts → ls ≡ blocks_from 0 16 r.luma → v ≡ luma_levels p totals r
 unfolding luma_levels
 luma-4x4 p r modes mode totals ts ls v e is t l = rw (e, is, t, l) refl
 
@@ -42,7 +45,7 @@ pub luma-inter : (p : coded.Prediction) (r : coded.Residual) (motions : _) (tota
 unfolding luma_levels
 luma-inter p r motions totals ts ls v e is t l = rw (e, is, t, l) refl
 
-pub luma-16x16 : (p : coded.Prediction) (r : coded.Residual) (mode chroma : ℕ) (totals : List ℕ) (dc : List ℤ) (ac : List (List ℤ)) → p ≡ coded.Intra16x16 mode chroma → dc ≡ r.luma_dc → ac ≡ blocks_from 0 16 r.luma →
+pub luma-16x16 : (p : coded.Prediction) (r : coded.Residual) (mode : Intra16x16PredMode) (chroma : IntraChromaPredMode) (totals : List ℕ) (dc : List ℤ) (ac : List (List ℤ)) → p ≡ coded.Intra16x16 mode chroma → dc ≡ r.luma_dc → ac ≡ blocks_from 0 16 r.luma →
     luma.WithDc (record { dc = dc; ac = ac }) ≡ luma_levels p totals r
 unfolding luma_levels
 luma-16x16 p r mode chroma totals dc ac e d l = rw (e, d, l) refl
@@ -57,11 +60,11 @@ plane : (c : ℕ) (r : coded.Residual) (totals ts : List ℕ) (dc : List ℤ) (a
     v ≡ chroma_blocks (take 4 (drop (4 * c) totals)) (get_or r.chroma_dc c []) (blocks_from (4 * c) 4 r.chroma)
 plane c r totals ts dc ac v is t d a = is ∙ ap (λ z. chroma_blocks (take 4 (drop (4 * c) z)) dc ac) (sym t) ∙ ap (λ z. chroma_blocks (take 4 (drop (4 * c) totals)) z ac) d ∙ ap (chroma_blocks (take 4 (drop (4 * c) totals)) (get_or r.chroma_dc c [])) a
 
-pub chroma-4x4 : (c : ℕ) (p : coded.Prediction) (r : coded.Residual) (modes : List ℕ) (mode : ℕ) (totals ts : List ℕ) (dc : List ℤ) (ac : List (List ℤ)) (v : ChromaLevels) → p ≡ coded.Intra4x4 modes mode → v ≡ chroma_blocks (take 4 (drop (4 * c) ts)) dc ac → totals ≡ ts → dc ≡ get_or r.chroma_dc c [] → ac ≡ blocks_from (4 * c) 4 r.chroma → v ≡ chroma_levels c p totals r
+pub chroma-4x4 : (c : ℕ) (p : coded.Prediction) (r : coded.Residual) (modes : List Intra4x4PredMode) (mode : IntraChromaPredMode) (totals ts : List ℕ) (dc : List ℤ) (ac : List (List ℤ)) (v : ChromaLevels) → p ≡ coded.Intra4x4 modes mode → v ≡ chroma_blocks (take 4 (drop (4 * c) ts)) dc ac → totals ≡ ts → dc ≡ get_or r.chroma_dc c [] → ac ≡ blocks_from (4 * c) 4 r.chroma → v ≡ chroma_levels c p totals r
 unfolding chroma_levels
 chroma-4x4 c p r modes mode totals ts dc ac v e is t d a = rw e (plane c r totals ts dc ac v is t d a)
 
-pub chroma-16x16 : (c : ℕ) (p : coded.Prediction) (r : coded.Residual) (mode chroma_mode : ℕ) (totals ts : List ℕ) (dc : List ℤ) (ac : List (List ℤ)) (v : ChromaLevels) → p ≡ coded.Intra16x16 mode chroma_mode → v ≡ chroma_blocks (take 4 (drop (4 * c) ts)) dc ac → totals ≡ ts → dc ≡ get_or r.chroma_dc c [] → ac ≡ blocks_from (4 * c) 4 r.chroma → v ≡ chroma_levels c p totals r
+pub chroma-16x16 : (c : ℕ) (p : coded.Prediction) (r : coded.Residual) (mode : Intra16x16PredMode) (chroma_mode : IntraChromaPredMode) (totals ts : List ℕ) (dc : List ℤ) (ac : List (List ℤ)) (v : ChromaLevels) → p ≡ coded.Intra16x16 mode chroma_mode → v ≡ chroma_blocks (take 4 (drop (4 * c) ts)) dc ac → totals ≡ ts → dc ≡ get_or r.chroma_dc c [] → ac ≡ blocks_from (4 * c) 4 r.chroma → v ≡ chroma_levels c p totals r
 unfolding chroma_levels
 chroma-16x16 c p r mode chroma_mode totals ts dc ac v e is t d a = rw e (plane c r totals ts dc ac v is t d a)
 

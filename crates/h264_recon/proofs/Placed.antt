@@ -1,6 +1,8 @@
 -- Motions by index and by picture.
 use Rattle.std.proofs.Common.{◌≡◌, ℕ, zero, suc, ◌/◌, ◌%◌, ◌<◌, IsTrue, List, [], ◌∷◌, length, get_or, replicate, Option, Some, None, refl, sym, ap, ◌∙◌, arith}
 use Rattle.std.specs.List.{slice_get, AllByRecursion}
+use Rattle.std.specs.Prelude.{nat_lt, Bool, true, false, if◌then◌else◌}
+use Rattle.std.proofs.lemmas.Bool.{lt-ltb, ltb-true}
 use Rattle.std.specs.Option.{option_map, option_and_then, is_some}
 use Rattle.h264_near.specs.declared.motion.Motion as derived
 use Rattle.h264_near.specs.Coded as coded
@@ -15,7 +17,7 @@ use Rattle.h264_mbsyntax.specs.Possible.{Refers}
 use Rattle.h264_recon.specs.Given.{motion_of, motions_of}
 use Rattle.h264_recon.specs.Inter.{no_motion}
 use Rattle.h264_recon.specs.Placed.{ArePlaced, IsOneOf}
-use Rattle.h264_recon.specs.Predicted.{placed_motion, placed_at, placed_motions, parted_at, parted_motions}
+use Rattle.h264_recon.specs.Predicted.{unmoved, placed_motion, placed_at, placed_motions, parted_at, parted_motions}
 use Rattle.h264_recon.specs.declared.macroblock.Motion.{Motion}
 use Rattle.h264_recon.proofs.Tables.{table-ext, table-at, table-replicate}
 
@@ -45,7 +47,11 @@ parted-one places motions = sym (table-replicate 16 (placed_motion places (get_o
 
 pub points-at : (places : List ℕ) (m : Option derived.Motion) → IsOneOf places (placed_motion places m).picture
 points-at places None = (0, omega arith, refl)
-points-at places (Some m) = (m.ref_idx % 16, omega arith, refl)
+points-at places (Some m) = by (nat_lt m.ref_idx 16) refl
+  where
+    by : (b : Bool) → nat_lt m.ref_idx 16 ≡ b → IsOneOf places (if b then record { picture = get_or places m.ref_idx 0; vector = record { x = m.vector.x; y = m.vector.y } } else unmoved places).picture
+    by true e = (m.ref_idx, ltb-true m.ref_idx 16 e, refl)
+    by false e = (0, omega arith, refl)
 
 pub points : (partition : Partition) (places : List ℕ) (motions : List (Option derived.Motion)) (n : ℕ) → n < 16 → IsOneOf places (get_or (parted_motions partition places motions) n no_motion).picture
 points partition places motions n h = rw (parted-place partition places motions n h) (points-at places (get_or motions (first_of partition (number_of (n % 4) (n / 4))) None))
@@ -70,8 +76,8 @@ placed-is : (slice : SliceContext) (places : List ℕ) (place : ℕ → ℕ) (m 
 placed-is slice places place None l a r t = absurd (grind (arith, t))
 placed-is slice places place (Some m) l a r t =
     let f = found slice.references m.ref_idx m.picture r in
-    let e : m.ref_idx % 16 ≡ m.ref_idx = let h = f.0 in omega arith in
-    rw (e, a.each m.ref_idx m.picture (let h = f.0 in omega arith) f.1) refl
+    let h : m.ref_idx < 16 = let h = f.0 in omega arith in
+    rw (lt-ltb m.ref_idx 16 h, a.each m.ref_idx m.picture h f.1) refl
 
 -- those of a whole inter macroblock
 pub motions-are : (slice : SliceContext) (places : List ℕ) (place : ℕ → ℕ) (c : Contexts) (m : CodedMacroblock) (list : List Motion) → length slice.references ≡ 16 → ArePlaced slice places place → AreContexts c m → m.prediction ≡ coded.Inter c.motions →

@@ -3,98 +3,54 @@ use Rattle.std.proofs.Common.{◌≡◌, ℕ, zero, suc, ◌+◌, ◌*◌, ◌%�
 use Rattle.std.specs.List.{slice_get}
 use Rattle.std.specs.Option.{is_some, option_and_then}
 use Rattle.std.proofs.lemmas.Bool.{lt-ltb}
+use Rattle.std.proofs.lemmas.List.{get_or_default}
 use Rattle.std.proofs.lemmas.Bool.Decides.{nat_tests}
 use Rattle.h264_plane.specs.Places.{index_of}
 use Rattle.h264_intra.specs.Luma4.{is_possible4}
 use Rattle.h264_intra.specs.Luma16.{is_possible16}
 use Rattle.h264_intra.specs.Chroma.{is_possible_chroma}
-use Rattle.h264_intra.specs.declared.luma4.Intra4x4PredMode.TheVariants.{Dc}
+use Rattle.h264_intra.specs.declared.luma4.Intra4x4PredMode.{Intra4x4PredMode}
+use Rattle.h264_intra.specs.declared.luma4.Intra4x4PredMode.TheVariants.{Vertical, Horizontal, Dc, DiagonalDownLeft, DiagonalDownRight, VerticalRight, HorizontalDown, VerticalLeft, HorizontalUp}
+use Rattle.h264_intra.specs.declared.luma16.Intra16x16PredMode.{Intra16x16PredMode}
+use Rattle.h264_intra.specs.declared.chroma.IntraChromaPredMode.{IntraChromaPredMode}
+use Rattle.h264_intra.specs.declared.sides.Sides.{Sides}
 use Rattle.h264_intra.specs.declared.sides.Sides4.{Sides4}
 use Rattle.h264_near.specs.Coded as coded
 use Rattle.h264_near.specs.Coded.{CodedMacroblock, mode_part, mode_in, is_intra, number_of, column_of, row_of}
 use Rattle.h264_near.specs.Intra.{with_modes, block_samples, macroblock_samples}
 use Rattle.h264_near.specs.Place.{around}
 use Rattle.h264_near.specs.Raster.{last_in, last_left}
-use Rattle.h264_near.specs.declared.samples.Samples.{Samples}
 use Rattle.h264_near.proofs.Neighbours.{left-of, upper-of, corner-of}
 use Rattle.h264_near.proofs.Places.{length-taken}
 use Rattle.h264_vectors.specs.declared.slice.SliceContext.{SliceContext}
-use Rattle.h264_mbsyntax.specs.Intra.{fits_block, fits_luma, fits_chroma}
+use Rattle.h264_mbsyntax.specs.Intra.{fits_block}
 use Rattle.h264_mbsyntax.specs.Possible as read
 use Rattle.h264_recon.specs.Blocks.{sides_of, sides4_of, left_there, above_there, corner_there}
 use Rattle.h264_recon.specs.Constructed.{IsPossible, IsPossibleLuma, IsAllowed, mode_at}
 use Rattle.h264_base.specs.declared.weight.Weights.{Weights}
-use Rattle.h264_intra.specs.Luma4.{mode4_of}
-use Rattle.h264_intra.specs.Luma16.{mode16_of}
-use Rattle.h264_intra.specs.Chroma.{mode_chroma_of}
-use Rattle.h264_recon.specs.Given.{available, used_by, modes4_of, prediction_of, given}
+use Rattle.h264_recon.specs.Given.{available, used_by, prediction_of, given}
 use Rattle.h264_recon.specs.declared.macroblock.IntraLuma.TheVariants.{Blocks}
-use Rattle.h264_recon.specs.Table.{table}
-use Rattle.h264_recon.proofs.Tables.{table-at}
 use Rattle.h264_recon.proofs.Within.{within, used-within}
 
 -- ---- modes
 
-three : (a b c d e f : Bool) → IsTrue (a && (b && c)) → (IsTrue a → IsTrue d) → (IsTrue b → IsTrue e) → (IsTrue c → IsTrue f) → IsTrue (d && e && f)
+three : (a b c d e f : Bool) → IsTrue (a && b && c) → (IsTrue a → IsTrue d) → (IsTrue b → IsTrue e) → (IsTrue c → IsTrue f) → IsTrue (d && e && f)
 three true true true d e f t g h k = rw (g refl, h refl, k refl) refl
 three true true false d e f t g h k = absurd (cc)
 three true false c d e f t g h k = absurd (cc)
 three false b c d e f t g h k = absurd (cc)
 
-second : (a b c : Bool) → IsTrue (a && (b && c)) → IsTrue b
-second true true c t = refl
-second true false c t = absurd (cc)
-second false b c t = absurd (cc)
-
-pub fits-4x4 : (n : ℕ) (s : Samples) (t : Sides4) → (IsTrue s.above → IsTrue t.above) → (IsTrue s.left → IsTrue t.left) → (IsTrue s.corner → IsTrue t.corner) → IsTrue (fits_block n s) → IsTrue (is_possible4 (mode4_of n) t)
+pub fits-4x4 : (mode : Intra4x4PredMode) (s : Sides) (t : Sides4) → (IsTrue s.above → IsTrue t.above) → (IsTrue s.left → IsTrue t.left) → (IsTrue s.corner → IsTrue t.corner) → IsTrue (fits_block mode s) → IsTrue (is_possible4 mode t)
 unfolding fits_block
-fits-4x4 zero s t a l c h = a h
-fits-4x4 (suc zero) s t a l c h = l h
-fits-4x4 (suc (suc zero)) s t a l c h = refl
-fits-4x4 (suc (suc (suc zero))) s t a l c h = a h
-fits-4x4 (suc (suc (suc (suc zero)))) s t a l c h = three s.above s.left s.corner t.above t.left t.corner h a l c
-fits-4x4 (suc (suc (suc (suc (suc zero))))) s t a l c h = three s.above s.left s.corner t.above t.left t.corner h a l c
-fits-4x4 (suc (suc (suc (suc (suc (suc zero)))))) s t a l c h = three s.above s.left s.corner t.above t.left t.corner h a l c
-fits-4x4 (suc (suc (suc (suc (suc (suc (suc zero))))))) s t a l c h = a h
-fits-4x4 (suc (suc (suc (suc (suc (suc (suc (suc n)))))))) s t a l c h =
-    let m = suc (suc (suc (suc (suc (suc (suc (suc n))))))) in
-    let z2 : (m == 2) ≡ false = grind (arith, nat_tests) in
-    let z0 : (m == 0) ≡ false = grind (arith, nat_tests) in
-    let z3 : (m == 3) ≡ false = grind (arith, nat_tests) in
-    let z7 : (m == 7) ≡ false = grind (arith, nat_tests) in
-    let z1 : (m == 1) ≡ false = grind (arith, nat_tests) in
-    let z4 : (m == 4) ≡ false = grind (arith, nat_tests) in
-    let z5 : (m == 5) ≡ false = grind (arith, nat_tests) in
-    let z6 : (m == 6) ≡ false = grind (arith, nat_tests) in
-    rw (z0, z1, z2, z3, z4, z5, z6, z7) (l (last (m == 8) (rw (z2, z0, z3, z7, z1) at h)))
-  where
-    last : (b : Bool) → IsTrue (if b then s.left else s.above && (s.left && s.corner)) → IsTrue s.left
-    last true h = h
-    last false h = second s.above s.left s.corner h
-
-fits-16x16 : (n : ℕ) (s : Samples) → IsTrue (fits_luma n s) → IsTrue (is_possible16 (mode16_of n) (record { left = s.left; above = s.above; corner = s.corner }))
-unfolding fits_luma
-fits-16x16 zero s h = h
-fits-16x16 (suc zero) s h = h
-fits-16x16 (suc (suc zero)) s h = refl
-fits-16x16 (suc (suc (suc n))) s h =
-    let m = suc (suc (suc n)) in
-    let z2 : (m == 2) ≡ false = grind (arith, nat_tests) in
-    let z0 : (m == 0) ≡ false = grind (arith, nat_tests) in
-    let z1 : (m == 1) ≡ false = grind (arith, nat_tests) in
-    rw (z0, z1, z2) (three s.above s.left s.corner s.above s.left s.corner (rw (z2, z0, z1) at h) (λ t. t) (λ t. t) (λ t. t))
-
-fits-chroma : (n : ℕ) (s : Samples) → IsTrue (fits_chroma n s) → IsTrue (is_possible_chroma (mode_chroma_of n) (record { left = s.left; above = s.above; corner = s.corner }))
-unfolding fits_chroma
-fits-chroma zero s h = refl
-fits-chroma (suc zero) s h = h
-fits-chroma (suc (suc zero)) s h = h
-fits-chroma (suc (suc (suc n))) s h =
-    let m = suc (suc (suc n)) in
-    let z2 : (m == 2) ≡ false = grind (arith, nat_tests) in
-    let z0 : (m == 0) ≡ false = grind (arith, nat_tests) in
-    let z1 : (m == 1) ≡ false = grind (arith, nat_tests) in
-    rw (z0, z1, z2) (three s.above s.left s.corner s.above s.left s.corner (rw (z0, z1, z2) at h) (λ t. t) (λ t. t) (λ t. t))
+fits-4x4 Vertical s t a l c h = a h
+fits-4x4 Horizontal s t a l c h = l h
+fits-4x4 Dc s t a l c h = refl
+fits-4x4 DiagonalDownLeft s t a l c h = a h
+fits-4x4 DiagonalDownRight s t a l c h = three s.above s.left s.corner t.above t.left t.corner h a l c
+fits-4x4 VerticalRight s t a l c h = three s.above s.left s.corner t.above t.left t.corner h a l c
+fits-4x4 HorizontalDown s t a l c h = three s.above s.left s.corner t.above t.left t.corner h a l c
+fits-4x4 VerticalLeft s t a l c h = a h
+fits-4x4 HorizontalUp s t a l c h = l h
 
 -- ---- a macroblock whose later block can be used can be used from its first one on
 
@@ -175,7 +131,7 @@ module _ (w : ℕ) (picture : List CodedMacroblock) (slice : ℕ) (constrained :
   corner-at current (suc x) zero h k t = let z : (suc x == 0) ≡ false = grind (arith, nat_tests) in rw z (upper current x (omega arith) t)
   corner-at current (suc x) (suc y) h k t = let z : (suc x == 0) ≡ false = grind (arith, nat_tests) in let n : nat_lt 0 (suc y) ≡ true = lt-ltb 0 (suc y) (omega arith) in rw (z, n) refl
 
-  module _ (modes : List ℕ) (x y : ℕ) (hx : x < 4) (hy : y < 4) (b : length modes ≡ index_of x y) where
+  module _ (modes : List Intra4x4PredMode) (x y : ℕ) (hx : x < 4) (hy : y < 4) (b : length modes ≡ index_of x y) where
     column : column_of (length modes) ≡ x
     unfolding column_of
     column = omega arith
@@ -198,25 +154,24 @@ module _ (w : ℕ) (picture : List CodedMacroblock) (slice : ℕ) (constrained :
 
 -- ---- the whole macroblock
 
-possible-4x4 : (w : ℕ) (slice : SliceContext) (picture : List CodedMacroblock) (modes : List ℕ) → 0 < w → length modes ≡ 16 → read.HaveSides w slice picture modes → IsPossibleLuma (Blocks (modes4_of modes)) (available w picture slice.number slice.constrained_intra)
-unfolding modes4_of
+possible-4x4 : (w : ℕ) (slice : SliceContext) (picture : List CodedMacroblock) (modes : List Intra4x4PredMode) → 0 < w → length modes ≡ 16 → read.HaveSides w slice picture modes → IsPossibleLuma (Blocks modes) (available w picture slice.number slice.constrained_intra)
 possible-4x4 w slice picture modes some long have x y hx hy =
     let b = index_of x y in
-    let small : b < 16 = omega arith in
-    let is : mode_at (table 16 (λ k. mode4_of (get_or modes k 0))) x y ≡ mode4_of (get_or modes b 0) = table-at 16 (λ k. mode4_of (get_or modes k 0)) b Dc small in
+    let small : b < length modes = omega arith in
+    let is : mode_at modes x y ≡ get_or modes b Vertical = get_or_default modes b Dc Vertical small in
     let taken : length (take b modes) ≡ b = length-taken modes b (omega arith) in
     let n = slice.number in
     let c = slice.constrained_intra in
-    rw is (fits-4x4 (get_or modes b 0) (block_samples w picture n c (take b modes)) (sides4_of (available w picture n c) x y)
-    (block-above w picture n c some (take b modes) x y hx hy taken) (block-left w picture n c some (take b modes) x y hx hy taken) (block-corner w picture n c some (take b modes) x y hx hy taken) (have b (omega arith)))
+    rw is (fits-4x4 (get_or modes b Vertical) (block_samples w picture n c (take b modes)) (sides4_of (available w picture n c) x y)
+    (block-above w picture n c some (take b modes) x y hx hy taken) (block-left w picture n c some (take b modes) x y hx hy taken) (block-corner w picture n c some (take b modes) x y hx hy taken) (have b small))
 
-possible-chroma : (w : ℕ) (slice : SliceContext) (picture : List CodedMacroblock) (mode : ℕ) → read.HasChromaSides w slice picture mode → IsTrue (is_possible_chroma (mode_chroma_of mode) (sides_of (available w picture slice.number slice.constrained_intra)))
+possible-chroma : (w : ℕ) (slice : SliceContext) (picture : List CodedMacroblock) (mode : IntraChromaPredMode) → read.HasChromaSides w slice picture mode → IsTrue (is_possible_chroma mode (sides_of (available w picture slice.number slice.constrained_intra)))
 unfolding available
-possible-chroma w slice picture mode h = fits-chroma mode (macroblock_samples w picture slice.number slice.constrained_intra) h.sides
+possible-chroma w slice picture mode h = h.sides
 
-possible-16x16 : (w : ℕ) (slice : SliceContext) (picture : List CodedMacroblock) (mode : ℕ) → IsTrue (fits_luma mode (macroblock_samples w picture slice.number slice.constrained_intra)) → IsTrue (is_possible16 (mode16_of mode) (sides_of (available w picture slice.number slice.constrained_intra)))
+possible-16x16 : (w : ℕ) (slice : SliceContext) (picture : List CodedMacroblock) (mode : Intra16x16PredMode) → IsTrue (is_possible16 mode (macroblock_samples w picture slice.number slice.constrained_intra)) → IsTrue (is_possible16 mode (sides_of (available w picture slice.number slice.constrained_intra)))
 unfolding available
-possible-16x16 w slice picture mode h = fits-16x16 mode (macroblock_samples w picture slice.number slice.constrained_intra) h
+possible-16x16 w slice picture mode h = h
 
 pub possible-as-read : (w : ℕ) (slice : SliceContext) (picture : List CodedMacroblock) (place : ℕ → ℕ) (p : coded.Prediction) → 0 < w → read.IsPossible w slice picture p → IsPossible (prediction_of place p) (used_by p (available w picture slice.number slice.constrained_intra))
 unfolding prediction_of used_by

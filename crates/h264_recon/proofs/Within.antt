@@ -9,7 +9,10 @@ use Rattle.h264_near.specs.Coded.{CodedMacroblock, mode_part, column_of, row_of}
 use Rattle.h264_near.specs.declared.motion.Motion as derived
 use Rattle.h264_near.specs.Intra.{with_modes, block_samples, macroblock_samples}
 use Rattle.h264_near.specs.Place.{around}
-use Rattle.h264_near.specs.declared.samples.Samples.{Samples}
+use Rattle.h264_intra.specs.declared.luma4.Intra4x4PredMode.{Intra4x4PredMode}
+use Rattle.h264_intra.specs.declared.luma16.Intra16x16PredMode.{Intra16x16PredMode}
+use Rattle.h264_intra.specs.declared.chroma.IntraChromaPredMode.{IntraChromaPredMode}
+use Rattle.h264_intra.specs.declared.sides.Sides.{Sides}
 use Rattle.h264_recon.specs.declared.macroblock.Available.{Available}
 use Rattle.h264_near.specs.Raster.{before, last_in, last_left, last_corner}
 use Rattle.h264_near.proofs.Neighbours.{left-of, upper-of, corner-of, past-of, next-of, last-above}
@@ -77,11 +80,11 @@ used-within (coded.Intra16x16 mode chroma) a w c r h = h
 used-within (coded.Pcm samples) a w c r h = none-within w c r
 used-within (coded.Inter motions) a w c r h = none-within w c r
 
-pub used-4x4 : (p : coded.Prediction) (modes : List ℕ) (chroma : ℕ) (a : Available) → p ≡ coded.Intra4x4 modes chroma → a ≡ used_by p a
+pub used-4x4 : (p : coded.Prediction) (modes : List Intra4x4PredMode) (chroma : IntraChromaPredMode) (a : Available) → p ≡ coded.Intra4x4 modes chroma → a ≡ used_by p a
 unfolding used_by
 used-4x4 p modes chroma a e = rw e refl
 
-pub used-16x16 : (p : coded.Prediction) (mode chroma : ℕ) (a : Available) → p ≡ coded.Intra16x16 mode chroma → a ≡ used_by p a
+pub used-16x16 : (p : coded.Prediction) (mode : Intra16x16PredMode) (chroma : IntraChromaPredMode) (a : Available) → p ≡ coded.Intra16x16 mode chroma → a ≡ used_by p a
 unfolding used_by
 used-16x16 p mode chroma a e = rw e refl
 
@@ -120,7 +123,7 @@ abbrev pub assembled : Bool → Bool → Bool → Bool → Available
 assembled left above right corner = record { left = left; above = above; above_right = right; corner = corner }
 
 -- what lies in the picture is all that is available
-pub available-is : (w : ℕ) (xs : List CodedMacroblock) (slice : ℕ) (constrained : Bool) (c r m : ℕ) (s : Samples) (right left above above_right corner : Bool) → length xs ≡ r * w + c → c < w → m ≡ w → s ≡ macroblock_samples w xs slice constrained →
+pub available-is : (w : ℕ) (xs : List CodedMacroblock) (slice : ℕ) (constrained : Bool) (c r m : ℕ) (s : Sides) (right left above above_right corner : Bool) → length xs ≡ r * w + c → c < w → m ≡ w → s ≡ macroblock_samples w xs slice constrained →
     right ≡ is_some (around 4 (mode_part slice constrained) w xs (with_modes slice []) 5 0) → left ≡ (nat_lt 0 c && s.left) → above ≡ (nat_lt 0 r && s.above) → above_right ≡ (nat_lt 0 r && (nat_lt (c + 1) m && right)) →
     corner ≡ (nat_lt 0 c && (nat_lt 0 r && s.corner)) → assembled left above above_right corner ≡ available w xs slice constrained
 unfolding available

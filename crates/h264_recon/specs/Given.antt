@@ -2,10 +2,6 @@
 use Rattle.std.specs.Prelude.{ℕ, ◌/◌, ◌%◌, Bool, false, List, [], get_or, Option, Some, None, ℤ}
 use Rattle.std.specs.Option.{is_some, option_and_then}
 use Rattle.h264_base.specs.declared.weight.Weights.{Weights}
-use Rattle.h264_intra.specs.declared.luma4.Intra4x4PredMode.{Intra4x4PredMode}
-use Rattle.h264_intra.specs.Luma4.{mode4_of}
-use Rattle.h264_intra.specs.Luma16.{mode16_of}
-use Rattle.h264_intra.specs.Chroma.{mode_chroma_of}
 use Rattle.h264_near.specs.declared.motion.Motion as derived
 use Rattle.h264_near.specs.Coded as coded
 use Rattle.h264_near.specs.Coded.{CodedMacroblock, mode_part, motion_in, number_of}
@@ -55,13 +51,9 @@ motion_of place (Some m) = record { picture = place m.picture; vector = record {
 unfoldable pub motions_of : (ℕ → ℕ) → List (Option derived.Motion) → List Motion
 motions_of place motions = table 16 (λ k. motion_of place (get_or motions (number_of (k % 4) (k / 4)) None))
 
--- modes by number of the block
-unfoldable pub modes4_of : List ℕ → List Intra4x4PredMode
-modes4_of modes = table 16 (λ k. mode4_of (get_or modes k 0))
-
 unfoldable pub prediction_of : (ℕ → ℕ) → coded.Prediction → Prediction
-prediction_of place (coded.Intra4x4 modes chroma) = Intra (record { luma = Blocks (modes4_of modes); chroma = mode_chroma_of chroma })
-prediction_of place (coded.Intra16x16 mode chroma) = Intra (record { luma = Whole (mode16_of mode); chroma = mode_chroma_of chroma })
+prediction_of place (coded.Intra4x4 modes chroma) = Intra (record { luma = Blocks modes; chroma = chroma })
+prediction_of place (coded.Intra16x16 mode chroma) = Intra (record { luma = Whole mode; chroma = chroma })
 prediction_of place (coded.Pcm samples) = Pcm (pcm_of samples)
 prediction_of place (coded.Inter motions) = Inter (motions_of place motions)
 

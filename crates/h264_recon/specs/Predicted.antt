@@ -1,5 +1,5 @@
 -- How a macroblock is predicted, as its equations have it, and as the code has it. A working form.
-use Rattle.std.specs.Prelude.{ℕ, ◌+◌, ◌%◌, ◌/◌, List, get_or, Option, Some, None, pos}
+use Rattle.std.specs.Prelude.{ℕ, ◌+◌, ◌%◌, ◌/◌, nat_lt, List, get_or, Option, Some, None, pos, if◌then◌else◌}
 use Rattle.h264_near.specs.declared.motion.Motion as derived
 use Rattle.h264_near.specs.Coded.{number_of}
 use Rattle.h264_near.specs.Partition.{first_of}
@@ -31,11 +31,16 @@ pcm_of samples = record {
   cr = table 64 (λ k. get_or samples (320 + k) 0);
 }
 
--- ---- the motion of a place, whose picture is the place that its index names, of these
+-- ---- the motion of a place, whose picture is the place that its index names, of these sixteen
+
+-- of a place that has none, or whose index names none of these: the first of them, and no vector
+abbrev pub unmoved : List ℕ → Motion
+unmoved places = record { picture = get_or places 0 0; vector = record { x = pos 0; y = pos 0 } }
 
 abbrev pub placed_motion : List ℕ → Option derived.Motion → Motion
-placed_motion places None = record { picture = get_or places 0 0; vector = record { x = pos 0; y = pos 0 } }
-placed_motion places (Some m) = record { picture = get_or places (m.ref_idx % 16) 0; vector = record { x = m.vector.x; y = m.vector.y } }
+placed_motion places None = unmoved places
+placed_motion places (Some m) =
+    if nat_lt m.ref_idx 16 then record { picture = get_or places m.ref_idx 0; vector = record { x = m.vector.x; y = m.vector.y } } else unmoved places
 
 abbrev pub placed_at : List ℕ → List (Option derived.Motion) → ℕ → Motion
 placed_at places motions k = placed_motion places (get_or motions (number_of (k % 4) (k / 4)) None)

@@ -13,8 +13,8 @@ ghost use Rattle.h264_mbsyntax.specs.Possible.{IsPossible};
 ghost use Rattle.h264_recon.specs.ReadLevels.{is_of_samples, is_pcm};
 ghost use Rattle.h264_recon.specs.Constructed.{coded as coded_as, IsWithin};
 ghost use Rattle.h264_recon.specs.Levels.{levels_of};
-ghost use Rattle.h264_recon.specs.Given.{available as available_of, no_sides as no_sides_of, used_by, modes4_of, prediction_of, given as given_of};
-ghost use Rattle.h264_recon.specs.Predicted.{prediction_in, placed_motion};
+ghost use Rattle.h264_recon.specs.Given.{available as available_of, no_sides as no_sides_of, used_by, prediction_of, given as given_of};
+ghost use Rattle.h264_recon.specs.Predicted.{prediction_in, placed_motion, unmoved as unmoved_in};
 ghost use Rattle.h264_recon.specs.Placed.{ArePlaced, PointsInto, weights_by};
 
 use crate::macroblock::{
@@ -22,7 +22,6 @@ use crate::macroblock::{
     SliceReferences, Weighting,
 };
 use h264_inter::MotionVector;
-use h264_intra::{Intra4x4PredMode, Intra16x16PredMode, IntraChromaPredMode};
 use h264_mbsyntax::{Kind, Macroblock as Read};
 use h264_near::{Motion as Derived, Near, Partition};
 use h264_vectors::SliceContext;
@@ -46,7 +45,7 @@ pub fn available(near: &Near, slice: u32, constrained: bool, column: usize, row:
     ensures here { (width : ℕ) (picture : List CodedMacroblock) → Keeps width picture near.now → length picture ≡ row * width + column →
         column < width → result ≡ available_of width picture slice constrained }
 {
-    let samples = near.samples(slice, constrained, &[0; 16], 0);
+    let samples = near.macroblock_samples(slice, constrained);
     let right = near.above_right(slice, constrained);
     Available {
         left: lies(column > 0, samples.left),
@@ -56,15 +55,15 @@ pub fn available(near: &Near, slice: u32, constrained: bool, column: usize, row:
     }
 }
 
-/// The modes of the blocks of an I_4x4 macroblock.
-fn modes4(modes: &[u8; 16]) -> [Intra4x4PredMode; 16]
-    ensures { result ≡ modes4_of modes.now }
+/// The motion of a block that has none, or whose index names no place: the first place, and no vector.
+#[inline(always)]
+fn unmoved(places: &[u8; 16]) -> Motion
+    ensures { result ≡ unmoved_in places.now }
 {
-    let mut out = [Intra4x4PredMode::Dc; 16];
-    for k in 0..16 {
-        out[k] = Intra4x4PredMode::of_number(modes[k]);
+    Motion {
+        picture: places[0],
+        vector: MotionVector { x: 0, y: 0 },
     }
-    out
 }
 
 /// A block's motion: its picture is the place that its index names.
@@ -73,17 +72,20 @@ pub fn motion(derived: Option<Derived>, places: &[u8; 16]) -> Motion
     ensures { result ≡ placed_motion places.now derived }
 {
     match derived {
-        None => Motion {
-            picture: places[0],
-            vector: MotionVector { x: 0, y: 0 },
-        },
-        Some(m) => Motion {
-            picture: places[m.ref_idx as usize % 16],
-            vector: MotionVector {
-                x: m.vector.x,
-                y: m.vector.y,
-            },
-        },
+        None => unmoved(places),
+        Some(m) => {
+            let index = usize::from(m.ref_idx);
+            if index < places.len() {
+                return Motion {
+                    picture: places[index],
+                    vector: MotionVector {
+                        x: m.vector.x,
+                        y: m.vector.y,
+                    },
+                };
+            }
+            unmoved(places)
+        }
     }
 }
 
@@ -97,12 +99,12 @@ fn prediction<'a>(read: &'a Read, places: &'a [u8; 16]) -> Prediction<'a>
 {
     match read.kind {
         Kind::Intra4x4 => Prediction::Intra(IntraModes {
-            luma: IntraLuma::Blocks(modes4(&read.contexts.modes)),
-            chroma: IntraChromaPredMode::of_number(read.chroma_mode),
+            luma: IntraLuma::Blocks(read.contexts.modes),
+            chroma: read.chroma_mode,
         }),
         Kind::Intra16x16 { mode } => Prediction::Intra(IntraModes {
-            luma: IntraLuma::Whole(Intra16x16PredMode::of_number(mode)),
-            chroma: IntraChromaPredMode::of_number(read.chroma_mode),
+            luma: IntraLuma::Whole(mode),
+            chroma: read.chroma_mode,
         }),
         Kind::Pcm => Prediction::Pcm(&read.pcm),
         Kind::Inter { partition } => Prediction::Inter(Motions {
@@ -171,14 +173,6 @@ fn used(read: &Read, near: &Near, slice: &SliceContext, column: usize, row: usiz
     }
 }
 
-/// How many places a list of references has.
-#[inline(always)]
-fn count(references: &[Option<u64>; 16]) -> usize
-    ensures { length references.now ≡ 16 }
-{
-    references.len()
-}
-
 /// What a macroblock that was read, after those that `near` keeps and at this position, gives to its construction: the sides that intra prediction may
 /// use, its modes, motions or samples, and the weights of the latter.
 pub fn given<'a>(
@@ -194,11 +188,11 @@ pub fn given<'a>(
     ensures kind { is_of_samples (prediction_in result.prediction) ≡ is_pcm read.now.kind }
     ensures given { (width : ℕ) (picture : List CodedMacroblock) (place : ℕ → ℕ) (coded : CodedMacroblock) → Keeps width picture near.now →
         length picture ≡ position.row * width + position.column → position.column < width → HoldsMacroblock read.now coded → coded.slice ≡ slice.now.number →
-        IsPossible width slice.now picture coded.prediction → ArePlaced slice.now references.now.places.now place →
+        IsPossible width slice.now picture coded.prediction → length slice.now.references ≡ 16 →
+        ArePlaced slice.now references.now.places.now place →
         coded_as result (levels_of slice.now.chroma_qp_index_offset coded) ≡ given_of width picture place
         (weights_by references.now.weights.now) slice.now.constrained_intra slice.now.chroma_qp_index_offset coded }
 {
-    let _all = count(&slice.references);
     Macroblock {
         available: used(read, near, slice, position.column, position.row),
         prediction: prediction(read, references.places),

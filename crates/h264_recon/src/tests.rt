@@ -429,15 +429,15 @@ fn two_read(rt: &(impl Abort + AllocGlobal)) -> Result<(Near, Read), AllocError>
     let mut read = moved();
     near.push(&read.contexts);
     read.kind = Kind::Intra4x4;
-    let mut modes = [2; 16];
-    modes[7] = 8;
-    modes[9] = 3;
+    let mut modes = [Intra4x4PredMode::Dc; 16];
+    modes[7] = Intra4x4PredMode::HorizontalUp;
+    modes[9] = Intra4x4PredMode::DiagonalDownLeft;
     read.contexts = Contexts {
         intra: true,
         modes,
         ..read.contexts
     };
-    read.chroma_mode = 1;
+    read.chroma_mode = IntraChromaPredMode::Horizontal;
     near.push(&read.contexts);
     Ok((near, read))
 }
@@ -536,7 +536,9 @@ fn intra_as_read(rt: &(impl Abort + AllocGlobal)) -> Result<(), AllocError> {
 fn others_as_read(rt: &(impl Abort + AllocGlobal)) -> Result<(), AllocError> {
     let weights = SliceWeights::NONE;
     let (near, mut read) = two_read(rt)?;
-    read.kind = Kind::Intra16x16 { mode: 3 };
+    read.kind = Kind::Intra16x16 {
+        mode: Intra16x16PredMode::Plane,
+    };
     match given(
         &read,
         &near,

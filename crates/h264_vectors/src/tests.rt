@@ -8,6 +8,7 @@ use crate::{
     has_picture, motion_of, predicted_vector, skip_vector, vector_fits,
 };
 use h264_base::SliceType;
+use h264_intra::Intra4x4PredMode;
 use h264_near::{Contexts, Motion, Near, Vector};
 use std::process::Abort;
 use std::test::Fail;
@@ -37,7 +38,7 @@ fn macroblock(ref_idx: u8, x: i16, y: i16) -> Contexts {
         qp: 26,
         totals: [0; 16],
         chroma_totals: [0; 8],
-        modes: [2; 16],
+        modes: [Intra4x4PredMode::Dc; 16],
         motions: [Some(Motion {
             ref_idx,
             picture: 7,

@@ -6,10 +6,10 @@ use Rattle.h264_recon.proofs.Placed.{points, parted-are, motions-are}
 use Rattle.h264_recon.proofs.input.prediction.Goals as goal
 
 pub returns-in-Intra4x4-clause-here : goal.returns-in-Intra4x4-clause-here
-returns-in-Intra4x4-clause-here c slice place w xs m h t n a = let p = subst (λ z. IsPrediction z c.args.read.now m.prediction) c.in-Intra4x4.is h.prediction in intra-4x4 place m.prediction _ _ _ _ p c.modes4.ensures c.of_number.ensures
+returns-in-Intra4x4-clause-here c slice place w xs m h t n a = let p = subst (λ z. IsPrediction z c.args.read.now m.prediction) c.in-Intra4x4.is h.prediction in intra-4x4 place m.prediction _ _ p
 
 pub returns-in-Intra16x16-clause-here : goal.returns-in-Intra16x16-clause-here
-returns-in-Intra16x16-clause-here c slice place w xs m h t n a = let p = subst (λ z. IsPrediction z c.args.read.now m.prediction) c.in-Intra16x16.is h.prediction in intra-16x16 place m.prediction _ _ _ _ p c.of_number-in-Intra16x16.ensures c.of_number-in-Intra16x16-2.ensures
+returns-in-Intra16x16-clause-here c slice place w xs m h t n a = let p = subst (λ z. IsPrediction z c.args.read.now m.prediction) c.in-Intra16x16.is h.prediction in intra-16x16 place m.prediction _ _ p
 
 pub returns-in-Pcm-clause-here : goal.returns-in-Pcm-clause-here
 returns-in-Pcm-clause-here c slice place w xs m h t n a = let p = subst (λ z. IsPrediction z c.args.read.now m.prediction) c.in-Pcm.is h.prediction in from-pcm place m.prediction _ _ p refl

@@ -68,7 +68,7 @@ returns-clause-samples c t width size (Some making) picture coded h s m r e p =
     let i : old.picture.position.column < width = subst (λ x. old.picture.position.column < x) w old.sound.column in
     let fits : SFits w32 context.chroma_qp_index_offset = search rules in
     let levels = rw (kept32 context.chroma_qp_index_offset fits) at c.new.ensures.levels coded r in
-    let is = ap (coded_as c.given_within-m.result) levels ∙ c.given_within-m.ensures.given width picture making.place coded w h.keeps n' i r e p m.placed in
+    let is = ap (coded_as c.given_within-m.result) levels ∙ c.given_within-m.ensures.given width picture making.place coded w h.keeps n' i r e p slice.usable.places m.placed in
     if-ok c.go_on.result (sym c.is_ok.ensures.value ∙ t) c.go_on.ensures.held
     (setting_of old) making.place making.slices picture coded n old.sound.column (in-rows _ _ _ _ _ old.sound c.requires.next) (are-shown old _ c.requires.places _ c.given_within-m.ensures.points)
     (possible width context picture making.place (weights_by slice.weights) context.chroma_qp_index_offset coded old.picture.position.column old.picture.position.row _ n' i e p is)
