@@ -6,23 +6,22 @@ use Rattle.std.specs.Option.{option_map}
 use Rattle.std.proofs.lemmas.Bool.{and_parts, eqb-true, cases_lt}
 use Rattle.std.proofs.lemmas.Int.{ints}
 use Rattle.std.proofs.lemmas.List.{get_or_past}
+use Rattle.std.proofs.lemmas.Option.{get_or_from_slice_get}
 use Rattle.std.proofs.lemmas.Bool.Decides.{nat_tests, Decides-int_eq}
 use Rattle.h264_tables.specs.declared.thresholds.Strength.TheVariants.{One, Two, Three}
 use Rattle.h264_plane.specs.declared.frame.Component.{Component}
 use Rattle.h264_plane.specs.declared.frame.Component.TheVariants.{Y, Cb, Cr}
 use Rattle.h264_near.specs.Coded.{CodedMacroblock, is_intra, number_of, chroma_number_of}
-use Rattle.h264_near.specs.Keeps.{AreContexts, IsEdge, filter_qp_of}
+use Rattle.h264_near.specs.Keeps.{AreContexts, Borders, IsEdge, filter_qp_of}
 use Rattle.h264_near.specs.Raster.{last_in, last_left}
-use Rattle.h264_near.specs.Strength.{side_part, far, moves_apart, strength_of}
 use Rattle.h264_near.specs.declared.context.Contexts.{Contexts}
 use Rattle.h264_near.specs.declared.context.Edge.{Edge}
 use Rattle.h264_near.specs.declared.motion.Motion.{Motion}
 use Rattle.h264_near.specs.declared.motion.Vector.{Vector}
-use Rattle.h264_near.specs.declared.sides.Side.{Side}
-use Rattle.h264_near.proofs.Edges.{side-is}
 use Rattle.h264_near.proofs.Neighbours.{last-above}
 use Rattle.h264_near.proofs.Places.{quotient, remainder}
 use Rattle.h264_deblock.specs.Filtering.{is_chroma, PlaneEdges, edges_of}
+use Rattle.h264_deblock.specs.Strength.{Side, side_part, far, moves_apart, strength_of}
 use Rattle.h264_deblock.specs.declared.filtering.Edges.{Edges}
 use Rattle.h264_deblock.specs.declared.filtering.ChromaEdges.{ChromaEdges}
 use Rattle.h264_deblock.specs.declared.slice_filter.Deblocking.TheVariants.{Off}
@@ -40,10 +39,15 @@ few : (x y : ℕ) → x < 4 → y < 4 → number_of x y < 16
 unfolding number_of
 few x y h k = omega arith
 
+-- a block of the macroblock beside, by its number
+side-is : (luma : ℕ → ℕ) (chroma : ℕ → ℕ → ℕ) (x y k : ℕ) (e : Edge) (m : CodedMacroblock) → k < 4 → luma k ≡ number_of x y → Borders luma chroma e m → side_part x y m ≡ Some (block_beside e k)
+unfolding side_part
+side-is luma chroma x y k e m h n i = rw (i.intra, sym n, i.motions k h, get_or_from_slice_get m.totals (luma k) _ 0 (i.totals k h)) refl
+
 beside-block : (v : Bool) (e : Edge) (m : CodedMacroblock) (k : ℕ) → k < 4 → LiesAlong v e m → block_at v 3 k m ≡ Some (block_beside e k)
 unfolding block_at
-beside-block true e m k h i = sym (side-is (λ k. number_of 3 k) (λ c k. chroma_number_of c 1 k) 3 k k (Some e) (Some m) h refl i)
-beside-block false e m k h i = sym (side-is (λ k. number_of k 3) (λ c k. chroma_number_of c k 1) k 3 k (Some e) (Some m) h refl i)
+beside-block true e m k h i = side-is (λ k. number_of 3 k) (λ c k. chroma_number_of c 1 k) 3 k k e m h refl i
+beside-block false e m k h i = side-is (λ k. number_of k 3) (λ c k. chroma_number_of c k 1) k 3 k e m h refl i
 
 pub beside-slice : (v : Bool) (e : Edge) (m : CodedMacroblock) → LiesAlong v e m → m.slice ≡ e.slice
 beside-slice true e m i = i.slice

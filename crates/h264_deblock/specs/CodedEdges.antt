@@ -8,9 +8,8 @@ use Rattle.h264_plane.specs.declared.frame.Component.TheVariants.{Y, Cb, Cr}
 use Rattle.h264_near.specs.Coded.{CodedMacroblock}
 use Rattle.h264_near.specs.Keeps.{filter_qp_of}
 use Rattle.h264_near.specs.Raster.{last_in, last_left}
-use Rattle.h264_near.specs.Strength.{side_part, strength_between}
-use Rattle.h264_near.specs.declared.sides.Side.{Side}
 use Rattle.h264_deblock.specs.Filtering.{PlaneEdges}
+use Rattle.h264_deblock.specs.Strength.{Side, side_part, strength_between}
 use Rattle.h264_deblock.specs.declared.edge_parameters.EdgeParameters.{EdgeParameters}
 use Rattle.h264_deblock.specs.declared.edge_parameters.BoundaryStrength.{BoundaryStrength}
 use Rattle.h264_deblock.specs.declared.edge_parameters.BoundaryStrength.TheVariants.{Zero, BelowFour, Four}

@@ -7,19 +7,18 @@ use Rattle.h264_tables.specs.ChromaQp.{chroma_qp_of}
 use Rattle.h264_tables.specs.declared.thresholds.Strength.TheVariants.{One, Two}
 use Rattle.h264_near.specs.Coded.{CodedMacroblock, number_of}
 use Rattle.h264_near.specs.Keeps.{Lower, Right, filter_qp_of}
-use Rattle.h264_near.specs.Strength.{moves_apart}
 use Rattle.h264_near.specs.Partition.{MovesByPartition}
 use Rattle.h264_near.specs.declared.partition.Partition.{Partition}
 use Rattle.h264_near.specs.declared.partition.Partition.TheVariants.{P16x16}
 use Rattle.h264_near.specs.declared.context.Contexts.{Contexts}
 use Rattle.h264_near.specs.declared.context.Edge.{Edge}
 use Rattle.h264_near.specs.declared.motion.Motion.{Motion}
-use Rattle.h264_near.specs.declared.sides.Side.{Side}
 use Rattle.h264_deblock.specs.declared.edge_parameters.EdgeParameters.{EdgeParameters}
 use Rattle.h264_deblock.specs.declared.edge_parameters.BoundaryStrength.{BoundaryStrength}
 use Rattle.h264_deblock.specs.declared.edge_parameters.BoundaryStrength.TheVariants.{Zero, BelowFour}
 use Rattle.h264_deblock.specs.declared.slice_filter.SliceFilter.{SliceFilter}
 use Rattle.h264_deblock.specs.CodedEdges.{filters, strengths}
+use Rattle.h264_deblock.specs.Strength.{Side, moves_apart}
 use Rattle.h264_deblock.specs.Limits.{AreAll}
 
 -- an edge lies along the right column, or the lower row, of the macroblock beside

@@ -7,15 +7,8 @@ use Rattle.h264_near.specs.declared.context.Contexts.{Contexts}
 use Rattle.h264_near.specs.declared.context.Edge.{Edge}
 use Rattle.h264_intra.specs.declared.luma4.Intra4x4PredMode.TheVariants.{Vertical}
 use Rattle.h264_near.specs.Coded.{CodedMacroblock, number_of, chroma_number_of, total_part, chroma_part, mode_part, motion_part}
-use Rattle.h264_near.specs.Along.{edge_total, edge_chroma, edge_mode, edge_motion, edge_side}
-use Rattle.h264_near.specs.Strength.{side_part}
+use Rattle.h264_near.specs.Along.{edge_total, edge_chroma, edge_mode, edge_motion}
 use Rattle.h264_near.specs.Keeps.{AreContexts, Borders, IsEdge, Lower, Right}
-
--- an element that there is
-pub found : {A : Type 0} (xs : List A) (k : ℕ) (x d : A) → slice_get xs k ≡ Some x → get_or xs k d ≡ x
-found [] k x d e = absurd (grind (arith, e))
-found (y ∷ xs) zero x d e = grind (arith, e)
-found (y ∷ xs) (suc k) x d e = found xs k x d e
 
 module _ (luma : ℕ → ℕ) (chroma : ℕ → ℕ → ℕ) where
   pub total-is : (slice x y k : ℕ) (edge : Option Edge) (m : Option CodedMacroblock) → k < 4 → luma k ≡ number_of x y → IsEdge (Borders luma chroma) edge m → edge_total slice k edge ≡ option_and_then (total_part slice x y) m
@@ -45,13 +38,6 @@ module _ (luma : ℕ → ℕ) (chroma : ℕ → ℕ → ℕ) where
   motion-is slice x y k None (Some m) h e i = absurd i
   motion-is slice x y k (Some edge) None h e i = absurd i
   motion-is slice x y k (Some edge) (Some m) h e i = rw (i.slice, sym e, i.motions k h) refl
-
-  pub side-is : (x y k : ℕ) (edge : Option Edge) (m : Option CodedMacroblock) → k < 4 → luma k ≡ number_of x y → IsEdge (Borders luma chroma) edge m → edge_side k edge ≡ option_and_then (side_part x y) m
-  unfolding side_part
-  side-is x y k None None h e i = refl
-  side-is x y k None (Some m) h e i = absurd i
-  side-is x y k (Some edge) None h e i = absurd i
-  side-is x y k (Some edge) (Some m) h e i = rw (i.intra, sym e, i.motions k h, found m.totals (luma k) _ 0 (i.totals k h)) refl
 
 -- the last row and the last column of a whole macroblock
 module _ (c : Contexts) (m : CodedMacroblock) (s : AreContexts c m) (all : length c.totals ≡ 16) (chroma : length c.chroma_totals ≡ 8) where

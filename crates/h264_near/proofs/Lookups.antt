@@ -4,8 +4,7 @@ use Rattle.std.specs.Option.{option_map}
 use Rattle.std.specs.List.{slice_get}
 use Rattle.std.proofs.Math.Nat.{mod-lt}
 use Rattle.h264_near.specs.declared.near.Near.{Near}
-use Rattle.h264_near.specs.Along.{edge_total, edge_chroma, edge_mode, edge_motion, edge_side}
-use Rattle.h264_near.specs.Strength.{side_part}
+use Rattle.h264_near.specs.Along.{edge_total, edge_chroma, edge_mode, edge_motion}
 use Rattle.h264_intra.specs.declared.luma4.Intra4x4PredMode.{Intra4x4PredMode}
 use Rattle.h264_intra.specs.declared.luma4.Intra4x4PredMode.TheVariants.{Vertical}
 use Rattle.h264_near.specs.Coded.{CodedMacroblock, number_of, chroma_number_of, column_of, row_of, total_part, chroma_part, mode_part, motion_part}
@@ -15,7 +14,7 @@ use Rattle.h264_near.specs.declared.motion.Motion.{Motion}
 use Rattle.h264_near.specs.Keeps.{Keeps, IsEdge, Lower}
 use Rattle.h264_near.specs.Place.{around}
 use Rattle.h264_near.specs.Raster.{last_in}
-use Rattle.h264_near.proofs.Edges.{total-is, chroma-is, mode-is, motion-is, side-is}
+use Rattle.h264_near.proofs.Edges.{total-is, chroma-is, mode-is, motion-is}
 use Rattle.h264_near.proofs.Neighbours.{own, left-of, upper-of, corner-of, next-of, past-of, right-of}
 use Rattle.h264_near.proofs.Places.{taken}
 
@@ -27,10 +26,6 @@ within-column b = omega arith
 pub within-row : (b : ℕ) → b < 16 → row_of b < 4
 unfolding row_of
 within-row b h = omega arith
-
-pub numbered : (b : ℕ) → b < 16 → number_of (column_of b) (row_of b) ≡ b
-unfolding column_of row_of number_of
-numbered b h = omega arith
 
 pub left-earlier : (b : ℕ) → b < 16 → 0 < column_of b → number_of (column_of b - 1) (row_of b) < b
 unfolding column_of row_of number_of
@@ -144,10 +139,3 @@ module _ (width : ℕ) (picture : List CodedMacroblock) (slice : ℕ) (some : 0 
   motion-past near current i k e h g =
       let c = k.column in
       rw e (sym (past-of 4 (motion_part slice) width picture current some four (let n : length picture % width + 1 ≡ width = omega arith in n)))
-
-  -- what the deblocking filter asks
-  pub side-left : (near : Near) (current : CodedMacroblock) (y : ℕ) → Keeps width picture near → y < 4 → edge_side y near.left ≡ around 4 side_part width picture current 0 (suc y)
-  side-left near current y k h = side-is _ _ 3 y y near.left _ h refl k.left ∙ sym (left-of 4 side_part width picture current some four y h)
-
-  pub side-upper : (near : Near) (current : CodedMacroblock) (x : ℕ) → Keeps width picture near → x < 4 → edge_side x (get_or near.above.items near.column None) ≡ around 4 side_part width picture current (suc x) 0
-  side-upper near current x k h = side-is _ _ x 3 x _ _ h refl (above-edge near k) ∙ sym (upper-of 4 side_part width picture current some four x h)

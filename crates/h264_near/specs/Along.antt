@@ -1,11 +1,10 @@
 -- What an edge says of its blocks, to macroblocks of this slice. A working form.
-use Rattle.std.specs.Prelude.{ℕ, ◌+◌, ◌*◌, Bool, not, nat_lt, Option, Some, None, ◌==◌, ◌&&◌, ◌||◌, if◌then◌else◌}
+use Rattle.std.specs.Prelude.{ℕ, ◌+◌, ◌*◌, Bool, not, Option, Some, None, ◌==◌, ◌&&◌, ◌||◌, if◌then◌else◌}
 use Rattle.std.proofs.Common.{get_or}
 use Rattle.h264_intra.specs.declared.luma4.Intra4x4PredMode.{Intra4x4PredMode}
 use Rattle.h264_intra.specs.declared.luma4.Intra4x4PredMode.TheVariants.{Vertical}
 use Rattle.h264_near.specs.declared.context.Edge.{Edge}
 use Rattle.h264_near.specs.declared.motion.Motion.{Motion}
-use Rattle.h264_near.specs.declared.sides.Side.{Side}
 
 abbrev pub edge_total : ℕ → ℕ → Option Edge → Option ℕ
 edge_total slice k None = None
@@ -22,8 +21,3 @@ edge_mode slice constrained k (Some e) = if e.slice == slice && (e.intra || not 
 abbrev pub edge_motion : ℕ → ℕ → Option Edge → Option (Option Motion)
 edge_motion slice k None = None
 edge_motion slice k (Some e) = if e.slice == slice then Some (get_or e.motions k None) else None
-
--- and to the deblocking filter, whatever the slice
-abbrev pub edge_side : ℕ → Option Edge → Option Side
-edge_side k None = None
-edge_side k (Some e) = Some (record { intra = e.intra; coded = nat_lt 0 (get_or e.totals k 0); motion = get_or e.motions k None })

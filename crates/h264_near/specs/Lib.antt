@@ -5,6 +5,5 @@ pub mod Intra
 pub mod Motions
 pub mod Keeps
 pub mod Along
-pub mod Strength
 pub mod Skips
 pub mod Partition

@@ -2,7 +2,7 @@
 //!
 //! `specs/Coded.antt` says what a coded picture is, `specs/Place.antt` what stands where in it. `Near` keeps one row of
 //! contexts, a left column and a corner, and promises that what it answers is what stands there in the coded picture.
-//! `strength` is bS of two blocks (8.7.2.1), whatever their slices.
+//! To the deblocking filter it gives the edges of the macroblocks to the left and above, whatever their slices.
 #![tactic(auto)]
 
 pub mod block;
@@ -12,7 +12,6 @@ mod lookup;
 pub mod motion;
 pub mod near;
 pub mod partition;
-pub mod sides;
 pub mod skipped;
 #[cfg(test)]
 mod tests;
@@ -21,5 +20,4 @@ pub use context::{Contexts, Edge};
 pub use motion::{Motion, Vector};
 pub use near::Near;
 pub use partition::{Partition, SubPartition};
-pub use sides::{Side, side_of, strength};
 pub use skipped::Skipped;

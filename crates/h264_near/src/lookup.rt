@@ -4,11 +4,10 @@
 ghost use Rattle.std.specs.Prelude.{◌≡◌, ◌<◌, Some};
 ghost use Rattle.std.specs.Option.{option_map};
 ghost use Rattle.h264_near.specs.Intra.{mean as mean_of, lesser_mode as lesser_mode_of};
-ghost use Rattle.h264_near.specs.Along.{edge_total, edge_chroma, edge_mode, edge_motion, edge_side};
+ghost use Rattle.h264_near.specs.Along.{edge_total, edge_chroma, edge_mode, edge_motion};
 
 use crate::context::Edge;
 use crate::motion::Motion;
-use crate::sides::Side;
 use h264_intra::Intra4x4PredMode;
 
 #[inline(always)]
@@ -128,21 +127,5 @@ pub(crate) fn lesser_mode(
         (None, None) => Intra4x4PredMode::Dc,
         (None, Some(_)) => Intra4x4PredMode::Dc,
         (Some(_), None) => Intra4x4PredMode::Dc,
-    }
-}
-
-/// A block along an edge as the deblocking filter sees it, whatever its slice.
-#[inline(always)]
-pub(crate) fn side_along(edge: &Option<Edge>, k: usize) -> Option<Side>
-    requires { k < 4 }
-    ensures { result ≡ edge_side k edge.now }
-{
-    match edge {
-        None => None,
-        Some(edge) => Some(Side {
-            intra: edge.intra,
-            coded: 0 < edge.totals[k],
-            motion: edge.motions[k],
-        }),
     }
 }

@@ -7,16 +7,14 @@ ghost use Rattle.h264_near.specs.Intra.{with_totals, with_modes, luma_nc, chroma
 ghost use Rattle.h264_near.specs.Place.{around};
 ghost use Rattle.h264_near.specs.Motions.{neighbour};
 ghost use Rattle.h264_near.specs.Raster.{last_in, last_left};
-ghost use Rattle.h264_near.specs.Strength.{side_part};
 
 use crate::block::{above_of, column, left_of, number, row};
 use crate::context::{Contexts, Edge};
 use crate::kept_edges::{put_lower, put_right, put_skipped};
 use crate::lookup::{
-    chroma_along, derived, lesser_mode, mean, mode_along, motion_along, side_along, total_along,
+    chroma_along, derived, lesser_mode, mean, mode_along, motion_along, total_along,
 };
 use crate::motion::Motion;
-use crate::sides::Side;
 use crate::skipped::Skipped;
 use h264_intra::{Intra4x4PredMode, Sides};
 use std::alloc::{AllocError, Global};
@@ -320,7 +318,7 @@ impl Near {
         false
     }
 
-    /// The edge of the macroblock to the left.
+    /// The edge of the macroblock to the left, whatever its slice.
     #[inline]
     pub fn left_edge(&self) -> &Option<Edge>
         ensures { (width : ℕ) (picture : List CodedMacroblock) → Keeps width picture self.now → IsEdge Right result.now (last_left width picture) }
@@ -328,33 +326,13 @@ impl Near {
         &self.left
     }
 
-    /// The edge of the macroblock above.
+    /// The edge of the macroblock above, whatever its slice.
     #[inline]
     pub fn above_edge(&self) -> &Option<Edge>
         ensures { (width : ℕ) (picture : List CodedMacroblock) → Keeps width picture self.now →
             IsEdge Lower result.now (last_in width picture (length picture % width)) }
     {
         &self.above[self.column]
-    }
-
-    /// The block to the left at row `y`, as the deblocking filter sees it, whatever its slice.
-    #[inline]
-    pub fn left_side(&self, y: usize) -> Option<Side>
-        requires { y < 4 }
-        ensures { (width : ℕ) (picture : List CodedMacroblock) (current : CodedMacroblock) → Keeps width picture self.now →
-            result ≡ around 4 side_part width picture current 0 (suc y) }
-    {
-        side_along(&self.left, y)
-    }
-
-    /// The block above at column `x`, likewise.
-    #[inline]
-    pub fn upper_side(&self, x: usize) -> Option<Side>
-        requires { x < 4 }
-        ensures { (width : ℕ) (picture : List CodedMacroblock) (current : CodedMacroblock) → Keeps width picture self.now →
-            result ≡ around 4 side_part width picture current (suc x) 0 }
-    {
-        side_along(&self.above[self.column], x)
     }
 
     /// Goes on after a macroblock.

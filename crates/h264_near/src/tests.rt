@@ -2,7 +2,7 @@
 #![tactic(auto)]
 
 use crate::block::{column, number, row};
-use crate::{Contexts, Motion, Near, Side, Skipped, Vector, side_of, strength};
+use crate::{Contexts, Motion, Near, Skipped, Vector};
 use h264_intra::Intra4x4PredMode;
 use std::process::Abort;
 use std::test::Fail;
@@ -50,10 +50,8 @@ fn pictures(rt: HostRuntime) -> Result<(), Fail> {
     neighbours_above(&rt, &near);
     near.push(&macroblock(true, None));
     all_sides_are_there(&rt, &near);
-    borders(&rt, &near);
     near.clear();
     nothing_is_around(&rt, &near);
-    edges_inside(&rt);
     Ok(())
 }
 
@@ -78,17 +76,6 @@ fn a_skipped_macroblock_beside(rt: HostRuntime) -> Result<(), Fail> {
     assert_eq!(rt; near.mode(0, false, &[UP; 16], 2), DC);
     let beside = near.neighbour(0, &[None; 16], 0, 1);
     assert_eq!(rt; parts_of(beside.unwrap_or(None)), Some((7, 1, 4, -8)));
-    let side = near.left_side(3);
-    assert!(rt;
-        matches!(
-            side,
-            Some(Side {
-                intra: false,
-                coded: false,
-                motion: _
-            })
-        )
-    );
     Ok(())
 }
 
@@ -163,31 +150,4 @@ fn all_sides_are_there(rt: &impl Abort, near: &Near) {
         Some(Some(motion)) => assert_eq!(rt; (motion.ref_idx, motion.vector.y), (1, -8)),
         _ => assert!(rt; false),
     }
-}
-
-/// bS at the borders of an inter macroblock, whose left neighbour is intra and whose upper one moves.
-fn borders(rt: &impl Abort, near: &Near) {
-    let moved = side_of(&macroblock(false, Some(MOVED)), 0);
-    match (near.left_side(0), near.upper_side(0)) {
-        (Some(left), Some(above)) => {
-            assert_eq!(rt; strength(true, left, moved), 4);
-            assert_eq!(rt; strength(true, above, moved), 2);
-            assert_eq!(rt; strength(false, left, left), 3);
-        }
-        _ => assert!(rt; false),
-    }
-}
-
-/// bS between blocks 0, which have no coefficients.
-fn edges_inside(rt: &impl Abort) {
-    let other = Motion {
-        vector: Vector { x: 4, y: -4 },
-        ..MOVED
-    };
-    let still = side_of(&macroblock(false, None), 0);
-    let moved = side_of(&macroblock(false, Some(MOVED)), 0);
-    let apart = side_of(&macroblock(false, Some(other)), 0);
-    assert_eq!(rt; strength(true, moved, apart), 1);
-    assert_eq!(rt; strength(true, moved, moved), 0);
-    assert_eq!(rt; strength(true, still, still), 0);
 }

@@ -6,7 +6,15 @@ use Rattle.h264_near.specs.Coded.{CodedMacroblock, is_intra, motion_in, number_o
 use Rattle.h264_near.specs.Place.{part_at}
 use Rattle.h264_near.specs.declared.motion.Motion.{Motion}
 use Rattle.h264_near.specs.declared.motion.Vector.{Vector}
-use Rattle.h264_near.specs.declared.sides.Side.{Side}
+
+-- a 4x4 luma block as the filter sees it
+pub record Side : Type 0 where
+  -- its macroblock is intra
+  pub intra : Bool
+  -- it has coefficients
+  pub coded : Bool
+  -- what it is predicted from; nothing in an intra macroblock
+  pub motion : Option Motion
 
 -- what the filter takes of a block
 unfoldable pub side_part : ℕ → ℕ → CodedMacroblock → Option Side

@@ -4,7 +4,7 @@ use Rattle.h264_intra.specs.declared.luma16.Intra16x16PredMode.TheVariants as lu
 use Rattle.h264_intra.specs.declared.chroma.IntraChromaPredMode.TheVariants as chroma
 use Rattle.h264_near.specs.Coded.{CodedMacroblock, Inter, Intra16x16, no_residual, number_of}
 use Rattle.h264_near.specs.Place.{part_at}
-use Rattle.h264_near.specs.Strength.{side_part, strength_of, strength}
+use Rattle.h264_deblock.specs.Strength.{side_part, strength_of, strength}
 
 -- a macroblock of a slice whose blocks have this vector and so many coefficients each
 abbrev moved : ℕ → ℕ → ℕ → ℕ → CodedMacroblock
