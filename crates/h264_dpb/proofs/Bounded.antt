@@ -1,19 +1,14 @@
 -- Room is made where fewer frames are used for reference than there are places.
-use Rattle.std.proofs.Common.{◌≡◌, ℕ, zero, suc, ◌+◌, ◌<◌, ◌≤◌, ◌⊎◌, inl, inr, Bool, true, false, ◌||◌, ◌&&◌, Option, Some, None, List, [], ◌∷◌, ◌++◌, length, map, cond, refl, ap, sym, ◌∙◌, subst, arith, ℤ, if◌then◌else◌}
-use Rattle.std.specs.Prelude.{nat_lt, int_lt}
+use Rattle.std.proofs.Common.{◌≡◌, ℕ, zero, suc, ◌+◌, ◌<◌, ◌≤◌, inl, inr, Bool, true, false, ◌||◌, ◌&&◌, Option, Some, None, List, [], ◌∷◌, ◌++◌, length, map, cond, refl, ap, sym, ◌∙◌, subst, arith, ℤ, if◌then◌else◌}
+use Rattle.std.specs.Prelude.{nat_lt}
 use Rattle.std.specs.List.{filter}
 use Rattle.std.specs.Ordering.{int_eq}
-use Rattle.std.proofs.lemmas.Bool.Decides.{nat_tests, Decides-int_eq}
+use Rattle.std.proofs.lemmas.Bool.Decides.{nat_tests}
 use Rattle.h264_dpb.specs.declared.entry.Entry.{Entry}
 use Rattle.h264_dpb.specs.Bumping.{Step, in_front, is_next, least_with, least_count, left_of, written_at, written_by, bumped, made_room, is_in_use, marked_by, marked}
 use Rattle.h264_dpb.specs.Buffered.{references, AreUsed}
 use Rattle.h264_dpb.proofs.Out.{chosen}
-
-some-same : (a b : ℤ) → Some a ≡ Some b → a ≡ b
-some-same a b h = cc
-
-has-next : (a c : ℤ) → a ≡ c → int_eq a c ≡ true
-has-next a c h = (Decides-int_eq a c).1 h
+use Rattle.h264_dpb.proofs.Least.{Has, has-least}
 
 module _ {N : Type 0} where
   used-turn : (b : Bool) (e : Entry N) (es : List (Entry N)) → is_in_use e ≡ b → AreUsed (filter is_in_use es) → AreUsed (filter is_in_use (e ∷ es))
@@ -49,24 +44,6 @@ module _ {N : Type 0} where
       by true r t h k = absurd (omega (arith, h))
       by false true t h k = let j = k (omega (arith, h)) in omega arith
       by false false t h k = cc
-
-  -- some frame waits with this count
-  abbrev Has : ℤ → List (Entry N) → Type 0
-  Has c [] = ⊥
-  Has c (e ∷ es) = (is_next c e ≡ true) ⊎ Has c es
-
-  has-turn : (e : Entry N) (es : List (Entry N)) (c : ℤ) (w : Bool) (o : Option ℤ) → e.waiting ≡ w → least_count es ≡ o → (o ≡ Some c → Has c es) → ((d : ℤ) → o ≡ Some d → Has d es) → (if w then Some (least_with e.count o) else o) ≡ Some c → Has c (e ∷ es)
-  has-turn e es c false o w l k j h = inr (k h)
-  has-turn e es c true None w l k j h = inl (rw w (has-next e.count c (some-same _ _ h)))
-  has-turn e es c true (Some d) w l k j h = by (int_lt d e.count) (some-same _ _ h)
-    where
-      by : (t : Bool) → cond t d e.count ≡ c → Has c (e ∷ es)
-      by true q = inr (subst (λ (x : ℤ). Has x es) q (j d refl))
-      by false q = inl (rw w (has-next e.count c q))
-
-  has-least : (es : List (Entry N)) (c : ℤ) → least_count es ≡ Some c → Has c es
-  has-least [] c h = cc
-  has-least (e ∷ es) c h = has-turn e es c e.waiting (least_count es) refl refl (has-least es c) (has-least es) h
 
   none-waits : (es : List (Entry N)) → least_count es ≡ None → waiting_in es ≡ 0
   none-waits [] h = refl

@@ -1,4 +1,5 @@
 pub mod Out
+pub mod Least
 pub mod Tellings
 pub mod Steps
 pub mod Room

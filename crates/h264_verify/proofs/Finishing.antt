@@ -13,7 +13,7 @@ use Rattle.h264_verify.specs.Session.{Standing, ToCome, Lacking, Finishes}
 use Rattle.h264_verify.proofs.Ways.{splits-first}
 use Rattle.h264_verify.proofs.Lacking.{same-stop, lacks-bytes, lacks-unit}
 use Rattle.h264_verify.proofs.Feeding.{tail-answer, tail-stops, first-judged}
-use Rattle.h264_verify.proofs.Playing.{memory-plays, plays-stops, plays-on, plays-not-read, plays-write, answers-plays}
+use Rattle.h264_verify.proofs.Playing.{err-as, memory-plays, plays-stops, plays-on, plays-not-read, plays-write, answers-plays}
 
 nothing-more : {State Summary : Type 0} (j : Judging State Summary) (p : Standing State) (o : Outcome Summary) → ToCome j p [] o → Comes j p.split.at p.state p.split.rest o
 nothing-more j p o c = subst (λ l. Comes j p.split.at p.state l o) (append-nil p.split.rest) c
@@ -37,9 +37,6 @@ tail-named (Bare p) Write e = cc
 tail-named (Long p) Write e = cc
 tail-named Cut Write e = cc
 
-err-same : {X Y : Type 0} (stop other : Stop) → (let r : Result X Stop = Err stop in r ≡ Err other) → (let r : Result Y Stop = Err stop in r ≡ Err other)
-err-same stop other e = let f : stop ≡ other = cc in ap Err f
-
 -- no write failed, or that is told
 told-by : {X A S : Type 0} (took : S → List Told → Type 0) (failures : S → ℕ) (view : X → A) (o : Outcome A) (s s' : S) (r : Result X Stop) → PlaysBy took failures view o s s' r → (failures s' ≡ failures s) ⊎ (r ≡ Err Write)
 told-by took failures view o s s' (Ok x) p = inl p.2
@@ -57,7 +54,7 @@ told-after e (inr w) = inr w
 -- the same stop of a call that gives another value
 pub told-as : {X Y : Type 0} {a b : ℕ} {told : Stop} (stop : Stop) → (a ≡ b) ⊎ (let r : Result X Stop = Err stop in r ≡ Err told) → (a ≡ b) ⊎ (let r : Result Y Stop = Err stop in r ≡ Err told)
 told-as stop (inl e) = inl e
-told-as {X} {Y} {told = told} stop (inr e) = inr (err-same {X = X} {Y = Y} stop told e)
+told-as {X} {Y} {told = told} stop (inr e) = inr (err-as {A = X} {B = Y} stop told e)
 
 pub named-not-memory : (tail : Tail) (stop : Stop) → tail_stop tail ≡ Some stop → stop ≡ Memory → ⊥
 named-not-memory tail stop e m = let n : IsNamed Memory = subst IsNamed m (tail-named tail stop e) in n
@@ -111,8 +108,8 @@ pub finish-unit-stops : {State Summary : Type 0} (j : Judging State Summary) {S 
 finish-unit-stops {State} {Summary} j {S} {X} took failures view old mid new state unit s s' stop f t grows p = record {
   finishes = λ o c.
       subst (λ r. Plays {X = Summary} took failures (λ (x : Summary). x) r s s' (Err stop)) (sym (last-judged j old mid new state unit o f t c)) (plays-stops took failures view (λ (x : Summary). x) (j.unit state unit) _ s s' stop p);
-  no_read = λ e. plays-not-read {X = X} took failures view _ s s' (Err stop) p (err-same {X = Summary} {Y = X} stop Read e);
-  write = λ e. plays-write {X = X} took failures view _ s s' (Err stop) p (err-same {X = Summary} {Y = X} stop Write e);
+  no_read = λ e. plays-not-read {X = X} took failures view _ s s' (Err stop) p (err-as {A = Summary} {B = X} stop Read e);
+  write = λ e. plays-write {X = X} took failures view _ s s' (Err stop) p (err-as {A = Summary} {B = X} stop Write e);
   write_told = told-as {X = X} {Y = Summary} stop (told-by {X = X} took failures view _ s s' (Err stop) p.plays);
   lacks = λ e. by stop grows p.plays (same-stop {X = Summary} stop Memory e);
 }

@@ -1,5 +1,6 @@
 -- The level of a set has a place for a frame of its size at least: MaxDpbFrames is not 0 (A.3.1, Table A-1).
 use Rattle.std.proofs.Common.{◌≡◌, ℕ, ◌+◌, ◌*◌, ◌<◌, ◌≤◌, nat_le, ◌==◌, ◌&&◌, Bool, true, false, List, [], ◌∷◌, ◌++◌, find, Option, Some, None, Ok, refl, ap, sym, subst, arith}
+use Rattle.std.proofs.lemmas.Bool.{and_parts}
 use Rattle.std.specs.Prelude.{unwrap_or, IfSome}
 use Rattle.std.specs.List.{list_all}
 use Rattle.std.specs.Option.{is_some, option_map, option_map_or}
@@ -53,16 +54,11 @@ holds_frame r = nat_le r.limits.max_fs r.limits.max_dpb_mbs
 abbrev HoldsFrame : Limits → Type 0
 HoldsFrame l = l.max_fs ≤ l.max_dpb_mbs
 
-both : (a b : Bool) → (a && b) ≡ true → (a ≡ true) × (b ≡ true)
-both true true e = (refl, refl)
-both true false e = absurd (cc)
-both false b e = absurd (cc)
-
 -- in each row MaxDpbMbs is at least MaxFS
 row-holds : (p : LevelRow → Bool) (rows : List LevelRow) → list_all holds_frame rows ≡ true → IfSome (option_map (λ (r : LevelRow). r.limits) (find p rows)) HoldsFrame
 row-holds p [] a = tt
 row-holds p (r ∷ rows) a =
-    let b = both (holds_frame r) (list_all holds_frame rows) a in
+    let b = and_parts (holds_frame r) (list_all holds_frame rows) a in
     go (p r) refl b.0 (row-holds p rows b.1)
   where
     go : (t : Bool) → p r ≡ t → holds_frame r ≡ true → IfSome (option_map (λ (r : LevelRow). r.limits) (find p rows)) HoldsFrame → IfSome (option_map (λ (r : LevelRow). r.limits) (find p (r ∷ rows))) HoldsFrame

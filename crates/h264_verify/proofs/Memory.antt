@@ -1,5 +1,6 @@
 -- Where want of memory comes from.
 use Rattle.std.proofs.Common.{◌≡◌, ℕ, ◌==◌, ◌&&◌, ◌||◌, Bool, true, false, Option, Some, None, List, [], ◌∷◌, Result, Ok, Err, refl, ap, sym, ◌∙◌, subst, if◌then◌else◌}
+use Rattle.std.proofs.lemmas.Bool.{and_parts}
 use Rattle.std.specs.Prelude.{IsErrOf}
 use Rattle.h264_base.specs.declared.mode.Mode.{Mode}
 use Rattle.h264_base.specs.declared.mode.Mode.TheVariants as modes
@@ -53,11 +54,6 @@ error-as {X} e h m = let is : e ≡ Memory = cc in h (ap (λ (x : Stop). let r :
 pub write-alone : {X : Type 0} (e : Stop) → e ≡ Write → (let r : Result X Stop = Err e in IsErrOf r Memory) → ⊥
 write-alone e w m = cc
 
--- what does not come where none begins comes where one begins
-pub begun-if : (begins : Bool) → (begins ≡ false → ⊥) → begins ≡ true
-begun-if true never = refl
-begun-if false never = absurd (never refl)
-
 -- ---- what is read
 
 pub unread : (t : Bool) (b : Body) (o : Option Body) → o ≡ None → o ≡ (if t then Some b else None) → t ≡ false
@@ -90,10 +86,6 @@ pub passed-by : (terms : Terms) (kind : ℕ) (before : History) (unit : NalUnit)
 unfolding joined_by
 passed-by terms kind before unit e = third (kind == 7) (kind == 8) (is_slice kind && reads_slices terms.mode) _ _ (joined_other terms.mode kind before unit) _ e (other-passed terms.mode kind before unit)
 
-and-both : (a b : Bool) → (a && b) ≡ true → (a ≡ true) × (b ≡ true)
-and-both true b e = (refl, e)
-and-both false b e = cc
-
 last-of : (one two three : Bool) → (one || two || three) ≡ true → one ≡ false → two ≡ false → three ≡ true
 last-of true two three e f g = cc
 last-of false true three e f g = cc
@@ -101,7 +93,7 @@ last-of false false three e f g = e
 
 -- and one that is read, and no set, is a slice
 pub read-slice : (mode : Mode) (kind : ℕ) → is_kind_read mode kind ≡ true → (kind == 7) ≡ false → (kind == 8) ≡ false → (is_slice kind ≡ true) × (reads_slices mode ≡ true)
-read-slice mode kind e f g = and-both (is_slice kind) (reads_slices mode) (last-of (kind == 7) (kind == 8) (is_slice kind && reads_slices mode) e f g)
+read-slice mode kind e f g = and_parts (is_slice kind) (reads_slices mode) (last-of (kind == 7) (kind == 8) (is_slice kind && reads_slices mode) e f g)
 
 -- ---- a picture of another format
 

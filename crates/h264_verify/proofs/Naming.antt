@@ -1,5 +1,6 @@
 -- The pictures that the list of a slice names have their places among those of the active sequence.
 use Rattle.std.proofs.Common.{◌≡◌, ℕ, zero, suc, ◌+◌, ◌-◌, ◌<◌, ◌≤◌, ◌==◌, ◌&&◌, ◌||◌, not, nat_lt, Bool, true, false, List, [], ◌∷◌, map, length, get_or, Option, Some, None, Result, Ok, Err, IfOk, refl, ap, sym, ◌∙◌, subst, arith, if◌then◌else◌}
+use Rattle.std.proofs.lemmas.Bool.{not-true}
 use Rattle.std.proofs.lemmas.Bool.Decides.{nat_tests}
 use Rattle.std.specs.List.{list_any, slice_get, AllByRecursion}
 use Rattle.std.specs.Option.{option_and_then, option_map, option_map_or}
@@ -142,10 +143,6 @@ not-idr pictures s k n typed small e = by s.header.kind.value refl
   where
     no-slot : (slots : List RefSlot) → slots ≡ [] → option_and_then picture_in (slice_get slots k) ≡ Some n → ⊥
     no-slot slots q h = let g : ◌≡◌ {A = Option ℕ} None (Some n) = sym (ap (λ (l : List RefSlot). option_and_then picture_in (slice_get l k)) q) ∙ h in cc
-
-    not-true : (b : Bool) → not b ≡ true → b ≡ false
-    not-true true h = cc
-    not-true false h = refl
 
     by : (kind : SliceKind) → s.header.kind.value ≡ kind → is_idr s.header ≡ false
     by kinds.I q = absurd (no-slot (list_in pictures s) (ap (λ (x : SliceKind). result_unwrap_or (list_of x (numbering_of s.sps s.header) (held_in pictures)) []) q) (named-slot pictures s k n small e))

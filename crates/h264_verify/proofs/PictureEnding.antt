@@ -1,5 +1,6 @@
 -- The end of a picture: its frame is decoded, and the buffer takes it.
 use Rattle.std.proofs.Common.{◌≡◌, ℕ, ◌+◌, ◌*◌, ◌<◌, ◌≤◌, ◌==◌, ◌&&◌, Bool, true, false, IsTrue, List, [], ◌∷◌, ◌++◌, length, Option, Some, None, refl, ap, sym, ◌∙◌, subst, arith, nat_lt, if◌then◌else◌}
+use Rattle.std.proofs.lemmas.Bool.{and_parts, and_from}
 use Rattle.std.proofs.lemmas.Bool.Decides.{nat_tests}
 use Rattle.h264_plane.specs.declared.frame.Frame.{Frame}
 use Rattle.h264_plane.specs.Frames.{IsFrame, plane_of}
@@ -145,18 +146,6 @@ decoded-as frames others p ps f n m a h = record {
 
 -- ---- what is shown of it
 
-both-true : (a b : Bool) → a ≡ true → b ≡ true → (a && b) ≡ true
-both-true true b e f = f
-both-true false b e f = cc
-
-first-true : (a b : Bool) → (a && b) ≡ true → a ≡ true
-first-true true b e = refl
-first-true false b e = e
-
-second-true : (a b : Bool) → (a && b) ≡ true → b ≡ true
-second-true true b e = e
-second-true false b e = cc
-
 below : (a b : ℕ) → nat_lt a b ≡ true → a ≤ b
 below a b e = grind (arith, nat_tests)
 
@@ -174,7 +163,7 @@ module _ (w h : ℕ) (f : Frame) (sized : IsFrame f (16 * w) (16 * h)) where
   rectangle-by (Some c) = within c (is_within c (record { width = w; height = h })) refl
     where
       within : (c : FrameCropping) (b : Bool) → is_within c (record { width = w; height = h }) ≡ b → fits (if b then record { left = c.left; right = c.right; top = c.top; bottom = c.bottom } else record { left = 0; right = 0; top = 0; bottom = 0 }) f ≡ true
-      within c true e = inside c.left c.right c.top c.bottom (below _ _ (first-true (leaves c.left c.right w) (leaves c.top c.bottom h) e)) (below _ _ (second-true (leaves c.left c.right w) (leaves c.top c.bottom h) e))
+      within c true e = inside c.left c.right c.top c.bottom (below _ _ (and_parts (leaves c.left c.right w) (leaves c.top c.bottom h) e).0) (below _ _ (and_parts (leaves c.left c.right w) (leaves c.top c.bottom h) e).1)
       within c false e = inside 0 0 0 0 (omega arith) (omega arith)
 
 pub rectangle-fits : (sps : Sps) (f : Frame) → IsFrame f (16 * sps.frame_size.width) (16 * sps.frame_size.height) → fits (rectangle_of sps) f ≡ true

@@ -1,5 +1,6 @@
 -- Slice data after what is kept before them.
 use Rattle.std.proofs.Common.{◌≡◌, ℕ, Bool, ◌&&◌, true, false, List, [], ◌∷◌, Option, Result, Ok, refl, ap, sym, ◌∙◌, length}
+use Rattle.std.proofs.lemmas.Bool.{and_parts}
 use Rattle.h264_base.specs.declared.stop.Stop.{Stop}
 use Rattle.h264_base.specs.Call.{Call}
 use Rattle.h264_plane.specs.declared.frame.Frame.{Frame}
@@ -51,14 +52,9 @@ syntax-is width size pps sps h list picture c e = ap (λ (x : SliceContext). sli
 syntax-same : (width size : ℕ) (pps : Pps) (sps : Sps) (h : Header) (m : Option (Found Marking)) (list : List RefSlot) (picture : List CodedMacroblock) → slice_syntax width size pps sps (record h { marking = m }) list picture ≡ slice_syntax width size pps sps h list picture
 syntax-same width size pps sps h m list picture = sym (syntax-is width size pps sps (record h { marking = m }) list picture _ refl) ∙ syntax-is width size pps sps h list picture _ (context-same pps sps h m list)
 
--- the frames of a set that may be given are no larger than the greatest MaxFS
-first-of : (a r : Bool) → (a && r) ≡ true → a ≡ true
-first-of true r h = refl
-first-of false r h = h
-
 pub usable_size : (sps : Sps) → is_usable sps ≡ true → is_frame_size sps.frame_size ≡ true
 unfolding is_usable
-usable_size sps e = first-of (is_frame_size sps.frame_size) (crops_within sps.frame_size sps.frame_cropping && (holds_references sps && buffers_within sps)) e
+usable_size sps e = (and_parts (is_frame_size sps.frame_size) (crops_within sps.frame_size sps.frame_cropping && (holds_references sps && buffers_within sps)) e).0
 
 filter-same : (pps : Pps) (h : Header) (m : Option (Found Marking)) → slice_filter pps (record h { marking = m }) ≡ slice_filter pps h
 unfolding slice_filter

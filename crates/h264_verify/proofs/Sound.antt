@@ -1,5 +1,6 @@
 -- What follows of pictures whose rules are met: no more frames are held than the buffer has places, and a reference picture that has ended is among them.
 use Rattle.std.proofs.Common.{◌≡◌, ℕ, ◌≤◌, ◌&&◌, nat_le, nat_lt, min, max, unwrap_or, Bool, true, false, List, [], ◌∷◌, ◌++◌, map, length, Option, Some, None, Result, Ok, Err, refl, ap, sym, ◌∙◌, subst, arith, if◌then◌else◌}
+use Rattle.std.proofs.lemmas.Bool.{and_parts}
 use Rattle.std.proofs.lemmas.Bool.{leb-true}
 use Rattle.std.specs.Option.{is_some, option_map_or}
 use Rattle.std.specs.Result.{result_unwrap_or}
@@ -76,25 +77,17 @@ set-few sps (p ∷ ps) h s = subst (λ (x : Sps). length (held_after (p ∷ ps))
 
 -- ---- the buffer of a sequence has places for its reference frames
 
-second : (a b : Bool) → (a && b) ≡ true → b ≡ true
-second true b e = e
-second false b e = cc
-
-first : (a b : Bool) → (a && b) ≡ true → a ≡ true
-first true b e = refl
-first false b e = cc
-
 -- what is said of the buffer of a sequence
 buffer-holds : (sps : Sps) → is_usable sps ≡ true → (holds_references sps && buffers_within sps) ≡ true
 unfolding is_usable
-buffer-holds sps u = second (crops_within sps.frame_size sps.frame_cropping) _ (second (is_frame_size sps.frame_size) _ u)
+buffer-holds sps u = (and_parts (crops_within sps.frame_size sps.frame_cropping) _ (and_parts (is_frame_size sps.frame_size) _ u).1).1
 
 least-most : (m g : ℕ) → m ≤ g → min (max m 1) 16 ≤ max 1 (min g 16)
 least-most m g h = omega (arith, h)
 
 pub places-fit : (sps : Sps) → is_usable sps ≡ true → frame_places sps.max_num_ref_frames ≤ buffer_size sps
 unfolding buffer_size
-places-fit sps u = least-most sps.max_num_ref_frames (unwrap_or (given_frames sps) (dpb_frames sps)) (leb-true _ _ (first (holds_references sps) (buffers_within sps) (buffer-holds sps u)))
+places-fit sps u = least-most sps.max_num_ref_frames (unwrap_or (given_frames sps) (dpb_frames sps)) (leb-true _ _ (and_parts (holds_references sps) (buffers_within sps) (buffer-holds sps u)).0)
 
 -- it has no more places than the level allows
 most-of : (o : Option ℕ) (m : ℕ) → option_map_or (λ (n : ℕ). nat_le n m) o true ≡ true → max 1 (min (unwrap_or o m) 16) ≤ max 1 m
@@ -103,7 +96,7 @@ most-of (Some n) m h = let k = leb-true n m h in omega (arith, k)
 
 pub size-fits : (sps : Sps) → is_usable sps ≡ true → buffer_size sps ≤ max 1 (dpb_frames sps)
 unfolding buffer_size
-size-fits sps u = most-of (given_frames sps) (dpb_frames sps) (second (holds_references sps) (buffers_within sps) (buffer-holds sps u))
+size-fits sps u = most-of (given_frames sps) (dpb_frames sps) (and_parts (holds_references sps) (buffers_within sps) (buffer-holds sps u)).1
 
 pub after-few : (p : CodedPicture) (ps : List CodedPicture) → AreSound true (p ∷ ps) → length (held_after (p ∷ ps)).frames ≤ buffer_size p.first.sps
 after-few p ps s = let few = held-few (p ∷ ps) s in let fit = places-fit p.first.sps s.0.usable in omega (arith, few, fit)
@@ -150,7 +143,7 @@ after-among p ps s r = ended-among p.first.header.marking (numbering_of p.first.
 
 -- ---- the newest picture ends
 
-met-by : (b : Bool) (e : Stop) → (let r : Result (Unit {0}) Stop = Ok tt in r ≡ (if b then Ok tt else Err e)) → b ≡ true
+pub met-by : (b : Bool) (e : Stop) → (let r : Result (Unit {0}) Stop = Ok tt in r ≡ (if b then Ok tt else Err e)) → b ≡ true
 met-by true e h = refl
 met-by false e h = cc
 

@@ -118,10 +118,6 @@ fed-ends j start took failures known bytes old new s0 s1 s1' s2 r e d none f k p
     fed-finishes j start took failures known bytes old s0 s1 s2 r none f k
     (subst (λ s. Finishes j took failures old s s2 r) d (subst (λ w. Finishes j took failures w s1' s2 r) e p))
 
-pub not-more : (b : Bool) → not b ≡ true → b ≡ false
-not-more true e = cc
-not-more false e = refl
-
 pub pieces-finish : {State Summary : Type 0} (j : Judging State Summary) {S : Type 0} (start : State) (took : S → List Told → Type 0) (failures : S → ℕ) (bytes : List ℕ) (mid : Standing State) (s0 s1 s2 : S) (r : Result Summary Stop) → Goes j took (fresh start) mid bytes [] s0 s1 → failures s1 ≡ failures s0 → Finishes j took failures mid s1 s2 r → Judges j start took failures bytes s0 s2 r
 pieces-finish j start took failures bytes mid s0 s1 s2 r g k p = fed-finishes j start took failures (Some []) bytes mid s0 s1 s2 r (λ left e. cc) (record { fed = bytes; left = []; known_is = refl; whole = sym (append-nil bytes); goes = g }) k p
 

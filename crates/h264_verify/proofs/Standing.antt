@@ -1,5 +1,6 @@
 -- The sets of a slice, and those of the pictures before it.
 use Rattle.std.proofs.Common.{◌≡◌, ℕ, ◌||◌, ◌&&◌, not, nat_le, Bool, true, false, List, [], ◌∷◌, Option, Some, None, Result, Ok, Err, refl, ap, sym, ◌∙◌, subst, eqb-true, if◌then◌else◌}
+use Rattle.std.proofs.lemmas.Bool.{and_parts}
 use Rattle.std.specs.Option.{is_some, option_and_then}
 use Rattle.h264_base.proofs.Chains.{map-some, then-some}
 use Rattle.h264_base.specs.declared.stop.Stop.{Stop}
@@ -25,7 +26,7 @@ use Rattle.h264_verify.specs.Keeping.{KeepsSlices, standing_demands}
 use Rattle.h264_verify.specs.Sound.{IsMarked, HasSet, HasPps, AreSound, has_ended, HasActive, NamesSet}
 use Rattle.h264_verify.specs.Held.{has_gap_filled}
 use Rattle.h264_verify.proofs.Slicing.{content-active}
-use Rattle.h264_verify.proofs.Sound.{ended-sound-of}
+use Rattle.h264_verify.proofs.Sound.{met-by, ended-sound-of}
 use Rattle.h264_verify.proofs.Ruling.{held-all}
 
 -- ---- rules that are met
@@ -33,10 +34,6 @@ use Rattle.h264_verify.proofs.Ruling.{held-all}
 pub first-met : (b : Bool) (r : Result (Unit {0}) Stop) (e : Stop) → (let o : Result (Unit {0}) Stop = Ok tt in o ≡ (if b then r else Err e)) → (b ≡ true) × (Ok tt ≡ r)
 first-met true r e h = (refl, h)
 first-met false r e h = cc
-
-is-met : (b : Bool) (e : Stop) → (let o : Result (Unit {0}) Stop = Ok tt in o ≡ (if b then Ok tt else Err e)) → b ≡ true
-is-met true e h = refl
-is-met false e h = cc
 
 never : (due idr : Bool) → (not due || idr) ≡ true → due ≡ true → idr ≡ false → ⊥
 never true true h d i = cc
@@ -58,12 +55,12 @@ pub stands-set : (due : Bool) (pictures : List CodedPicture) (maps : Maps) (sps 
 stands-set due [] maps sps bit h a ok i = let m = first-met (not due || is_idr h) _ _ ok in absurd (never due (is_idr h) m.0 a i)
 stands-set due (p ∷ ps) maps sps bit h a ok i =
     let m = first-met (not due || is_idr h) _ _ ok in
-    let c = is-met (is_idr h || is_active maps sps) _ m.1 in
+    let c = met-by (is_idr h || is_active maps sps) _ m.1 in
     one-set p.first.sps sps _ a (content-active maps.active sps (or-other _ _ c i))
 
 -- and so has a slice that goes on with a picture
 pub stands-same : (due : Bool) (p : CodedPicture) (ps : List CodedPicture) (maps : Maps) (sps : Sps) (bit : ℕ) (h : Header) → HasActive due (p ∷ ps) maps → (let o : Result (Unit {0}) Stop = Ok tt in o ≡ judged (standing_demands false sps due maps bit h)) → p.first.sps ≡ sps
-stands-same due p ps maps sps bit h a ok = one-set p.first.sps sps _ a (content-active maps.active sps (is-met (is_active maps sps) _ ok))
+stands-same due p ps maps sps bit h a ok = one-set p.first.sps sps _ a (content-active maps.active sps (met-by (is_active maps sps) _ ok))
 
 pub stands-if : (begins due : Bool) (pictures : List CodedPicture) (maps : Maps) (sps : Sps) (bit : ℕ) (h : Header) → HasActive due pictures maps → (let o : Result (Unit {0}) Stop = Ok tt in o ≡ judged (standing_demands begins sps due maps bit h)) → begins ≡ true → is_idr h ≡ false → HasSet sps pictures
 stands-if true due pictures maps sps bit h a ok b i = stands-set due pictures maps sps bit h a ok i
@@ -84,14 +81,10 @@ named-accepted b pps q (Some sps) s e = if-usable b _ pps q sps s refl e
 named-accepted true pps q None s e = cc
 named-accepted false pps q None s e = cc
 
-second-true : (a b : Bool) → (a && b) ≡ true → b ≡ true
-second-true true b e = e
-second-true false b e = cc
-
 pub usable-set : (maps : Maps) (id : ℕ) (pps : Pps) (sps : Sps) → sets_of maps id ≡ Some (pps, sps) → is_usable sps ≡ true
 usable-set maps id pps sps named =
     let s = then-some (sps_named maps) (pps_of maps id) (pps, sps) named in
-    second-true (has_lengths sps) (is_usable sps) (named-accepted (nat_le s.0.seq_parameter_set_id 31) s.0 pps (sps_of maps s.0.seq_parameter_set_id) sps s.2)
+    (and_parts (has_lengths sps) (is_usable sps) (named-accepted (nat_le s.0.seq_parameter_set_id 31) s.0 pps (sps_of maps s.0.seq_parameter_set_id) sps s.2)).1
 
 -- ---- with one more slice
 

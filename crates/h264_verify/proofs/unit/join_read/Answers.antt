@@ -1,4 +1,5 @@
 use Rattle.std.proofs.Common.{◌≡◌, [], ◌∷◌, List, Bool, true, false, Ok, subst, sym, ◌∙◌, ap, refl}
+use Rattle.std.proofs.lemmas.Bool.{true_from_ne_false}
 use Rattle.std.proofs.lemmas.Result.{err_from_is_err_and}
 use Rattle.h264_base.specs.Meets.{Reader}
 use Rattle.h264_base.specs.declared.mode.Mode.TheVariants as modes
@@ -28,7 +29,7 @@ use Rattle.h264_sets.specs.Sets.{Maps}
 use Rattle.h264_verify.specs.Sound.{NamesSet}
 use Rattle.h264_verify.proofs.Standing.{later-set}
 use Rattle.h264_verify.proofs.Marked.{read-marked}
-use Rattle.h264_verify.proofs.Memory.{answers-memory, begun-if, is-another, begins-another}
+use Rattle.h264_verify.proofs.Memory.{answers-memory, is-another, begins-another}
 use Rattle.h264_verify.proofs.unit.join_read.Goals as goal
 
 pub place_slice-requires-clause-kept : goal.place_slice-requires-clause-kept
@@ -201,6 +202,6 @@ returns-clause-no_memory g c = λ frames before k m.
     let kept = subst (λ (b : Bool). KeepsWithin modes.Full frames before b c.args.state.now) c.requires.goes_on k in
     let named = sets-after c.args.state.now.sets _ h _ c.in_ok-place_slice.ensures.sets (rw same at c.sets_named.ensures.sets) in
     let b = begins-as before h c.args.state.now.slices _ kept.slices c.begins-begins.ensures in
-    let begun = begun-if _ (λ e. c.read_data.ensures.no_memory e m) in
+    let begun = true_from_ne_false _ (λ e. c.read_data.ensures.no_memory e m) in
     begins-another {X = Unit {0}} _ _ before c.args.unit.now _ k.sets c.args.header c.requires.header _ c.slice_unit-slice_unit.ensures h _ _ _ _ _ c.requires.first c.in_ok-read_header.ensures.meets c.in_ok-read_header.ensures.answers sets named (sym b ∙ begun)
     (is-another frames (goes_on before) (runs_of before) c.args.state.now.decoder c.in-Some.decoder sets.1 kept.decoder (ap format_in (sym c.in-Some.is) ∙ c.in_ok-judge_rules.ensures.format ∙ c.in_ok-place_slice.ensures.format) (λ f. c.read_data.ensures.stands f m))
