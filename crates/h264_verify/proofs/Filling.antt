@@ -1,5 +1,5 @@
 -- What is kept while missing numbers are filled.
-use Rattle.std.proofs.Common.{Bool, true, ◌≡◌, ℕ, ◌+◌, ◌<◌, ◌≤◌, ◌^◌, List, length, Option, Some, None, Result, Ok, Err, OnOk, refl, sym, ◌∙◌, subst, arith, length-append}
+use Rattle.std.proofs.Common.{◌≡◌, ℕ, ◌+◌, ◌<◌, ◌^◌, length, Option, Some, None, Result, Ok, Err, OnOk, refl, sym, ◌∙◌, subst, length-append}
 use Rattle.h264_plane.specs.declared.frame.Frame.{Frame}
 use Rattle.h264_marking.specs.Frames.{References}
 use Rattle.h264_picture.specs.Places.{lent}

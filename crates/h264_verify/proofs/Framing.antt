@@ -20,7 +20,7 @@ use Rattle.h264_dpb.specs.Bumping.{is_held}
 use Rattle.h264_dpb.specs.Turns.{names}
 use Rattle.h264_verify.specs.Sound.{AreSound}
 use Rattle.h264_verify.proofs.Sound.{ended-sound-of, after-few, after-among}
-use Rattle.h264_verify.specs.Keeping.{KeepsFrames, WhereMade, KeepsSlices, KeepsSomeEnd, KeepsSomeFrames, HoldsOpen, HoldsEnd, held_by}
+use Rattle.h264_verify.specs.Keeping.{KeepsFrames, KeepsSlices, KeepsSomeEnd, KeepsSomeFrames, HoldsOpen, HoldsEnd, held_by}
 use Rattle.h264_verify.specs.Outcome.{Outcome, answers, gives, Plays}
 use Rattle.h264_verify.specs.Order.{whole_picture}
 use Rattle.h264_base.specs.declared.stop.Stop.TheVariants.{No}

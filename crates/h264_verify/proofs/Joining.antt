@@ -15,7 +15,7 @@ use Rattle.h264_verify.specs.Content.{Content}
 use Rattle.h264_verify.specs.Content as contents
 use Rattle.h264_verify.specs.History.{History, ReadUnit, maps_of, maps_with}
 use Rattle.h264_verify.specs.UnitHeader.{header_of, nal_unit_type}
-use Rattle.h264_verify.specs.Pictures.{CodedSlice, CodedPicture, with_sets, ends_picture, open_of, goes_on, runs_of, begins_after, begins_at, joined_to, joined_by}
+use Rattle.h264_verify.specs.Pictures.{CodedPicture, with_sets, ends_picture, open_of, goes_on, runs_of, begins_after, begins_at, joined_to, joined_by}
 use Rattle.std.specs.Option.{option_map}
 use Rattle.h264_near.specs.Coded.{CodedMacroblock}
 use Rattle.h264_sets.specs.Sets.{Maps}

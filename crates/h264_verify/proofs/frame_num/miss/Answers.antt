@@ -2,7 +2,7 @@ use Rattle.std.proofs.Common.{◌≡◌, ℕ, ◌≤◌, Option, Some, sym, ap, 
 use Rattle.h264_dpb.specs.Kept.{size_of}
 use Rattle.h264_header.proofs.Entries.{where-ok}
 use Rattle.h264_verify.specs.declared.decoder.Decoder.{Decoder}
-use Rattle.h264_verify.specs.Keeping.{KeepsSomeGap, FillsSome, HasPlaces, format_in}
+use Rattle.h264_verify.specs.Keeping.{HasPlaces, format_in}
 use Rattle.h264_verify.proofs.Made.{some-made, none-made, quiet-made, full-made, quiet-told}
 use Rattle.h264_verify.proofs.Filling.{some-filled}
 use Rattle.h264_verify.proofs.Playing.{gives-plays}

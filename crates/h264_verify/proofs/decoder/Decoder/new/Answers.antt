@@ -1,4 +1,3 @@
-use Rattle.std.proofs.Common.{false, []}
 use Rattle.h264_verify.proofs.decoder.Decoder.new.Goals as goal
 
 pub returns : goal.returns
