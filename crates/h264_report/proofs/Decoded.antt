@@ -12,6 +12,7 @@ use Rattle.h264_report.specs.Queue.{Waits, IsFilled, frames_of, told_of_frames}
 use Rattle.h264_report.specs.Written.{Answers, Account, calls_in, told_of}
 use Rattle.h264_report.specs.declared.queue.ShownFrame.{ShownFrame}
 use Rattle.h264_report.proofs.Queued.{waits-begun, waits-taken, waits-filled}
+use Rattle.h264_verify.proofs.AgreeingUnits.{calls-both, decoded-both}
 use Rattle.h264_verify.specs.Feeding.{WasFed, IsFed}
 use Rattle.h264_verify.specs.Progress.{Progress}
 use Rattle.h264_verify.specs.Telling.{Told, Said, Decodes, Shows, Tells, took_with, calls_of, AreDecoded}
@@ -19,20 +20,6 @@ use Rattle.h264_verify.specs.Verdict.{Judged, JudgedBy}
 use Rattle.h264_verify.specs.declared.state.Summary.{Summary}
 use Rattle.h264_verify.specs.declared.state.Terms.{Terms}
 use Rattle.h264_report.proofs.Accounts.{taken}
-
--- ---- what was told in two parts
-
-pub calls-append : (frames : ℕ → Frame) (told more : List Told) → calls_of frames (told ++ more) ≡ calls_of frames told ++ calls_of frames more
-calls-append frames [] more = refl
-calls-append frames (Said call ∷ told) more = ap (λ l. call ∷ l) (calls-append frames told more)
-calls-append frames (Decodes pictures ∷ told) more = calls-append frames told more
-calls-append frames (Shows e ∷ told) more = ap (λ l. shown_call frames e ∷ l) (calls-append frames told more)
-
-pub decoded-append : (frames : ℕ → Frame) (told more : List Told) → AreDecoded frames told → AreDecoded frames more → AreDecoded frames (told ++ more)
-decoded-append frames [] more a b = b
-decoded-append frames (Said call ∷ told) more a b = decoded-append frames told more a b
-decoded-append frames (Decodes pictures ∷ told) more a b = (a.0, decoded-append frames told more a.1 b)
-decoded-append frames (Shows e ∷ told) more a b = decoded-append frames told more a b
 
 -- A sink that had taken nothing took some more of a stream.
 record Took {S : Type 0} (took : S → List Call → Type 0) (frames : ℕ → Frame) (s' : S) (more : List Told) : Type 0 where
@@ -62,7 +49,7 @@ module _ {S : Type 0} (took : S → List Call → Type 0) (failures : S → ℕ)
 pub accounted : {S : Type 0} {took : S → List Call → Type 0} {failures : S → ℕ} {terms : Terms} {bytes : List ℕ} {frames : ℕ → Frame} {told : List Told} {s s' : S} {answer : Result Summary Stop} → Judged terms took failures bytes frames told s s' answer → AreDecoded frames told → took s [] → Account terms bytes answer
 accounted {S} {took} {failures} {terms} {bytes} {frames} {told} {s} {s'} {answer} j d none =
     let a = judged-answered took failures terms bytes j.made told s s' none answer j.judged in
-    record { frames = j.made; told = told ++ a.more; decoded = decoded-append j.made told a.more (j.same.decoded d) a.took_more.decoded; answers = a.answers }
+    record { frames = j.made; told = told ++ a.more; decoded = decoded-both j.made told a.more (j.same.decoded d) a.took_more.decoded; answers = a.answers }
 
 -- ---- the answer that is told, where no device can fail
 
@@ -102,7 +89,7 @@ never-write (Err Write) e = let f = same-stop e in cc
 -- what waits of what was told with these frames, and of what was told then
 waits-then : {n m : ℕ} {waiting later : List ShownFrame} (frames made : ℕ → Frame) (told more : List Told) → calls_of made told ≡ calls_of frames told → Waits n waiting (calls_of frames told) → IsFilled n (told_of_frames waiting) m later (calls_of made more) → Waits m later (calls_of made (told ++ more))
 waits-then {n} {m} {waiting} {later} frames made told more same w f =
-    subst (Waits m later) (sym (calls-append made told more))
+    subst (Waits m later) (sym (calls-both made told more))
     (waits-filled (calls_of made told) (calls_of made more) (subst (Waits n waiting) (sym same) w) f)
 
 answered-told : {terms : Terms} {bytes : List ℕ} {n : ℕ} {waiting : List ShownFrame} (answer : Result Summary Stop) → (answer ≡ Err Read → ⊥) → (a : Account terms bytes answer) → Waits n waiting (calls_in a) → HasDecoded terms bytes (told_of false answer) n waiting
@@ -131,7 +118,7 @@ module _ {S : Type 0} (out : S → ℕ) (items : S → List ShownFrame) (n : ℕ
     pub falls : {whole : List ℕ} (answer said : Result Summary Stop) → said ≡ told_of false answer → (answer ≡ Err Read → ⊥) → Judged terms filled failures whole d.frames d.told s s' answer → HasDecoded terms whole said (out s') (items s')
     falls {whole} answer said is never j =
         let a = judged-answered filled failures terms whole j.made d.told s s' begun answer j.judged in
-        let account : Account terms whole answer = record { frames = j.made; told = d.told ++ a.more; decoded = decoded-append j.made d.told a.more (j.same.decoded d.decoded) a.took_more.decoded; answers = a.answers } in
+        let account : Account terms whole answer = record { frames = j.made; told = d.told ++ a.more; decoded = decoded-both j.made d.told a.more (j.same.decoded d.decoded) a.took_more.decoded; answers = a.answers } in
         subst (λ x. HasDecoded terms whole x (out s') (items s')) (sym is) (answered-told answer never account (waits-then d.frames j.made d.told a.more j.same.calls d.waits (filled-there {s = s'} a.took_more.calls)))
 
     pub falls-grown : {whole : List ℕ} (answer : Result Summary Stop) → Judged terms filled failures whole d.frames d.told s s' answer → HasGrown n waiting (out s') (items s')
@@ -147,7 +134,7 @@ module _ {S : Type 0} (out : S → ℕ) (items : S → List ShownFrame) (n : ℕ
           frames = f.made;
           told = d.told ++ f.more;
           fed = f.fed;
-          decoded = decoded-append f.made d.told f.more (f.same.decoded d.decoded) t.0;
+          decoded = decoded-both f.made d.told f.more (f.same.decoded d.decoded) t.0;
           waits = waits-then d.frames f.made d.told f.more f.same.calls d.waits (filled-there {s = s'} t.1);
         }
 
