@@ -1,11 +1,11 @@
 -- What holds of a result that is no Ok.
-use Rattle.std.proofs.Common.{◌≡◌, ℕ, ◌+◌, ◌<◌, ◌≤◌, ◌⊎◌, inl, inr, ⊎_elim, arith, Bool, false, List, Result, Ok, Err, IfOk, OnOk, OnErr, sym, ap, ◌∙◌}
+use Rattle.std.proofs.Common.{◌≡◌, ℕ, ◌+◌, inl, inr, ⊎_elim, arith, Bool, false, List, Result, Ok, Err, IfOk, OnOk, OnErr, sym, ap, ◌∙◌}
 use Rattle.std.specs.Result.{is_err}
 use Rattle.std.proofs.lemmas.Bool.{true≢false}
 use Rattle.h264_base.specs.declared.stop.Stop.{Stop}
 use Rattle.h264_base.specs.declared.stop.Stop.TheVariants.{Read, Write}
 use Rattle.h264_verify.specs.declared.state.Summary.{Summary}
-use Rattle.h264v.specs.Files.{HasFailedToRead}
+use Rattle.h264v.specs.Files.{HasFailedToRead, was_read_by}
 
 pub no-value : {T E : Type 0} (P : T → Type 0) (r : Result T E) → OnOk r ⊥ → IfOk r P
 no-value P (Ok x) h = absurd h
@@ -24,8 +24,8 @@ pub given-kept : (before : List ℕ) (ended : Bool) → Unit {0} → Unit {0}
 given-kept before ended given = given
 
 -- a failure was counted
-pub counted : (n reads reads' failures failures' : ℕ) → failures' ≡ failures + 1 → (n + 1 ≤ reads') ⊎ (0 < failures')
-counted n reads reads' failures failures' e = inr (omega (arith, e))
+pub counted : (n reads' failures failures' : ℕ) → failures' ≡ failures + 1 → was_read_by reads' failures' (n + 1)
+counted n reads' failures failures' e = inr (omega (arith, e))
 
 -- a failed read is no failed write
 pub not-write : {A : Type 0} (answer : Result Summary Stop) → answer ≡ Err Read → answer ≡ Err Write → A

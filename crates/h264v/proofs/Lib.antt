@@ -5,6 +5,7 @@ mod Texts
 mod Explained
 pub mod Told
 mod Writing
+mod ToldReads
 mod Answered
 mod Given
 mod Further

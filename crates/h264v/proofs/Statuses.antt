@@ -3,6 +3,7 @@ use Rattle.std.proofs.Common.{◌≡◌, ℕ, max, List, [], ◌∷◌, ◌++◌
 use Rattle.std.specs.List.{count_by}
 use Rattle.clap.specs.Words.{Text}
 use Rattle.h264v.specs.Commands.{Output}
+use Rattle.h264v.specs.Files.{Counts}
 use Rattle.h264v.specs.More.{FileDone, IsStatus, done_status, worst}
 use Rattle.h264v.specs.Words.{Given}
 use Rattle.h264v.specs.declared.command_line.Task.{Task}
@@ -29,7 +30,7 @@ pub count-map : {X : Type 0} (p : Text → Bool) (of : X → Text) (xs : List X)
 count-map p of xs = let none : ℕ = 0 in fold-map (λ n y. n + cond (p y) 1 0) of none xs
 
 -- what comes of a task, with the same rows and devices
-pub moved : {task : Task} {given given' : Given} {file : Text → Option (List ℕ)} {Failed : Type 0} {status : ℕ} {was was' out err err' now : Output} → given ≡ given' → was ≡ was' → err ≡ err' →
-    IsStatus task given file Failed status was out err now → IsStatus task given' file Failed status was' out err' now
-moved {task} {given} {given'} {file} {Failed} {status} {was} {was'} {out} {err} {err'} {now} g o e s =
-    subst (λ x. IsStatus task given' file Failed status was' out x now) e (subst (λ x. IsStatus task given' file Failed status x out err now) o (subst (λ x. IsStatus task x file Failed status was out err now) g s))
+pub moved : {task : Task} {given given' : Given} {file : Text → Option (List ℕ)} {before after : Counts} {status : ℕ} {was was' out err err' now : Output} → given ≡ given' → was ≡ was' → err ≡ err' →
+    IsStatus task given file before after status was out err now → IsStatus task given' file before after status was' out err' now
+moved {task} {given} {given'} {file} {before} {after} {status} {was} {was'} {out} {err} {err'} {now} g o e s =
+    subst (λ x. IsStatus task given' file before after status was' out x now) e (subst (λ x. IsStatus task given' file before after status x out err now) o (subst (λ x. IsStatus task x file before after status was out err now) g s))

@@ -14,7 +14,9 @@ use Rattle.h264_verify.specs.Units.{terms_of}
 use Rattle.h264_verify.specs.declared.state.Summary.{Summary}
 use Rattle.h264v.specs.Commands.{Output, IsHandedOver}
 use Rattle.h264v.specs.Further.{asks_further, TellsBroken}
-use Rattle.h264v.specs.More.{AreDone, AreTold, Each, Broke, FileDone, IsAnswerOf, IsJudged, IsPutAside, IsTextOfFile, MayBeUnread, TellsWrites, are_several, done_status, texts_of, worst}
+use Rattle.h264v.specs.More.{AreDone, AreTold, Each, FileDone, IsAnswerOf, IsJudged, IsPutAside, IsTextOfFile, TellReads, TellUnread, TellsRead, TellsWrites, are_several, done_status, texts_of, worst}
+use Rattle.h264v.specs.Files.{Counts}
+use Rattle.h264v.specs.Texts.{IsFileText, opening_in, prefix_of}
 use Rattle.h264v.specs.Words.{mode_of, system_name}
 use Rattle.h264v.proofs.Texts.{texts-one}
 use Rattle.h264v.specs.declared.command_line.Task.{Task}
@@ -121,25 +123,30 @@ no-device d status is never =
 one-worst : (f : FileDone) → worst (f ∷ []) ≡ done_status f.done
 one-worst f = omega arith
 
+-- what is told of failed reads where there is one file
+one-read : (before after : Counts) (f : FileDone) (names : List Text) → f.name ∷ [] ≡ names → TellsRead before after f → TellReads (are_several names) before after (f ∷ [])
+one-read before after f names name read =
+    subst (λ ns. TellReads (are_several ns) before after (f ∷ [])) name (All-push (TellsRead before after) [] f (All-nil (TellsRead before after)) read)
+
 -- one file alone
-pub alone : (task : Task) (o : Options) (file : Text → Option (List ℕ)) (Failed : Type 0) (f : FileDone) (names : List Text) (status : ℕ) (out out' err' : Output) → f.name ∷ [] ≡ names →
+pub alone : (task : Task) (o : Options) (file : Text → Option (List ℕ)) (before after : Counts) (f : FileDone) (names : List Text) (status : ℕ) (out out' err' : Output) → f.name ∷ [] ≡ names →
     IsAnswerOf task o.target (file (system_name f.name)) f.done.ending.answer → TellsBroken (asks_further task o.strict) (terms_of (mode_of task) o.target) (file (system_name f.name)) f.done →
-    (IsErrOf f.done.ending.answer Read → Failed) → TellsWrites o.y4m f.done.ending out out' err' → IsTextOfFile task o file false f → (out'.has_failed ≡ false → Sends out.bytes out'.bytes f.text) → status ≡ done_status f.done →
-    AreDone task o file Failed names status out out' err'
-alone task o file Failed f names status out out' err' name answer broken read t text sends is =
-    let Judged : FileDone → Type 0 = IsJudged task o file (MayBeUnread names Failed) out' err' in
-    let judged : Judged f = record { answer = answer; broken = broken; excused = record { read = λ e. inl (read e); write = λ e. ⊎_elim (λ h. inl (inl h)) (λ y. inr (inr y)) (t.write e); unwritten = λ e. inl (t.unwritten e) } } in
+    TellsRead before after f → TellsWrites o.y4m f.done.ending out out' err' → IsTextOfFile task o file false f → (out'.has_failed ≡ false → Sends out.bytes out'.bytes f.text) → status ≡ done_status f.done →
+    AreDone task o file (TellReads (are_several names) before after) names status out out' err'
+alone task o file before after f names status out out' err' name answer broken read t text sends is =
+    let Judged : FileDone → Type 0 = IsJudged task o file out' err' in
+    let judged : Judged f = record { answer = answer; broken = broken; excused = record { write = λ e. ⊎_elim (λ h. inl (inl h)) (λ y. inr (inr y)) (t.write e); unwritten = λ e. inl (t.unwritten e) } } in
     let told : AreTold task o file (are_several (f.name ∷ [])) (f ∷ []) out out' = record { texts = All-push (IsTextOfFile task o file false) [] f (All-nil (IsTextOfFile task o file false)) text; last = []; of_one = λ one. refl; sends = λ none. sends-is (texts-one f) (sends none) } in
-    Each (f ∷ []) name (All-push Judged [] f (All-nil Judged) judged) (is ∙ sym (one-worst f)) (λ never. let n = no-device f.done status is never in t.told n.0 n.1) (λ none. subst (λ ns. AreTold task o file (are_several ns) (f ∷ []) out out') name told)
+    Each (f ∷ []) name (All-push Judged [] f (All-nil Judged) judged) (one-read before after f names name read) (is ∙ sym (one-worst f)) (λ never. let n = no-device f.done status is never in t.told n.0 n.1) (λ none. subst (λ ns. AreTold task o file (are_several ns) (f ∷ []) out out') name told)
 
 -- one file, whose output is a file that the words name
-pub alone-elsewhere : (task : Task) (o : Options) (file : Text → Option (List ℕ)) (Failed : Type 0) (f : FileDone) (names : List Text) (status : ℕ) (out err' : Output) → f.name ∷ [] ≡ names →
+pub alone-elsewhere : (task : Task) (o : Options) (file : Text → Option (List ℕ)) (before after : Counts) (f : FileDone) (names : List Text) (status : ℕ) (out err' : Output) → f.name ∷ [] ≡ names →
     IsAnswerOf task o.target (file (system_name f.name)) f.done.ending.answer → TellsBroken (asks_further task o.strict) (terms_of (mode_of task) o.target) (file (system_name f.name)) f.done →
-    (IsErrOf f.done.ending.answer Read → Failed) → IsSome o.output → status ≡ done_status f.done → AreDone task o file Failed names status out out err'
-alone-elsewhere task o file Failed f names status out err' name answer broken read some is =
-    let Judged : FileDone → Type 0 = IsJudged task o file (MayBeUnread names Failed) out err' in
-    let judged : Judged f = record { answer = answer; broken = broken; excused = record { read = λ e. inl (read e); write = λ e. inr (inl some); unwritten = λ e. inr (inl some) } } in
-    Each (f ∷ []) name (All-push Judged [] f (All-nil Judged) judged) (is ∙ sym (one-worst f)) (λ never. (λ h. h, inr refl)) (λ none. absurd (false≢true (subst IsSome none some)))
+    TellsRead before after f → IsSome o.output → status ≡ done_status f.done → AreDone task o file (TellReads (are_several names) before after) names status out out err'
+alone-elsewhere task o file before after f names status out err' name answer broken read some is =
+    let Judged : FileDone → Type 0 = IsJudged task o file out err' in
+    let judged : Judged f = record { answer = answer; broken = broken; excused = record { write = λ e. inr (inl some); unwritten = λ e. inr (inl some) } } in
+    Each (f ∷ []) name (All-push Judged [] f (All-nil Judged) judged) (one-read before after f names name read) (is ∙ sym (one-worst f)) (λ never. (λ h. h, inr refl)) (λ none. absurd (false≢true (subst IsSome none some)))
 
 -- ---- several files
 
@@ -151,35 +158,38 @@ pub record IsWritten (task : Task) (o : Options) (file : Text → Option (List �
   pub written : f.done.ending.written ≡ true
   pub text : IsTextOfFile task o file true f
 
+-- it is so of whatever the file of its name holds
+pub written-of : (task : Task) (o : Options) (file file' : Text → Option (List ℕ)) (f : FileDone) → file (system_name f.name) ≡ file' (system_name f.name) → IsWritten task o file f → IsWritten task o file' f
+written-of task o file file' f e w = record {
+  answer = subst (λ s. IsAnswerOf task o.target s f.done.ending.answer) e w.answer;
+  broken = subst (λ s. TellsBroken (asks_further task o.strict) (terms_of (mode_of task) o.target) s f.done) e w.broken;
+  no_write = w.no_write;
+  written = w.written;
+  text = subst (λ s. IsFileText task o (opening_in o.json f.name (prefix_of true f.name)) s f.done.ending.answer f.text) e w.text;
+}
+
 -- it is excused, wherever the devices stand
-excused : (task : Task) (o : Options) (file : Text → Option (List ℕ)) (names : List Text) (Failed : Type 0) (out' err' : Output) (f : FileDone) → length names ≢ 1 → IsWritten task o file f →
-    IsJudged task o file (MayBeUnread names Failed) out' err' f
-excused task o file names Failed out' err' f several w = record {
+excused : (task : Task) (o : Options) (file : Text → Option (List ℕ)) (out' err' : Output) (f : FileDone) → IsWritten task o file f → IsJudged task o file out' err' f
+excused task o file out' err' f w = record {
   answer = w.answer;
   broken = w.broken;
-  excused = record { read = λ e. inr several; write = λ e. inr (inr (w.no_write e)); unwritten = λ e. absurd (true≢false (sym w.written ∙ e)) };
+  excused = record { write = λ e. inr (inr (w.no_write e)); unwritten = λ e. absurd (true≢false (sym w.written ∙ e)) };
 }
 
 several : (n : ℕ) → n ≢ 1 → not (n == 1) ≡ true
 several n other = ap not (ne_eqb n 1 other)
 
 -- files of which none failed to be written, and a last text
-pub each-written : (task : Task) (o : Options) (file : Text → Option (List ℕ)) (Failed : Type 0) (files : List FileDone) (names : List Text) (status : ℕ) (out out' err' : Output) → map (λ f. f.name) files ≡ names →
-    length names ≢ 1 → All (IsWritten task o file) files → status ≡ worst files → (out'.has_failed ≡ true → out.has_failed ≡ true) → out'.holds_back ≡ false → (last : List ℕ) →
-    (out'.has_failed ≡ false → Sends out.bytes out'.bytes (texts_of files ++ last)) → AreDone task o file Failed names status out out' err'
-each-written task o file Failed files names status out out' err' name other written is kept over last sends =
+pub each-written : (task : Task) (o : Options) (file : Text → Option (List ℕ)) (Reads : List FileDone → Type 0) (files : List FileDone) (names : List Text) (status : ℕ) (out out' err' : Output) → map (λ f. f.name) files ≡ names →
+    length names ≢ 1 → All (IsWritten task o file) files → Reads files → status ≡ worst files → (out'.has_failed ≡ true → out.has_failed ≡ true) → out'.holds_back ≡ false → (last : List ℕ) →
+    (out'.has_failed ≡ false → Sends out.bytes out'.bytes (texts_of files ++ last)) → AreDone task o file Reads names status out out' err'
+each-written task o file Reads files names status out out' err' name other written reads is kept over last sends =
     let told : AreTold task o file true files out out' = record { texts = All-weaker (IsWritten task o file) (IsTextOfFile task o file true) (λ f w. w.text) files written; last = last; of_one = λ one. absurd (true≢false one); sends = sends } in
-    Each files name (All-weaker (IsWritten task o file) (IsJudged task o file (MayBeUnread names Failed) out' err') (λ f. excused task o file names Failed out' err' f other) files written) is (λ never. (kept, inl over)) (λ none. subst (λ b. AreTold task o file b files out out') (sym (several (length names) other)) told)
+    Each files name (All-weaker (IsWritten task o file) (IsJudged task o file out' err') (λ f. excused task o file out' err' f) files written) reads is (λ never. (kept, inl over)) (λ none. subst (λ b. AreTold task o file b files out out') (sym (several (length names) other)) told)
 
--- for whichever cause of a failed read
-any-read : (task : Task) (o : Options) (file : Text → Option (List ℕ)) (Failed : Type 0) (names : List Text) (status : ℕ) (out out' err' : Output) → AreDone task o file ⊥ names status out out' err' →
-    AreDone task o file Failed names status out out' err'
-any-read task o file Failed names status out out' err' (Each files name judged is whole told) =
-    Each files name (All-weaker (IsJudged task o file (MayBeUnread names ⊥) out' err') (IsJudged task o file (MayBeUnread names Failed) out' err') (λ f j. record { answer = j.answer; broken = j.broken; excused = record { read = λ e. ⊎_elim (λ no. absurd no) (λ several. inr several) (j.excused.read e); write = j.excused.write; unwritten = j.excused.unwritten } }) files judged) is whole told
-any-read task o file Failed names status out out' err' (Broke four failed) = Broke four failed
-
--- and for these names
-pub read-of-any : {task : Task} {o : Options} {file : Text → Option (List ℕ)} {Failed : Type 0} {names names' : List Text} {status : ℕ} {out out' err' : Output} → names ≡ names' →
-    AreDone task o file ⊥ names status out out' err' → AreDone task o file Failed names' status out out' err'
-read-of-any {task} {o} {file} {Failed} {names} {names'} {status} {out} {out'} {err'} e d =
-    subst (λ ns. AreDone task o file Failed ns status out out' err') e (any-read task o file Failed names status out out' err' d)
+-- these files are those of the words, of which there are several
+pub of-words : {task : Task} {o : Options} {file : Text → Option (List ℕ)} (before after : Counts) {names names' : List Text} {status : ℕ} {out out' err' : Output} → names ≡ names' → length names ≢ 1 →
+    AreDone task o file (TellUnread after.unread) names status out out' err' → AreDone task o file (TellReads (are_several names') before after) names' status out out' err'
+of-words {task} {o} {file} before after {names} {names'} {status} {out} {out'} {err'} e other d =
+    subst (λ ns. AreDone task o file (TellReads (are_several ns) before after) ns status out out' err') e
+    (subst (λ b. AreDone task o file (TellReads b before after) names status out out' err') (sym (several (length names) other)) d)

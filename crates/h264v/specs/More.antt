@@ -1,7 +1,7 @@
 -- What the program comes to, whatever its words ask: the exit status, and what it writes to standard output. To be read beside docs/OUTPUT.md.
-use Rattle.std.specs.Prelude.{◌≡◌, ◌≢◌, ◌⊎◌, ℕ, ◌+◌, ◌-◌, ◌^◌, ◌==◌, min, max, not, Bool, true, false, List, [], ◌∷◌, ◌++◌}
+use Rattle.std.specs.Prelude.{◌≡◌, ◌≢◌, ◌⊎◌, ℕ, ◌≤◌, ◌==◌, max, not, Bool, true, false, List, [], ◌∷◌, ◌++◌}
 use Rattle.std.specs.Prelude.{map, length, codes, Option, None, Some, IsSome, Result, Ok, Err, IsErrOf, if◌then◌else◌}
-use Rattle.std.specs.List.{All}
+use Rattle.std.specs.List.{All, count_by}
 use Rattle.h264_base.specs.declared.mode.Mode.TheVariants as modes
 use Rattle.h264_base.specs.declared.mode.Target.{Target}
 use Rattle.h264_base.specs.declared.stop.Stop.{Stop}
@@ -26,6 +26,7 @@ use Rattle.h264v.specs.declared.command_line.Task.{Task}
 use Rattle.h264v.specs.declared.command_line.Task.TheVariants as tasks
 use Rattle.clap.specs.Words.{Text, subcommand_of}
 use Rattle.h264v.specs.Commands.{Output, Comes, HasFailed, IsHandedOver}
+use Rattle.h264v.specs.Files.{Counts, HasReadAll, IsUnread, TellsFailure}
 
 -- ---- one file
 
@@ -66,9 +67,8 @@ pub record TellsWrites (y4m : Bool) (ending : Ending) (out out' err' : Output) :
 abbrev pub MayHaveFailed : Options → (out' err' : Output) → Type 0
 MayHaveFailed o out' err' = HasFailed out' err' ⊎ (IsSome o.output ⊎ (o.y4m ≡ true))
 
--- An answer that a write failed, and a last line that was not written, come where a device failed; an answer that a read failed comes where one did.
-pub record AreExcused (o : Options) (ReadFailed : Type 0) (out' err' : Output) (ending : Ending) : Type 0 where
-  pub read : IsErrOf ending.answer Read → ReadFailed
+-- An answer that a write failed, and a last line that was not written, come where a device failed.
+pub record AreExcused (o : Options) (out' err' : Output) (ending : Ending) : Type 0 where
   pub write : IsErrOf ending.answer Write → MayHaveFailed o out' err'
   pub unwritten : ending.written ≡ false → MayHaveFailed o out' err'
 
@@ -77,7 +77,7 @@ pub record TellsCause (old new : Option (List ℕ)) (name : Text) : Type 0 where
   pub cause : List ℕ
   pub line : Sends old new ((codes "h264v: " ++ name) ++ ended cause)
 
--- ---- the files of the words
+-- ---- a file of the words
 
 -- a file's name, how its judgement ended, and what was written of it to the output
 pub record FileDone : Type 0 where
@@ -85,12 +85,50 @@ pub record FileDone : Type 0 where
   pub done : Done
   pub text : List ℕ
 
--- It ended with the answer on the bytes that the file of this name holds, tells of the further rules where they are asked for, and of a failed read or write
--- only where one failed.
-pub record IsJudged (task : Task) (o : Options) (file : Text → Option (List ℕ)) (ReadFailed : Type 0) (out' err' : Output) (f : FileDone) : Type 0 where
+-- It ended with the answer on the bytes that the file of this name holds, tells of the further rules where they are asked for, and of a failed write only
+-- where one failed.
+pub record IsJudged (task : Task) (o : Options) (file : Text → Option (List ℕ)) (out' err' : Output) (f : FileDone) : Type 0 where
   pub answer : IsAnswerOf task o.target (file (system_name f.name)) f.done.ending.answer
   pub broken : TellsBroken (asks_further task o.strict) (terms_of (mode_of task) o.target) (file (system_name f.name)) f.done
-  pub excused : AreExcused o ReadFailed out' err' f.done.ending
+  pub excused : AreExcused o out' err' f.done.ending
+
+-- ---- failed reads
+
+-- the answer is that a read failed
+abbrev pub says_read : Result Summary Stop → Bool
+says_read (Ok summary) = false
+says_read (Err (No bit rule)) = false
+says_read (Err (Outside bit feature)) = false
+says_read (Err Memory) = false
+says_read (Err Read) = true
+says_read (Err Write) = false
+
+-- the answer is that a read or a write failed
+abbrev pub says_failure : Result Summary Stop → Bool
+says_failure (Ok summary) = false
+says_failure (Err (No bit rule)) = false
+says_failure (Err (Outside bit feature)) = false
+says_failure (Err Memory) = false
+says_failure (Err Read) = true
+says_failure (Err Write) = true
+
+-- That a read failed is told of a file only where one did since, or where it was read too often. One that failed is told, or that a write failed too.
+pub record TellsRead (before after : Counts) (f : FileDone) : Type 0 where
+  pub read : IsErrOf f.done.ending.answer Read → IsUnread before.failures before.reads after.failures after.reads
+  pub told : TellsFailure before.failures after.failures f.done.ending.answer
+
+-- Of files that were closed so many could not be opened or read, or were read too often: that a read failed is told of no more of them than these, and of no
+-- fewer, but for those of which it is told that a write failed.
+pub record TellUnread (unread : ℕ) (files : List FileDone) : Type 0 where
+  pub read : count_by (λ f. says_read f.done.ending.answer) files ≤ unread
+  pub told : unread ≤ count_by (λ f. says_failure f.done.ending.answer) files
+
+-- What is told of failed reads, from these counts to those. Of several files those that are closed are counted anew.
+abbrev pub TellReads : (several : Bool) (before after : Counts) → List FileDone → Type 0
+TellReads false before after files = All (TellsRead before after) files
+TellReads true before after files = TellUnread after.unread files
+
+-- ---- the files of the words
 
 -- there are several files, so that each line has its file's name before it
 abbrev pub are_several : List Text → Bool
@@ -118,10 +156,6 @@ abbrev pub worst : List FileDone → ℕ
 worst [] = 0
 worst (f ∷ fs) = max (done_status f.done) (worst fs)
 
--- a count with one more, where there is one; it stays below 2^64
-abbrev pub one_more : Bool → ℕ → ℕ
-one_more more n = if more then min (n + 1) (2 ^ 64 - 1) else n
-
 -- the exit status of a text that was written, or could not be
 abbrev pub text_status : Bool → ℕ
 text_status written = if written then 0 else 4
@@ -143,41 +177,39 @@ pub data IsToldStatus (status : ℕ) (out' : Output) : Type 0 where
 abbrev pub IsWhole : (status : ℕ) (out out' : Output) → Type 0
 IsWhole status out out' = status ≢ 4 → (out'.has_failed ≡ true → out.has_failed ≡ true) × IsHandedOver out out'
 
--- A read failed, where one file is read; which of several could not be read is seen by the opener alone.
-abbrev pub MayBeUnread : (names : List Text) (ReadFailed : Type 0) → Type 0
-MayBeUnread names ReadFailed = ReadFailed ⊎ (length names ≢ 1)
-
--- Each file of these names was judged, in their order, and this is the status of all; or a device failed. Standard output was told of each, where the words
--- name no file for the output.
-pub data AreDone (task : Task) (o : Options) (file : Text → Option (List ℕ)) (ReadFailed : Type 0) (names : List Text) (status : ℕ)
+-- Each file of these names was judged, in their order, and this is the status of all; or a device failed. Of failed reads this is told. Standard output was
+-- told of each, where the words name no file for the output.
+pub data AreDone (task : Task) (o : Options) (file : Text → Option (List ℕ)) (Reads : List FileDone → Type 0) (names : List Text) (status : ℕ)
     (out out' err' : Output) : Type 0 where
-  Each : (files : List FileDone) → map (λ f. f.name) files ≡ names → All (IsJudged task o file (MayBeUnread names ReadFailed) out' err') files →
+  Each : (files : List FileDone) → map (λ f. f.name) files ≡ names → All (IsJudged task o file out' err') files → Reads files →
       status ≡ worst files → IsWhole status out out' → (o.output ≡ None → AreTold task o file (are_several names) files out out') →
-      AreDone task o file ReadFailed names status out out' err'
-  Broke : status ≡ 4 → HasFailed out' err' → AreDone task o file ReadFailed names status out out' err'
+      AreDone task o file Reads names status out out' err'
+  Broke : status ≡ 4 → HasFailed out' err' → AreDone task o file Reads names status out out' err'
 
 -- What comes of a task where the words ask for more than a judgement of one FILE: its exit status, and what is known of the devices.
-pub data IsStatus (task : Task) (given : Given) (file : Text → Option (List ℕ)) (ReadFailed : Type 0) (status : ℕ) (out out' err err' : Output) : Type 0 where
+pub data IsStatus (task : Task) (given : Given) (file : Text → Option (List ℕ)) (before after : Counts) (status : ℕ) (out out' err err' : Output) : Type 0 where
   -- A fault of the words. Standard error is told why, and nothing else is written.
   Refused : (refusal : Refusal) → status ≡ 64 → IsRefused task given refusal → out' ≡ out →
       (err'.has_failed ≡ false → Sends err.bytes err'.bytes (codes "h264v: " ++ ended (refusal_text refusal))) →
-      IsStatus task given file ReadFailed status out out' err err'
-  Explained : task ≡ tasks.Explain → IsToldStatus status out' → IsStatus task given file ReadFailed status out out' err err'
+      IsStatus task given file before after status out out' err err'
+  Explained : task ≡ tasks.Explain → IsToldStatus status out' → IsStatus task given file before after status out out' err err'
   -- each FILE was judged, in the order of the words and for their target
   Judged : (o : Options) → AreOptions given o → AreWellUsed task given o →
-      AreDone task o file ReadFailed (values_in given (codes "FILE")) status out out' err' → IsStatus task given file ReadFailed status out out' err err'
+      AreDone task o file (TellReads (are_several (values_in given (codes "FILE"))) before after) (values_in given (codes "FILE")) status out out' err' →
+      IsStatus task given file before after status out out' err err'
 
 -- What the words come to. Where a file or a device failed, standard error is then told why.
-pub data Ends (words : List Text) (file : Text → Option (List ℕ)) (ReadFailed ReadAll : Type 0) (status : ℕ) (out out' err : Output) : Type 0 where
-  Plain : (err' : Output) → Comes words file ReadFailed ReadAll status out out' err err' → Ends words file ReadFailed ReadAll status out out' err
+pub data Ends (words : List Text) (file : Text → Option (List ℕ)) (before after : Counts) (status : ℕ) (out out' err : Output) : Type 0 where
+  Plain : (err' : Output) → Comes words file (IsUnread before.failures before.reads after.failures after.reads) (HasReadAll before.failures after.failures)
+      status out out' err err' → Ends words file before after status out out' err
   More : (err' : Output) (task : Task) (name : Text) → asks program words ≡ Some (name_of task, Some name) →
-      IsStatus task (subcommand_of program words) file ReadFailed status out out' err err' → Ends words file ReadFailed ReadAll status out out' err
+      IsStatus task (subcommand_of program words) file before after status out out' err err' → Ends words file before after status out out' err
 
 -- What the program comes to.
-pub data Runs (words : List Text) (file : Text → Option (List ℕ)) (ReadFailed ReadAll : Type 0) (status : ℕ) (out out' err : Output) : Type 0 where
-  Asked : Ends words file ReadFailed ReadAll status out out' err → Runs words file ReadFailed ReadAll status out out' err
+pub data Runs (words : List Text) (file : Text → Option (List ℕ)) (before after : Counts) (status : ℕ) (out out' err : Output) : Type 0 where
+  Asked : Ends words file before after status out out' err → Runs words file before after status out out' err
   -- a word is no text
-  NotText : status ≡ 64 → out' ≡ out → Runs words file ReadFailed ReadAll status out out' err
+  NotText : status ≡ 64 → out' ≡ out → Runs words file before after status out out' err
   -- there was no memory for the words
   NoWords : (written : Bool) → status ≡ status_of written (Err Memory) → (written ≡ true → out'.holds_back ≡ false) →
-      Takes written out.bytes out'.bytes (last_line modes.Full (Err Memory)) → Runs words file ReadFailed ReadAll status out out' err
+      Takes written out.bytes out'.bytes (last_line modes.Full (Err Memory)) → Runs words file before after status out out' err

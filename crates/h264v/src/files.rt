@@ -1,17 +1,17 @@
 //! Files as sources of streams.
 #![tactic(auto)]
 
-ghost use Rattle.std.specs.Prelude.{◌≡◌, ℕ, ◌+◌, ◌-◌, ◌<◌, ◌≤◌, ◌⊎◌, ◌^◌, true, false, List, Option, None, Some, Ok, IfOk, IfErr, OnOk, OnErr};
+ghost use Rattle.std.specs.Prelude.{◌≡◌, ℕ, ◌+◌, ◌-◌, ◌<◌, ◌^◌, true, false, nat_lt, List, Option, None, Some, Ok, IfOk, IfErr, OnOk, OnErr};
 ghost use Rattle.h264_base.specs.Call.{HasRoom, IsQuiet};
 ghost use Rattle.std.specs.IoError.{error_kind, kind_in, os_error_kinds};
 ghost use Rattle.std.specs.Io.KnownBytes.{Keeps};
-ghost use Rattle.h264v.specs.Files.{left_of};
+ghost use Rattle.h264v.specs.Files.{left_of, one_more, was_read_by};
 
 use h264_base::Failed;
 use h264_report::pages::Start;
 use h264_verify::Source;
 use std::io;
-use std::io::{ErrorKind, Read};
+use std::io::{ErrorKind, Read, Write};
 
 /// Opens what a name stands for.
 pub trait Opener {
@@ -23,7 +23,21 @@ pub trait Opener {
 
     /// The file of this name, to be read from its start.
     fn open(&mut self, name: &str) -> io::Result<Self::File>
-        ensures { IfOk result (λ file. Keeps (holds self.old name.now) (Self.File.Read.remaining file)) };
+        ensures opened { IfOk result (λ file. Keeps (holds self.old name.now) (Self.File.Read.remaining file)) }
+        // What is known of the others stays so.
+        ensures others { (other : List ℕ) → holds self.new other ≡ holds self.old other };
+}
+
+/// Makes files to write to.
+pub trait Maker {
+    /// What is written to.
+    type Output: Write + Drop;
+
+    /// A new file of this name, or the emptied one.
+    fn make(&mut self, name: &str) -> io::Result<Self::Output>;
+
+    /// Whether two names stand for one file.
+    fn is_same(&self, name: &str, other: &str) -> bool;
 }
 
 /// Files, of which the one that was opened last is read.
@@ -73,30 +87,29 @@ impl Seen {
     }
 }
 
-/// The files of an opener.
+/// How often a file is read at most.
+const MOST_READS: u64 = (1 << 41) - 1;
+
+/// The file that was opened last. Its counts are private: one rises only where a read is tried, and where a file is opened.
 #[derive(Drop)]
-pub struct OpenedFiles<O: Opener + Drop> {
-    pub opener: O,
-    /// The one that was opened last.
-    pub reader: Option<O::File>,
-    /// How often a file was read.
-    pub reads: u64,
-    /// How often one could not be opened or read.
-    pub failures: u64,
+pub struct OpenFile<F: Read + Drop> {
+    reader: Option<F>,
+    /// How often it was read.
+    reads: u64,
+    /// How often it could not be opened or read, or was read too often.
+    failures: u64,
     pub seen: Seen,
     /// The system's cause of the last failure.
     pub cause: Option<io::Error>,
 }
 
-impl<O: Opener + Drop> OpenedFiles<O> {
-    /// Files of which none is open.
-    pub fn new(opener: O) -> OpenedFiles<O>
-        ensures opener { result.opener ≡ opener }
+impl<F: Read + Drop> OpenFile<F> {
+    /// No file.
+    fn none() -> OpenFile<F>
         ensures reads { result.reads ≡ 0 }
         ensures no_failure { result.failures ≡ 0 }
     {
-        OpenedFiles {
-            opener,
+        OpenFile {
             reader: None,
             reads: 0,
             failures: 0,
@@ -113,6 +126,69 @@ impl<O: Opener + Drop> OpenedFiles<O> {
     {
         self.failures += 1;
         Err(Failed)
+    }
+}
+
+/// The files of an opener.
+#[derive(Drop)]
+pub struct OpenedFiles<O: Opener + Drop> {
+    opener: O,
+    pub file: OpenFile<O::File>,
+    /// How many of those that are closed could not be opened or read, or were read too often.
+    unread: u64,
+}
+
+impl<O: Opener + Drop> OpenedFiles<O> {
+    /// Files of which none is open.
+    pub fn new(opener: O) -> OpenedFiles<O>
+        ensures opener { result.opener ≡ opener }
+        ensures reads { result.file.reads ≡ 0 }
+        ensures no_failure { result.file.failures ≡ 0 }
+        ensures unread { result.unread ≡ 0 }
+    {
+        OpenedFiles {
+            opener,
+            file: OpenFile::none(),
+            unread: 0,
+        }
+    }
+
+    /// Closes the open file, and counts it where it could not be opened or read.
+    pub fn close(&mut self)
+        ensures opener { self.new.opener ≡ self.old.opener }
+        ensures reads { self.new.file.reads ≡ 0 }
+        ensures no_failure { self.new.file.failures ≡ 0 }
+        ensures unread { self.new.unread ≡ one_more (nat_lt 0 self.old.file.failures) self.old.unread }
+    {
+        if self.file.failures > 0 {
+            self.unread = self.unread.saturating_add(1);
+        }
+        self.file = OpenFile::none();
+    }
+
+    /// Closes the open file, and forgets the count of those that are closed.
+    pub fn restart(&mut self)
+        ensures opener { self.new.opener ≡ self.old.opener }
+        ensures reads { self.new.file.reads ≡ 0 }
+        ensures no_failure { self.new.file.failures ≡ 0 }
+        ensures unread { self.new.unread ≡ 0 }
+    {
+        self.file = OpenFile::none();
+        self.unread = 0;
+    }
+}
+
+impl<O: Opener + Maker + Drop> OpenedFiles<O> {
+    /// A new file of this name to write to, or the emptied one.
+    pub fn make(&mut self, name: &str) -> io::Result<O::Output>
+        ensures { self.new.file ≡ self.old.file }
+    {
+        self.opener.make(name)
+    }
+
+    /// Whether two names stand for one file.
+    pub fn is_same(&self, name: &str, other: &str) -> bool {
+        self.opener.is_same(name, other)
     }
 }
 
@@ -145,15 +221,15 @@ fn outcome(read: io::Result<usize>, cause: &mut Option<io::Error>) -> Result<Opt
     }
 }
 
-impl<O: Opener + Drop> Source for OpenedFiles<O> {
-    ghost left = { λ s. left_of O.File.Read.remaining s.reader };
+impl<F: Read + Drop> Source for OpenFile<F> {
+    ghost left = { λ s. left_of F.remaining s.reader };
 
-    ghost was_read = { λ s n. (n ≤ s.reads) ⊎ (0 < s.failures) };
+    ghost was_read = { λ s n. was_read_by s.reads s.failures n };
 
     ghost failures = { λ s. s.failures };
 
     fn read(&mut self, piece: &mut [u8]) -> Result<Option<usize>, Failed> {
-        if self.reads == u64::MAX {
+        if self.reads >= MOST_READS {
             return self.fail();
         }
         self.reads += 1;
@@ -170,19 +246,40 @@ impl<O: Opener + Drop> Source for OpenedFiles<O> {
     }
 }
 
+impl<O: Opener + Drop> Source for OpenedFiles<O> {
+    ghost left = { λ s. left_of O.File.Read.remaining s.file.reader };
+
+    ghost was_read = { λ s n. was_read_by s.file.reads s.file.failures n };
+
+    ghost failures = { λ s. s.file.failures };
+
+    fn read(&mut self, piece: &mut [u8]) -> Result<Option<usize>, Failed> {
+        self.file.read(piece)
+    }
+}
+
 impl<O: Opener + Drop> Files for OpenedFiles<O> {
     ghost holds = { λ s name. O.holds s.opener name };
 
-    fn open(&mut self, name: &str) -> Result<(), Failed> {
+    fn open(&mut self, name: &str) -> Result<(), Failed>
+        requires { self.old.file.failures < 2 ^ 64 - 1 }
+        ensures opened { OnOk result (Keeps (O.holds self.old.opener name.now) (left_of O.File.Read.remaining self.new.file.reader)) }
+        ensures reads { OnOk result ((n : ℕ) → was_read_by self.old.file.reads self.old.file.failures n →
+            was_read_by self.new.file.reads self.new.file.failures n) }
+        ensures kept { OnOk result (self.new.file.failures ≡ self.old.file.failures) }
+        ensures failed { OnErr result (self.new.file.failures ≡ self.old.file.failures + 1) }
+        ensures holds { (other : List ℕ) → O.holds self.new.opener other ≡ O.holds self.old.opener other }
+        ensures unread { self.new.unread ≡ self.old.unread }
+    {
         match self.opener.open(name) {
             Ok(reader) => {
-                self.reader = Some(reader);
-                self.seen = Seen::new();
+                self.file.reader = Some(reader);
+                self.file.seen = Seen::new();
                 Ok(())
             }
             Err(error) => {
-                self.cause = Some(error);
-                self.fail()
+                self.file.cause = Some(error);
+                self.file.fail()
             }
         }
     }

@@ -1,19 +1,19 @@
 //! One file, judged as the options say.
 #![tactic(auto)]
 
-ghost use Rattle.std.specs.Prelude.{◌≡◌, ◌-◌, ◌<◌, ◌^◌, List, [], true, false, None, IsErrOf, IsSome, IfSome};
+ghost use Rattle.std.specs.Prelude.{◌≡◌, ◌-◌, ◌<◌, ◌^◌, List, [], true, false, None, IsErrOf, IsSome, IfSome, IfNone};
 ghost use Rattle.h264_base.specs.Call.{Call, HasRoom};
 ghost use Rattle.h264_base.specs.declared.stop.Stop.TheVariants.{Read};
 ghost use Rattle.h264_report.specs.Chosen.{TookChosen};
 ghost use Rattle.h264_report.specs.Written.{OfBytes, Account, calls_in};
 ghost use Rattle.h264_verify.specs.Units.{terms_of};
-ghost use Rattle.h264v.specs.Files.{left_of, IsUnread};
+ghost use Rattle.h264v.specs.Files.{left_of, HasReadAll, IsUnread, TellsUnread};
 ghost use Rattle.h264v.specs.Further.{AreJudged, BreakOne, IsFound};
 ghost use Rattle.h264v.specs.More.{done_status, IsAnswerOf};
 ghost use Rattle.h264v.specs.Words.{mode_of};
 
 use crate::command_line::Task;
-use crate::files::{OpenedFiles, Opener, Seen};
+use crate::files::{OpenFile, Seen};
 use crate::options::Options;
 use crate::strictly::{FurtherRules, is_broken};
 use h264_base::{Mode, Stop};
@@ -23,6 +23,7 @@ use h264_report::survey::{Meter, Narrowed, Survey, Surveyed};
 use h264_report::{Ending, Sheet, StrictJudgement, StrictSink, TrailSink, judge_strictly};
 use h264_verify::{FrameSink, run};
 use std::alloc::Global;
+use std::io;
 
 /// What is to be done with a file.
 #[derive(Clone, Copy)]
@@ -112,20 +113,32 @@ impl Found {
             None => false,
         }
     }
+
+    /// What is told where memory was wanting beside the judgement: that a read failed, where one did. Else None.
+    pub fn if_unread(self) -> Option<Found>
+        ensures same { IfSome result (λ found. found ≡ self) }
+        ensures read { IfNone result (IsErrOf self.answer Read → ⊥) }
+    {
+        match self.answer {
+            Err(Stop::Read) => Some(self),
+            _ => None,
+        }
+    }
 }
 
 /// Judges the open file with a sink, and surveys its calls.
-pub fn judge<S: FrameSink + Drop, O: Opener + Drop, M: Meter + Drop>(
+pub fn judge<S: FrameSink + Drop, F: io::Read + Drop, M: Meter + Drop>(
     job: &Job<'_>,
-    files: &mut OpenedFiles<O>,
+    file: &mut OpenFile<F>,
     sink: S,
     watch: Watch<M>,
 ) -> (Surveyed<S, M>, Answer)
     requires sink { HasRoom S.failures sink }
-    requires source { files.old.failures < 2 ^ 64 - 1 }
-    ensures answer { IsAnswerOf job.now.task job.now.options.target (left_of O.File.Read.remaining files.old.reader) result.1 }
-    ensures read { IsErrOf result.1 Read → IsUnread files.old.failures files.old.reads files.new.failures files.new.reads }
-    ensures took { S.took sink [] → OfBytes (left_of O.File.Read.remaining files.old.reader) (λ bytes.
+    requires source { file.old.failures < 2 ^ 64 - 1 }
+    ensures answer { IsAnswerOf job.now.task job.now.options.target (left_of F.remaining file.old.reader) result.1 }
+    ensures read { IsErrOf result.1 Read → IsUnread file.old.failures file.old.reads file.new.failures file.new.reads }
+    ensures read_told { TellsUnread file.old.failures file.new.failures result.1 }
+    ensures took { S.took sink [] → OfBytes (left_of F.remaining file.old.reader) (λ bytes.
         (a : Account (terms_of (mode_of job.now.task) job.now.options.target) bytes result.1) × S.took result.0.sink (calls_in a)) }
     ensures some { S.took sink [] → (calls : List Call) × S.took result.0.sink calls }
 {
@@ -136,7 +149,7 @@ pub fn judge<S: FrameSink + Drop, O: Opener + Drop, M: Meter + Drop>(
         meter,
     };
     let (mode, target) = (mode_of(job.task), job.options.target);
-    let answer = run(job.alloc, files, &mut surveyed, mode, target);
+    let answer = run(job.alloc, file, &mut surveyed, mode, target);
     tell_end(&mut surveyed);
     (surveyed, answer)
 }
@@ -182,22 +195,24 @@ struct Judged<S: FrameSink + Drop> {
 }
 
 /// Judges the open file with a sink, and surveys its calls where an option asks for that. None where memory is wanting for the survey.
-fn judge_plainly<S: FrameSink + Drop, O: Opener + Drop, M: Meter + Drop>(
+fn judge_plainly<S: FrameSink + Drop, F: io::Read + Drop, M: Meter + Drop>(
     job: &Job<'_>,
-    files: &mut OpenedFiles<O>,
+    file: &mut OpenFile<F>,
     mut sink: S,
     meter: M,
 ) -> Option<Judged<S>>
     requires sink { HasRoom S.failures sink }
-    requires source { files.old.failures < 2 ^ 64 - 1 }
-    ensures answer { IfSome result (λ judged. IsAnswerOf job.now.task job.now.options.target (left_of O.File.Read.remaining files.old.reader) judged.answer) }
-    ensures read { IfSome result (λ judged. IsErrOf judged.answer Read → IsUnread files.old.failures files.old.reads files.new.failures files.new.reads) }
+    requires source { file.old.failures < 2 ^ 64 - 1 }
+    ensures answer { IfSome result (λ judged. IsAnswerOf job.now.task job.now.options.target (left_of F.remaining file.old.reader) judged.answer) }
+    ensures read { IfSome result (λ judged. IsErrOf judged.answer Read → IsUnread file.old.failures file.old.reads file.new.failures file.new.reads) }
+    ensures read_told { IfSome result (λ judged. TellsUnread file.old.failures file.new.failures judged.answer) }
+    ensures unread { IfNone result (HasReadAll file.old.failures file.new.failures) }
 {
     let Ok(survey) = Survey::new(job.alloc) else {
         return None;
     };
     if job.options.asks_for_survey() {
-        let (surveyed, answer) = judge(job, files, sink, Watch { survey, meter });
+        let (surveyed, answer) = judge(job, file, sink, Watch { survey, meter });
         let Surveyed { sink, survey, .. } = surveyed;
         return Some(Judged {
             sink,
@@ -206,7 +221,7 @@ fn judge_plainly<S: FrameSink + Drop, O: Opener + Drop, M: Meter + Drop>(
         });
     }
     let (mode, target) = (mode_of(job.task), job.options.target);
-    let answer = run(job.alloc, files, &mut sink, mode, target);
+    let answer = run(job.alloc, file, &mut sink, mode, target);
     Some(Judged {
         sink,
         survey,
@@ -215,7 +230,9 @@ fn judge_plainly<S: FrameSink + Drop, O: Opener + Drop, M: Meter + Drop>(
 }
 
 /// The lines of the last elements, before a no; no text before another answer. None where there is no memory for them.
-fn trail_lines(alloc: Global, answer: Answer, sink: &TrailSink) -> Option<String> {
+fn trail_lines(alloc: Global, answer: Answer, sink: &TrailSink) -> Option<String>
+    ensures { IfNone result (IsErrOf answer Read → ⊥) }
+{
     match answer {
         Err(Stop::No { .. }) => sink.trail().lines(alloc).ok(),
         _ => Some(String::new(alloc)),
@@ -232,26 +249,27 @@ pub struct JudgedFurther<S: FrameSink + Drop> {
 }
 
 /// Judges the open file with a sink and by the further rules, and surveys its calls where that is asked.
-pub fn judge_further<S: FrameSink + Drop, O: Opener + Drop, M: Meter + Drop>(
+pub fn judge_further<S: FrameSink + Drop, F: io::Read + Drop, M: Meter + Drop>(
     job: &Job<'_>,
-    files: &mut OpenedFiles<O>,
+    file: &mut OpenFile<F>,
     sink: S,
     watch: Watch<M>,
     is_surveyed: bool,
 ) -> JudgedFurther<S>
     requires none { S.took sink [] }
     requires sink { HasRoom S.failures sink }
-    requires source { files.old.failures < 2 ^ 64 - 1 }
-    ensures answer { IsAnswerOf job.now.task job.now.options.target (left_of O.File.Read.remaining files.old.reader) result.answer }
-    ensures read { IsErrOf result.answer Read → IsUnread files.old.failures files.old.reads files.new.failures files.new.reads }
-    ensures further { AreJudged (terms_of (mode_of job.now.task) job.now.options.target) (left_of O.File.Read.remaining files.old.reader) result.answer
+    requires source { file.old.failures < 2 ^ 64 - 1 }
+    ensures answer { IsAnswerOf job.now.task job.now.options.target (left_of F.remaining file.old.reader) result.answer }
+    ensures read { IsErrOf result.answer Read → IsUnread file.old.failures file.old.reads file.new.failures file.new.reads }
+    ensures read_told { TellsUnread file.old.failures file.new.failures result.answer }
+    ensures further { AreJudged (terms_of (mode_of job.now.task) job.now.options.target) (left_of F.remaining file.old.reader) result.answer
         result.further }
 {
     let Watch { survey, meter } = watch;
     let mut sink = StrictSink::new(sink);
     let (mode, target) = (mode_of(job.task), job.options.target);
     if !is_surveyed {
-        let judgement = judge_strictly(job.alloc, files, &mut sink, mode, target);
+        let judgement = judge_strictly(job.alloc, file, &mut sink, mode, target);
         return judged_further(sink, judgement, survey);
     }
     let mut surveyed = Surveyed {
@@ -259,7 +277,7 @@ pub fn judge_further<S: FrameSink + Drop, O: Opener + Drop, M: Meter + Drop>(
         survey,
         meter,
     };
-    let judgement = judge_strictly(job.alloc, files, &mut surveyed, mode, target);
+    let judgement = judge_strictly(job.alloc, file, &mut surveyed, mode, target);
     tell_end(&mut surveyed);
     let Surveyed { sink, survey, .. } = surveyed;
     judged_further(sink, judgement, survey)
@@ -286,16 +304,18 @@ fn judged_further<S: FrameSink + Drop>(
 }
 
 /// Judges the open file for its last elements, and by the further rules. Its calls are surveyed where an option asks for that.
-fn check_strictly<O: Opener + Drop, M: Meter + Drop>(
+fn check_strictly<F: io::Read + Drop, M: Meter + Drop>(
     job: &Job<'_>,
-    files: &mut OpenedFiles<O>,
+    file: &mut OpenFile<F>,
     meter: M,
 ) -> Option<Found>
-    requires { files.old.failures < 2 ^ 64 - 1 }
-    ensures answer { IfSome result (λ found. IsAnswerOf job.now.task job.now.options.target (left_of O.File.Read.remaining files.old.reader) found.answer) }
-    ensures read { IfSome result (λ found. IsErrOf found.answer Read → IsUnread files.old.failures files.old.reads files.new.failures files.new.reads) }
+    requires { file.old.failures < 2 ^ 64 - 1 }
+    ensures answer { IfSome result (λ found. IsAnswerOf job.now.task job.now.options.target (left_of F.remaining file.old.reader) found.answer) }
+    ensures read { IfSome result (λ found. IsErrOf found.answer Read → IsUnread file.old.failures file.old.reads file.new.failures file.new.reads) }
+    ensures read_told { IfSome result (λ found. TellsUnread file.old.failures file.new.failures found.answer) }
+    ensures unread { IfNone result (HasReadAll file.old.failures file.new.failures) }
     ensures further { IfSome result (λ found. IsFound true (terms_of (mode_of job.now.task) job.now.options.target)
-        (left_of O.File.Read.remaining files.old.reader) found.answer found.strict) }
+        (left_of F.remaining file.old.reader) found.answer found.strict) }
 {
     let Ok(trail) = TrailSink::new(job.alloc) else {
         return None;
@@ -304,7 +324,7 @@ fn check_strictly<O: Opener + Drop, M: Meter + Drop>(
         return None;
     };
     let watch = Watch { survey, meter };
-    let judged = judge_further(job, files, trail, watch, job.options.asks_for_survey());
+    let judged = judge_further(job, file, trail, watch, job.options.asks_for_survey());
     let JudgedFurther {
         sink,
         survey,
@@ -316,74 +336,93 @@ fn check_strictly<O: Opener + Drop, M: Meter + Drop>(
         answer,
         strict: Some(further),
         survey,
-        seen: files.seen,
+        seen: file.seen,
         before,
         change: None,
     })
 }
 
 /// Judges the open file for its last elements.
-pub fn check_file<O: Opener + Drop, M: Meter + Drop>(
+pub fn check_file<F: io::Read + Drop, M: Meter + Drop>(
     job: &Job<'_>,
-    files: &mut OpenedFiles<O>,
+    file: &mut OpenFile<F>,
     meter: M,
 ) -> Option<Found>
-    requires { files.old.failures < 2 ^ 64 - 1 }
-    ensures answer { IfSome result (λ found. IsAnswerOf job.now.task job.now.options.target (left_of O.File.Read.remaining files.old.reader) found.answer) }
-    ensures read { IfSome result (λ found. IsErrOf found.answer Read → IsUnread files.old.failures files.old.reads files.new.failures files.new.reads) }
+    requires { file.old.failures < 2 ^ 64 - 1 }
+    ensures answer { IfSome result (λ found. IsAnswerOf job.now.task job.now.options.target (left_of F.remaining file.old.reader) found.answer) }
+    ensures read { IfSome result (λ found. IsErrOf found.answer Read → IsUnread file.old.failures file.old.reads file.new.failures file.new.reads) }
+    ensures read_told { IfSome result (λ found. TellsUnread file.old.failures file.new.failures found.answer) }
+    ensures unread { IfNone result (HasReadAll file.old.failures file.new.failures) }
     ensures further { IfSome result (λ found. IsFound job.now.options.strict (terms_of (mode_of job.now.task) job.now.options.target)
-        (left_of O.File.Read.remaining files.old.reader) found.answer found.strict) }
+        (left_of F.remaining file.old.reader) found.answer found.strict) }
 {
     if job.options.strict {
-        return check_strictly(job, files, meter);
+        return check_strictly(job, file, meter);
     }
     let Ok(sink) = TrailSink::new(job.alloc) else {
         return None;
     };
-    let judged = judge_plainly(job, files, sink, meter)?;
+    let judged = judge_plainly(job, file, sink, meter)?;
     let before = trail_lines(job.alloc, judged.answer, &judged.sink)?;
     Some(Found {
         answer: judged.answer,
         strict: None,
         survey: judged.survey,
-        seen: files.seen,
+        seen: file.seen,
         before,
         change: None,
     })
 }
 
 /// Judges the open file with a sink that is told what is chosen alone.
-pub fn judge_chosen<S: FrameSink + Drop, K: Sheet, O: Opener + Drop>(
+pub fn judge_chosen<S: FrameSink + Drop, K: Sheet, F: io::Read + Drop>(
     job: &Job<'_>,
-    files: &mut OpenedFiles<O>,
+    file: &mut OpenFile<F>,
     sink: S,
     survey: Survey,
 ) -> (Narrowed<S, K>, Answer)
     requires choice { job.now.options.choice ≡ K.choice }
     requires sink { HasRoom S.failures sink }
-    requires source { files.old.failures < 2 ^ 64 - 1 }
-    ensures answer { IsAnswerOf job.now.task job.now.options.target (left_of O.File.Read.remaining files.old.reader) result.1 }
-    ensures read { IsErrOf result.1 Read → IsUnread files.old.failures files.old.reads files.new.failures files.new.reads }
-    ensures took { S.took sink [] → OfBytes (left_of O.File.Read.remaining files.old.reader) (λ bytes.
+    requires source { file.old.failures < 2 ^ 64 - 1 }
+    ensures answer { IsAnswerOf job.now.task job.now.options.target (left_of F.remaining file.old.reader) result.1 }
+    ensures read { IsErrOf result.1 Read → IsUnread file.old.failures file.old.reads file.new.failures file.new.reads }
+    ensures read_told { TellsUnread file.old.failures file.new.failures result.1 }
+    ensures took { S.took sink [] → OfBytes (left_of F.remaining file.old.reader) (λ bytes.
         (a : Account (terms_of (mode_of job.now.task) job.now.options.target) bytes result.1)
         × TookChosen S.took K.choice result.0.broke_off result.0.reading result.0.pending result.0.sink (calls_in a)) }
     ensures some { S.took sink [] → (calls : List Call) × S.took result.0.sink calls }
 {
     let mut narrowed: Narrowed<S, K> = Narrowed::new(sink, survey, job.options.choice);
     let (mode, target) = (mode_of(job.task), job.options.target);
-    let answer = run(job.alloc, files, &mut narrowed, mode, target);
+    let answer = run(job.alloc, file, &mut narrowed, mode, target);
     (narrowed, answer)
 }
 
+/// What a file has. None where there is no memory for it.
+fn info_text(job: &Job<'_>, survey: &Survey) -> Option<String> {
+    let mut page = Page::new(job.alloc);
+    if job.options.json {
+        put_info_object(&mut page, job.file, survey);
+    } else {
+        put_info(&mut page, survey);
+    }
+    if page.is_short() || survey.is_short() {
+        return None;
+    }
+    String::from_str(job.alloc, page.as_str()).ok()
+}
+
 /// Judges the open file for what it has.
-pub fn info_file<O: Opener + Drop, M: Meter + Drop>(
+pub fn info_file<F: io::Read + Drop, M: Meter + Drop>(
     job: &Job<'_>,
-    files: &mut OpenedFiles<O>,
+    file: &mut OpenFile<F>,
     meter: M,
 ) -> Option<Found>
-    requires { files.old.failures < 2 ^ 64 - 1 }
-    ensures answer { IfSome result (λ found. IsAnswerOf job.now.task job.now.options.target (left_of O.File.Read.remaining files.old.reader) found.answer) }
-    ensures read { IfSome result (λ found. IsErrOf found.answer Read → IsUnread files.old.failures files.old.reads files.new.failures files.new.reads) }
+    requires { file.old.failures < 2 ^ 64 - 1 }
+    ensures answer { IfSome result (λ found. IsAnswerOf job.now.task job.now.options.target (left_of F.remaining file.old.reader) found.answer) }
+    ensures read { IfSome result (λ found. IsErrOf found.answer Read → IsUnread file.old.failures file.old.reads file.new.failures file.new.reads) }
+    ensures read_told { IfSome result (λ found. TellsUnread file.old.failures file.new.failures found.answer) }
+    ensures unread { IfNone result (HasReadAll file.old.failures file.new.failures) }
     ensures further { IfSome result (λ found. found.strict ≡ None) }
 {
     let Ok(sink) = TrailSink::new(job.alloc) else {
@@ -392,24 +431,19 @@ pub fn info_file<O: Opener + Drop, M: Meter + Drop>(
     let Ok(survey) = Survey::new(job.alloc) else {
         return None;
     };
-    let (surveyed, answer) = judge(job, files, sink, Watch { survey, meter });
+    let (surveyed, answer) = judge(job, file, sink, Watch { survey, meter });
     let Surveyed { survey, .. } = surveyed;
-    let mut page = Page::new(job.alloc);
-    if job.options.json {
-        put_info_object(&mut page, job.file, &survey);
-    } else {
-        put_info(&mut page, &survey);
-    }
-    if page.is_short() || survey.is_short() {
-        return None;
-    }
-    let before = String::from_str(job.alloc, page.as_str()).ok()?;
-    Some(Found {
+    let mut found = Found {
         answer,
         strict: None,
         survey,
-        seen: files.seen,
-        before,
+        seen: file.seen,
+        before: String::new(job.alloc),
         change: None,
-    })
+    };
+    let Some(before) = info_text(job, &found.survey) else {
+        return found.if_unread();
+    };
+    found.before = before;
+    Some(found)
 }

@@ -39,9 +39,8 @@ mod telling;
 mod tests;
 mod words;
 
-use files::{OpenedFiles, Opener};
+use files::{Maker, OpenedFiles, Opener};
 use h264_report::{WriteDevice, put_memory};
-use more::Maker;
 use program::program;
 use progress::Progress;
 use std::alloc::Global;

@@ -10,10 +10,10 @@ ghost use Rattle.h264_report.specs.Told.{ended};
 ghost use Rattle.h264_report.specs.Written.{OfBytes, told_of};
 ghost use Rattle.h264v.specs.Explained.{IsExplained};
 ghost use Rattle.h264_verify.specs.Units.{terms_of};
-ghost use Rattle.h264v.specs.Files.{left_of, IsUnread};
+ghost use Rattle.h264v.specs.Files.{counts, left_of, one_more, HasReadAll, IsUnread, TellsFailure, TellsUnread};
 ghost use Rattle.h264v.specs.Further.{asks_further, BreakOne, IsFound, TellsBroken};
 ghost use Rattle.h264v.specs.Commands.{output_of};
-ghost use Rattle.h264v.specs.More.{one_more, AreDone, IsAnswerOf, IsPutAside, IsStatus, IsToldStatus, TellsCause, TellsWrites};
+ghost use Rattle.h264v.specs.More.{AreDone, IsAnswerOf, IsPutAside, IsStatus, IsToldStatus, TellUnread, TellsCause, TellsWrites};
 ghost use Rattle.h264v.specs.Options.{refusal_text};
 ghost use Rattle.h264v.specs.Texts.{IsEnd, IsFileText, IsTextOf, TakesText, answers_aside, opening_in, prefix_of};
 ghost use Rattle.h264v.specs.Words.{mode_of, system_name};
@@ -22,7 +22,7 @@ use crate::command::FAULT;
 use crate::command_line::{Task, Wanted};
 use crate::decoding::decode_file;
 use crate::explaining::{entry_labelled, put_entry};
-use crate::files::{Files, OpenedFiles, Opener};
+use crate::files::{Files, Maker, OpenFile, OpenedFiles, Opener};
 use crate::job::{Done, Found, Job, check_file, info_file};
 use crate::listing::list_file;
 use crate::options::options_of;
@@ -39,18 +39,6 @@ use std::io::Write;
 
 /// The exit status of a device that failed.
 const FAILED: u8 = 4;
-
-/// Makes files to write to.
-pub trait Maker {
-    /// What is written to.
-    type Output: Write + Drop;
-
-    /// A new file of this name, or the emptied one.
-    fn make(&mut self, name: &str) -> io::Result<Self::Output>;
-
-    /// Whether two names stand for one file.
-    fn is_same(&self, name: &str, other: &str) -> bool;
-}
 
 /// How many files had which answer.
 #[derive(Clone, Copy)]
@@ -196,28 +184,30 @@ fn explain_labels<W: Device, E: Device>(
 
 /// Judges the open file as the task says. What the answer is written to is left to the caller. None where memory is wanting beside the judgement; then
 /// nothing is written.
-fn find<O: Opener + Drop, W: Device, M: Meter + Drop>(
+fn find<F: io::Read + Drop, W: Device, M: Meter + Drop>(
     job: &Job<'_>,
-    files: &mut OpenedFiles<O>,
+    file: &mut OpenFile<F>,
     out: &mut W,
     meter: M,
 ) -> Option<Found>
-    requires { files.old.failures < 2 ^ 64 - 1 }
-    ensures answer { IfSome result (λ found. IsAnswerOf job.now.task job.now.options.target (left_of O.File.Read.remaining files.old.reader) found.answer) }
-    ensures read { IfSome result (λ found. IsErrOf found.answer Read → IsUnread files.old.failures files.old.reads files.new.failures files.new.reads) }
+    requires { file.old.failures < 2 ^ 64 - 1 }
+    ensures answer { IfSome result (λ found. IsAnswerOf job.now.task job.now.options.target (left_of F.remaining file.old.reader) found.answer) }
+    ensures read { IfSome result (λ found. IsErrOf found.answer Read → IsUnread file.old.failures file.old.reads file.new.failures file.new.reads) }
+    ensures read_told { IfSome result (λ found. TellsUnread file.old.failures file.new.failures found.answer) }
+    ensures unread { IfNone result (HasReadAll file.old.failures file.new.failures) }
     ensures further { IfSome result (λ found. IsFound (asks_further job.now.task job.now.options.strict)
-        (terms_of (mode_of job.now.task) job.now.options.target) (left_of O.File.Read.remaining files.old.reader) found.answer found.strict) }
-    ensures text { IfSome result (λ found. OfBytes (left_of O.File.Read.remaining files.old.reader) (λ bytes. TakesText (IsTextOf job.now.task
+        (terms_of (mode_of job.now.task) job.now.options.target) (left_of F.remaining file.old.reader) found.answer found.strict) }
+    ensures text { IfSome result (λ found. OfBytes (left_of F.remaining file.old.reader) (λ bytes. TakesText (IsTextOf job.now.task
         job.now.options (opening_in job.now.options.json job.now.file.now job.now.prefix.now) bytes found.answer) (W.contents out.old)
         (output_of W.contents W.has_failed W.holds_back out.new))) }
     ensures untouched { IfNone result (out.new ≡ out.old) }
 {
     match job.task {
-        Task::Check => check_file(job, files, meter),
-        Task::Decode => decode_file(job, files, out, meter),
-        Task::Info => info_file(job, files, meter),
-        Task::Report => report_file(job, files, out, meter),
-        _ => list_file(job, files, out, meter),
+        Task::Check => check_file(job, file, meter),
+        Task::Decode => decode_file(job, file, out, meter),
+        Task::Info => info_file(job, file, meter),
+        Task::Report => report_file(job, file, out, meter),
+        _ => list_file(job, file, out, meter),
     }
 }
 
@@ -253,11 +243,14 @@ fn do_file<O: Opener + Drop, W: Device, E: Device, M: Meter + Drop>(
     err: &mut E,
     meter: M,
 ) -> Done
-    requires { files.old.failures < 2 ^ 64 - 1 }
+    requires { files.old.file.failures < 2 ^ 64 - 1 }
     ensures answer { IsAnswerOf job.now.task job.now.options.target (O.holds files.old.opener (system_name job.now.file.now)) result.ending.answer }
     ensures broken { TellsBroken (asks_further job.now.task job.now.options.strict) (terms_of (mode_of job.now.task) job.now.options.target)
         (O.holds files.old.opener (system_name job.now.file.now)) result }
-    ensures read { IsErrOf result.ending.answer Read → IsUnread files.old.failures files.old.reads files.new.failures files.new.reads }
+    ensures read { IsErrOf result.ending.answer Read → IsUnread files.old.file.failures files.old.file.reads files.new.file.failures files.new.file.reads }
+    ensures read_told { TellsFailure files.old.file.failures files.new.file.failures result.ending.answer }
+    ensures holds { (name : List ℕ) → O.holds files.new.opener name ≡ O.holds files.old.opener name }
+    ensures unread { files.new.unread ≡ files.old.unread }
     ensures failures { TellsWrites job.now.options.y4m result.ending (output_of W.contents W.has_failed W.holds_back out.old)
         (output_of W.contents W.has_failed W.holds_back out.new) (output_of E.contents E.has_failed E.holds_back err.new) }
     ensures text { TakesText (IsFileText job.now.task job.now.options (opening_in job.now.options.json job.now.file.now job.now.prefix.now)
@@ -267,7 +260,7 @@ fn do_file<O: Opener + Drop, W: Device, E: Device, M: Meter + Drop>(
     if files.open(system_name(job.file)).is_err() {
         return put_no_verdict(job, Stop::Read, out, err);
     }
-    judge_opened(job, files, out, err, meter)
+    judge_opened(job, &mut files.file, out, err, meter)
 }
 
 /// Whether a judgement was broken off for its output: that failed, or is YUV4MPEG2, which ends where the size changes.
@@ -286,25 +279,26 @@ fn stop_of(failed: bool) -> Stop
 }
 
 /// Judges the open file, and writes its answer to `out`, or to `err` where the task writes something else to `out`.
-fn judge_opened<O: Opener + Drop, W: Device, E: Device, M: Meter + Drop>(
+fn judge_opened<F: io::Read + Drop, W: Device, E: Device, M: Meter + Drop>(
     job: &Job<'_>,
-    files: &mut OpenedFiles<O>,
+    file: &mut OpenFile<F>,
     out: &mut W,
     err: &mut E,
     meter: M,
 ) -> Done
-    requires { files.old.failures < 2 ^ 64 - 1 }
-    ensures answer { IsAnswerOf job.now.task job.now.options.target (left_of O.File.Read.remaining files.old.reader) result.ending.answer }
+    requires { file.old.failures < 2 ^ 64 - 1 }
+    ensures answer { IsAnswerOf job.now.task job.now.options.target (left_of F.remaining file.old.reader) result.ending.answer }
     ensures broken { TellsBroken (asks_further job.now.task job.now.options.strict) (terms_of (mode_of job.now.task) job.now.options.target)
-        (left_of O.File.Read.remaining files.old.reader) result }
-    ensures read { IsErrOf result.ending.answer Read → IsUnread files.old.failures files.old.reads files.new.failures files.new.reads }
+        (left_of F.remaining file.old.reader) result }
+    ensures read { IsErrOf result.ending.answer Read → IsUnread file.old.failures file.old.reads file.new.failures file.new.reads }
+    ensures read_told { TellsFailure file.old.failures file.new.failures result.ending.answer }
     ensures failures { TellsWrites job.now.options.y4m result.ending (output_of W.contents W.has_failed W.holds_back out.old)
         (output_of W.contents W.has_failed W.holds_back out.new) (output_of E.contents E.has_failed E.holds_back err.new) }
     ensures text { TakesText (IsFileText job.now.task job.now.options (opening_in job.now.options.json job.now.file.now job.now.prefix.now)
-        (left_of O.File.Read.remaining files.old.reader) result.ending.answer) (W.contents out.old)
+        (left_of F.remaining file.old.reader) result.ending.answer) (W.contents out.old)
         (output_of W.contents W.has_failed W.holds_back out.new) }
 {
-    let found = find(job, files, out, meter);
+    let found = find(job, file, out, meter);
     // Where this fails, the device tells so.
     let _ = out.send_rest();
     let failed = out.did_fail();
@@ -319,6 +313,7 @@ fn judge_opened<O: Opener + Drop, W: Device, E: Device, M: Meter + Drop>(
 /// Writes what was found.
 fn put_answer<W: Device, E: Device>(job: &Job<'_>, found: &Found, out: &mut W, err: &mut E) -> Done
     ensures answer { (result.ending.answer ≡ found.now.answer) ⊎ (result.ending.answer ≡ Err Memory) }
+    ensures read { found.now.answer ≡ Err Read → result.ending.answer ≡ Err Read }
     ensures write { found.now.answer ≡ Err Write → result.ending.answer ≡ Err Write }
     ensures broken { result.is_broken ≡ true → BreakOne found.now.strict }
     ensures unbroken { result.is_broken ≡ false → BreakOne found.now.strict → ⊥ }
@@ -347,17 +342,17 @@ fn put_no_verdict<W: Device, E: Device>(job: &Job<'_>, stop: Stop, out: &mut W, 
 }
 
 /// Says why a file could not be read, where it could not.
-pub fn blame_reading<O: Opener + Drop, E: Device>(
+pub fn blame_reading<F: io::Read + Drop, E: Device>(
     alloc: Global,
-    files: &OpenedFiles<O>,
+    file: &OpenFile<F>,
     err: &mut E,
     name: &str,
 )
     ensures kept { E.has_failed err.old ≡ true → E.has_failed err.new ≡ true }
-    ensures told { IsSome files.now.cause → E.has_failed err.new ≡ false → TellsCause (E.contents err.old) (E.contents err.new) name.now }
-    ensures untold { files.now.cause ≡ None → err.new ≡ err.old }
+    ensures told { IsSome file.now.cause → E.has_failed err.new ≡ false → TellsCause (E.contents err.old) (E.contents err.new) name.now }
+    ensures untold { file.now.cause ≡ None → err.new ≡ err.old }
 {
-    if let Some(cause) = &files.cause {
+    if let Some(cause) = &file.cause {
         blame(alloc, err, name, cause);
     }
 }
@@ -385,10 +380,14 @@ fn do_named<O: Opener + Drop, W: Device, E: Device, M: Meter + Drop>(
     err: &mut E,
     meter: M,
 ) -> Done
-    requires { files.old.failures < 2 ^ 64 - 1 }
+    requires { files.old.file.failures < 2 ^ 64 - 1 }
     ensures answer { IsAnswerOf job.now.task job.now.options.target (O.holds files.old.opener (system_name job.now.file.now)) result.ending.answer }
     ensures broken { TellsBroken (asks_further job.now.task job.now.options.strict) (terms_of (mode_of job.now.task) job.now.options.target)
         (O.holds files.old.opener (system_name job.now.file.now)) result }
+    ensures read { IsErrOf result.ending.answer Read → IsUnread files.old.file.failures files.old.file.reads files.new.file.failures files.new.file.reads }
+    ensures read_told { TellsFailure files.old.file.failures files.new.file.failures result.ending.answer }
+    ensures holds { (name : List ℕ) → O.holds files.new.opener name ≡ O.holds files.old.opener name }
+    ensures unread { files.new.unread ≡ files.old.unread }
     ensures failures { TellsWrites job.now.options.y4m result.ending (output_of W.contents W.has_failed W.holds_back out.old)
         (output_of W.contents W.has_failed W.holds_back out.new) (output_of E.contents E.has_failed E.holds_back err.new) }
     ensures text { TakesText (IsFileText job.now.task job.now.options (opening_in job.now.options.json job.now.file.now (prefix_of true job.now.file.now))
@@ -410,25 +409,26 @@ fn do_named<O: Opener + Drop, W: Device, E: Device, M: Meter + Drop>(
 }
 
 /// Judges several files, and writes their totals: the worst exit status. Once a device has failed no more of them is judged.
-fn do_files<O: Opener + Drop + Copy, W: Device, E: Device, M: Meter + Drop + Copy>(
+fn do_files<O: Opener + Drop, W: Device, E: Device, M: Meter + Drop + Copy>(
     job: &Job<'_>,
     names: &[&str],
-    opener: O,
+    files: &mut OpenedFiles<O>,
     out: &mut W,
     err: &mut E,
     meter: M,
 ) -> u8
     requires several { length names.now ≢ 1 }
-    ensures { AreDone job.now.task job.now.options (λ name. O.holds opener name) ⊥ (map (λ n. n.now) names.now) result
+    ensures { AreDone job.now.task job.now.options (λ name. O.holds files.old.opener name) (TellUnread files.new.unread) (map (λ n. n.now) names.now) result
         (output_of W.contents W.has_failed W.holds_back out.old) (output_of W.contents W.has_failed W.holds_back out.new)
         (output_of E.contents E.has_failed E.holds_back err.new) }
 {
     let mut totals = Totals::none();
+    files.restart();
     for name in names.iter() {
         let one = Job { file: name, ..*job };
-        let mut files = OpenedFiles::new(opener);
-        let done = do_named(&one, &mut files, out, err, meter);
-        blame_reading(job.alloc, &files, err, name);
+        let done = do_named(&one, files, out, err, meter);
+        blame_reading(job.alloc, &files.file, err, name);
+        files.close();
         if out.did_fail() || !done.ending.written {
             return FAILED;
         }
@@ -454,11 +454,12 @@ fn do_one<O: Opener + Drop, W: Device, E: Device, M: Meter + Drop>(
     err: &mut E,
     meter: M,
 ) -> Done
-    requires { files.old.failures < 2 ^ 64 - 1 }
+    requires { files.old.file.failures < 2 ^ 64 - 1 }
     ensures answer { IsAnswerOf job.now.task job.now.options.target (O.holds files.old.opener (system_name job.now.file.now)) result.ending.answer }
     ensures broken { TellsBroken (asks_further job.now.task job.now.options.strict) (terms_of (mode_of job.now.task) job.now.options.target)
         (O.holds files.old.opener (system_name job.now.file.now)) result }
-    ensures read { IsErrOf result.ending.answer Read → IsUnread files.old.failures files.old.reads files.new.failures files.new.reads }
+    ensures read { IsErrOf result.ending.answer Read → IsUnread files.old.file.failures files.old.file.reads files.new.file.failures files.new.file.reads }
+    ensures read_told { TellsFailure files.old.file.failures files.new.file.failures result.ending.answer }
     ensures failures { TellsWrites job.now.options.y4m result.ending (output_of W.contents W.has_failed W.holds_back out.old)
         (output_of W.contents W.has_failed W.holds_back out.new) (output_of E.contents E.has_failed E.holds_back err.new) }
     ensures text { TakesText (IsFileText job.now.task job.now.options (opening_in job.now.options.json job.now.file.now job.now.prefix.now)
@@ -466,7 +467,7 @@ fn do_one<O: Opener + Drop, W: Device, E: Device, M: Meter + Drop>(
         (output_of W.contents W.has_failed W.holds_back out.new) }
 {
     let done = do_file(job, files, out, err, meter);
-    blame_reading(job.alloc, files, err, job.file);
+    blame_reading(job.alloc, &files.file, err, job.file);
     done
 }
 
@@ -478,18 +479,19 @@ fn do_output<O: Opener + Maker + Drop, E: Device, M: Meter + Drop>(
     err: &mut E,
     meter: M,
 ) -> Done
-    requires { files.old.failures < 2 ^ 64 - 1 }
+    requires { files.old.file.failures < 2 ^ 64 - 1 }
     ensures answer { IsAnswerOf job.now.task job.now.options.target (O.holds files.old.opener (system_name job.now.file.now)) result.ending.answer }
     ensures broken { TellsBroken (asks_further job.now.task job.now.options.strict) (terms_of (mode_of job.now.task) job.now.options.target)
         (O.holds files.old.opener (system_name job.now.file.now)) result }
-    ensures read { IsErrOf result.ending.answer Read → IsUnread files.old.failures files.old.reads files.new.failures files.new.reads }
+    ensures read { IsErrOf result.ending.answer Read → IsUnread files.old.file.failures files.old.file.reads files.new.file.failures files.new.file.reads }
+    ensures read_told { TellsFailure files.old.file.failures files.new.file.failures result.ending.answer }
 {
     if files.open(system_name(job.file)).is_err() {
         let done = put_unjudged(job, err, Stop::Read);
-        blame_reading(job.alloc, files, err, job.file);
+        blame_reading(job.alloc, &files.file, err, job.file);
         return done;
     }
-    let made = match files.opener.make(output) {
+    let made = match files.make(output) {
         Ok(made) => made,
         Err(cause) => {
             blame(job.alloc, err, output, &cause);
@@ -497,15 +499,15 @@ fn do_output<O: Opener + Maker + Drop, E: Device, M: Meter + Drop>(
         }
     };
     let mut device = WriteDevice::new(made);
-    let done = judge_opened(job, files, &mut device, err, meter);
-    blame_reading(job.alloc, files, err, job.file);
+    let done = judge_opened(job, &mut files.file, &mut device, err, meter);
+    blame_reading(job.alloc, &files.file, err, job.file);
     blame_output(job.alloc, &device, err, output);
     done
 }
 
 /// Does what the words ask beside a judgement of one file without options, and gives the exit status: the worst of the files', 64 for a fault of the
 /// words, whose text goes to `err`.
-pub fn more<O: Opener + Maker + Drop + Copy, W: Device, E: Device, M: Meter + Drop + Copy>(
+pub fn more<O: Opener + Maker + Drop, W: Device, E: Device, M: Meter + Drop + Copy>(
     alloc: Global,
     wanted: &Wanted<'_>,
     files: &mut OpenedFiles<O>,
@@ -513,9 +515,10 @@ pub fn more<O: Opener + Maker + Drop + Copy, W: Device, E: Device, M: Meter + Dr
     err: &mut E,
     meter: M,
 ) -> u8
-    requires { files.old.failures < 2 ^ 64 - 1 }
+    requires { files.old.file.failures < 2 ^ 64 - 1 }
     ensures { IsStatus wanted.now.request.task (subcommand_rows_of wanted.now.matches) (λ name. O.holds files.old.opener name)
-        (IsUnread files.old.failures files.old.reads files.new.failures files.new.reads) result
+        (counts files.old.file.failures files.old.file.reads files.old.unread)
+        (counts files.new.file.failures files.new.file.reads files.new.unread) result
         (output_of W.contents W.has_failed W.holds_back out.old) (output_of W.contents W.has_failed W.holds_back out.new)
         (output_of E.contents E.has_failed E.holds_back err.old) (output_of E.contents E.has_failed E.holds_back err.new) }
 {
@@ -535,7 +538,7 @@ pub fn more<O: Opener + Maker + Drop + Copy, W: Device, E: Device, M: Meter + Dr
         return explain_labels(alloc, names, options.json, out, err);
     }
     if names.len() != 1 {
-        return do_files(&job, names, files.opener, out, err, meter);
+        return do_files(&job, names, files, out, err, meter);
     }
     let job = Job {
         file: names[0],
@@ -544,7 +547,7 @@ pub fn more<O: Opener + Maker + Drop + Copy, W: Device, E: Device, M: Meter + Dr
     let Some(output) = options.output else {
         return do_one(&job, files, out, err, meter).status();
     };
-    if files.opener.is_same(system_name(job.file), output) {
+    if files.is_same(system_name(job.file), output) {
         return refuse(err, Refusal::Clash(Clash::OutputIsInput));
     }
     do_output(&job, files, output, err, meter).status()

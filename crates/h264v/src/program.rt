@@ -1,16 +1,16 @@
 //! The program, over any words, files and streams.
 #![tactic(auto)]
 
-ghost use Rattle.std.specs.Prelude.{◌≡◌, ◌-◌, ◌<◌, ◌≤◌, ◌⊎◌, ◌^◌, List, Some, map, string_bytes};
+ghost use Rattle.std.specs.Prelude.{◌≡◌, ◌-◌, ◌<◌, ◌^◌, List, Some, map, string_bytes};
 ghost use Rattle.clap.specs.Words.{Text, subcommand_rows_of};
 ghost use Rattle.h264v.specs.Commands.{output_by, output_of};
-ghost use Rattle.h264v.specs.Files.{HasFailedToRead, HasReadAll, IsUnread};
+ghost use Rattle.h264v.specs.Files.{counts};
 ghost use Rattle.h264v.specs.More.{IsStatus, Ends, Runs};
 
 use crate::command::{command, not_text};
 use crate::command_line::Wanted;
-use crate::files::{OpenedFiles, Opener};
-use crate::more::{Maker, blame_output, blame_reading, more};
+use crate::files::{Maker, OpenedFiles, Opener};
+use crate::more::{blame_output, blame_reading, more};
 use crate::outcome::Outcome;
 use crate::words::Words;
 use h264_report::survey::{Meter, NoMeter};
@@ -28,13 +28,14 @@ fn run_more<O, W, E, M>(
     meter: M,
 ) -> u8
 where
-    O: Opener + Maker + Drop + Copy,
+    O: Opener + Maker + Drop,
     W: Device,
     E: Device,
     M: Meter + Drop + Copy,
-    requires { files.old.failures < 2 ^ 64 - 1 }
+    requires { files.old.file.failures < 2 ^ 64 - 1 }
     ensures { IsStatus wanted.now.request.task (subcommand_rows_of wanted.now.matches) (λ name. O.holds files.old.opener name)
-        (IsUnread files.old.failures files.old.reads files.new.failures files.new.reads) result
+        (counts files.old.file.failures files.old.file.reads files.old.unread)
+        (counts files.new.file.failures files.new.file.reads files.new.unread) result
         (output_of W.contents W.has_failed W.holds_back out.old) (output_of W.contents W.has_failed W.holds_back out.new)
         (output_of E.contents E.has_failed E.holds_back err.old) (output_of E.contents E.has_failed E.holds_back err.new) }
 {
@@ -54,20 +55,20 @@ fn answer_words<O, W, E, M>(
     meter: M,
 ) -> u8
 where
-    O: Opener + Maker + Drop + Copy,
+    O: Opener + Maker + Drop,
     W: Write + Drop,
     E: Write + Drop,
     M: Meter + Drop + Copy,
-    requires { files.old.failures < 2 ^ 64 - 1 }
+    requires { files.old.file.failures < 2 ^ 64 - 1 }
     ensures { Ends (map (λ w. string_bytes w) words.now) (λ name. O.holds files.old.opener name)
-        (HasFailedToRead files.old.failures files.new.failures (λ n. (n ≤ files.old.reads) ⊎ (0 < files.old.failures))
-        (λ n. (n ≤ files.new.reads) ⊎ (0 < files.new.failures))) (HasReadAll files.old.failures files.new.failures) result
+        (counts files.old.file.failures files.old.file.reads files.old.unread)
+        (counts files.new.file.failures files.new.file.reads files.new.unread) result
         (output_by W.contents out.old) (output_by W.contents out.new) (output_by E.contents err.old) }
 {
     match command(alloc, words, files, out, err) {
         Outcome::Fault(status) => status,
         Outcome::Done(name, status) => {
-            blame_reading(alloc, files, err, name);
+            blame_reading(alloc, &files.file, err, name);
             status
         }
         Outcome::More(wanted) => run_more(alloc, &wanted, files, out, err, meter),
@@ -84,14 +85,14 @@ pub fn run_words<O, W, E, M>(
     meter: M,
 ) -> u8
 where
-    O: Opener + Maker + Drop + Copy,
+    O: Opener + Maker + Drop,
     W: Write + Drop,
     E: Write + Drop,
     M: Meter + Drop + Copy,
-    requires { files.old.failures < 2 ^ 64 - 1 }
+    requires { files.old.file.failures < 2 ^ 64 - 1 }
     ensures { Ends (map (λ w. string_bytes w) words.now) (λ name. O.holds files.old.opener name)
-        (HasFailedToRead files.old.failures files.new.failures (λ n. (n ≤ files.old.reads) ⊎ (0 < files.old.failures))
-        (λ n. (n ≤ files.new.reads) ⊎ (0 < files.new.failures))) (HasReadAll files.old.failures files.new.failures) result
+        (counts files.old.file.failures files.old.file.reads files.old.unread)
+        (counts files.new.file.failures files.new.file.reads files.new.unread) result
         (output_by W.contents out.old) (output_by W.contents out.new) (output_by E.contents err.old) }
 {
     let status = answer_words(alloc, words, files, out, err, meter);
@@ -110,19 +111,18 @@ pub fn program<A, O, W, E, M>(
 ) -> u8
 where
     A: Words,
-    O: Opener + Maker + Drop + Copy,
+    O: Opener + Maker + Drop,
     W: Write + Drop,
     E: Write + Drop,
     M: Meter + Drop + Copy,
-    requires { files.old.failures < 2 ^ 64 - 1 }
+    requires { files.old.file.failures < 2 ^ 64 - 1 }
     ensures known { (words' : List Text) → A.known words.now ≡ Some words' →
-        Runs words' (λ name. O.holds files.old.opener name) (HasFailedToRead files.old.failures files.new.failures
-        (λ n. (n ≤ files.old.reads) ⊎ (0 < files.old.failures)) (λ n. (n ≤ files.new.reads) ⊎ (0 < files.new.failures)))
-        (HasReadAll files.old.failures files.new.failures) result (output_by W.contents out.old) (output_by W.contents out.new)
+        Runs words' (λ name. O.holds files.old.opener name) (counts files.old.file.failures files.old.file.reads files.old.unread)
+        (counts files.new.file.failures files.new.file.reads files.new.unread) result (output_by W.contents out.old) (output_by W.contents out.new)
         (output_by E.contents err.old) }
     ensures some { (words' : List Text) × Runs words' (λ name. O.holds files.old.opener name)
-        (HasFailedToRead files.old.failures files.new.failures (λ n. (n ≤ files.old.reads) ⊎ (0 < files.old.failures))
-        (λ n. (n ≤ files.new.reads) ⊎ (0 < files.new.failures))) (HasReadAll files.old.failures files.new.failures) result
+        (counts files.old.file.failures files.old.file.reads files.old.unread)
+        (counts files.new.file.failures files.new.file.reads files.new.unread) result
         (output_by W.contents out.old) (output_by W.contents out.new) (output_by E.contents err.old) }
 {
     match words.words(alloc) {

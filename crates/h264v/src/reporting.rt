@@ -8,24 +8,25 @@ ghost use Rattle.h264_report.specs.Objects.{bare};
 ghost use Rattle.h264_report.specs.declared.listing.Listing.TheVariants as listings;
 ghost use Rattle.h264_verify.specs.Units.{terms_of};
 ghost use Rattle.h264v.specs.Commands.{output_of};
-ghost use Rattle.h264v.specs.Files.{left_of, IsUnread};
+ghost use Rattle.h264v.specs.Files.{left_of, HasReadAll, IsUnread, TellsUnread};
 ghost use Rattle.h264v.specs.Further.{IsFound};
 ghost use Rattle.h264v.specs.More.{IsAnswerOf};
 ghost use Rattle.h264v.specs.Texts.{TakesText};
 ghost use Rattle.h264v.specs.Words.{mode_of};
 
 use crate::explaining::guide_of;
-use crate::files::{OpenedFiles, Opener};
+use crate::files::OpenFile;
 use crate::job::{Found, Job, JudgedFurther, Watch, judge, judge_further};
 use crate::strictly::{FurtherRules, put_strict_lines};
 use crate::telling::finding_of;
-use h264_base::Mode;
+use h264_base::{Mode, Stop};
 use h264_report::pages::{Album, Answer, Page, Sheets, put_explanation, put_page};
 use h264_report::survey::{Meter, Survey, Surveyed};
 use h264_report::{
     Device, Form, LineSink, Listing, PageSink, Pen, Sheet, WriteDevice, put_text, verdict_line,
 };
 use h264_verify::FrameSink;
+use std::io;
 use std::marker::Brand;
 
 /// What is kept of the frames for a page.
@@ -83,22 +84,23 @@ struct Paged<S: Drop> {
 }
 
 /// Judges the open file with a sink, and by the further rules where they are asked for.
-fn judge_page<S: FrameSink + Drop, O: Opener + Drop, M: Meter + Drop>(
+fn judge_page<S: FrameSink + Drop, F: io::Read + Drop, M: Meter + Drop>(
     job: &Job<'_>,
-    files: &mut OpenedFiles<O>,
+    file: &mut OpenFile<F>,
     sink: S,
     watch: Watch<M>,
 ) -> Paged<S>
     requires none { S.took sink [] }
     requires sink { HasRoom S.failures sink }
-    requires source { files.old.failures < 2 ^ 64 - 1 }
-    ensures answer { IsAnswerOf job.now.task job.now.options.target (left_of O.File.Read.remaining files.old.reader) result.answer }
-    ensures read { IsErrOf result.answer Read → IsUnread files.old.failures files.old.reads files.new.failures files.new.reads }
+    requires source { file.old.failures < 2 ^ 64 - 1 }
+    ensures answer { IsAnswerOf job.now.task job.now.options.target (left_of F.remaining file.old.reader) result.answer }
+    ensures read { IsErrOf result.answer Read → IsUnread file.old.failures file.old.reads file.new.failures file.new.reads }
+    ensures read_told { TellsUnread file.old.failures file.new.failures result.answer }
     ensures further { IsFound job.now.options.strict (terms_of (mode_of job.now.task) job.now.options.target)
-        (left_of O.File.Read.remaining files.old.reader) result.answer result.strict }
+        (left_of F.remaining file.old.reader) result.answer result.strict }
 {
     if job.options.strict {
-        let judged = judge_further(job, files, sink, watch, true);
+        let judged = judge_further(job, file, sink, watch, true);
         let JudgedFurther {
             sink,
             survey,
@@ -112,7 +114,7 @@ fn judge_page<S: FrameSink + Drop, O: Opener + Drop, M: Meter + Drop>(
             strict: Some(further),
         };
     }
-    let (surveyed, answer) = judge(job, files, sink, watch);
+    let (surveyed, answer) = judge(job, file, sink, watch);
     let Surveyed { sink, survey, .. } = surveyed;
     Paged {
         sink,
@@ -122,23 +124,26 @@ fn judge_page<S: FrameSink + Drop, O: Opener + Drop, M: Meter + Drop>(
     }
 }
 
-/// Judges the open file, keeps pictures of its frames, and writes their lines through a pen. None where memory was wanting for a line, or the device failed.
-fn judge_pictures_by_pen<'a, K: Sheet, O: Opener + Drop, W: Device, M: Meter + Drop>(
+/// Judges the open file, keeps pictures of its frames, and writes their lines through a pen. None where memory was wanting for a line, or the device failed;
+/// then no read failed.
+fn judge_pictures_by_pen<'a, K: Sheet, F: io::Read + Drop, W: Device, M: Meter + Drop>(
     job: &Job<'_>,
-    files: &mut OpenedFiles<O>,
+    file: &mut OpenFile<F>,
     pen: Pen<'a, W>,
     watch: Watch<M>,
 ) -> (Pen<'a, W>, Option<(Found, Album)>)
-    requires source { files.old.failures < 2 ^ 64 - 1 }
+    requires source { file.old.failures < 2 ^ 64 - 1 }
     requires name { pen.out.ghost_name ≡ K.name }
     requires start { W.contents pen.out.now ≡ K.start }
     requires was_failed { W.has_failed pen.out.now ≡ K.was_failed }
     requires lines { K.opening ≡ bare }
     requires listing { K.listing ≡ listings.Frames }
-    ensures answer { IfSome result.1 (λ kept. IsAnswerOf job.now.task job.now.options.target (left_of O.File.Read.remaining files.old.reader) kept.0.answer) }
-    ensures read { IfSome result.1 (λ kept. IsErrOf kept.0.answer Read → IsUnread files.old.failures files.old.reads files.new.failures files.new.reads) }
+    ensures answer { IfSome result.1 (λ kept. IsAnswerOf job.now.task job.now.options.target (left_of F.remaining file.old.reader) kept.0.answer) }
+    ensures read { IfSome result.1 (λ kept. IsErrOf kept.0.answer Read → IsUnread file.old.failures file.old.reads file.new.failures file.new.reads) }
+    ensures read_told { IfSome result.1 (λ kept. TellsUnread file.old.failures file.new.failures kept.0.answer) }
+    ensures unread { IfNone result.1 (HasReadAll file.old.failures file.new.failures) }
     ensures further { IfSome result.1 (λ kept. IsFound job.now.options.strict (terms_of (mode_of job.now.task) job.now.options.target)
-        (left_of O.File.Read.remaining files.old.reader) kept.0.answer kept.0.strict) }
+        (left_of F.remaining file.old.reader) kept.0.answer kept.0.strict) }
 {
     let digests: LineSink<'_, '_, W, K> = LineSink::new(
         job.alloc,
@@ -155,51 +160,73 @@ fn judge_pictures_by_pen<'a, K: Sheet, O: Opener + Drop, W: Device, M: Meter + D
         survey,
         answer,
         strict,
-    } = judge_page(job, files, sink, watch);
+    } = judge_page(job, file, sink, watch);
     let PageSink { sink, album } = sink;
     let is_whole = !sink.broke_off() && sink.failures == 0;
+    let is_unread = matches!(answer, Err(Stop::Read));
     let found = Found {
         answer,
         strict,
         survey,
-        seen: files.seen,
+        seen: file.seen,
         before: String::new(job.alloc),
         change: None,
     };
-    let kept = if is_whole { Some((found, album)) } else { None };
+    let kept = if is_whole || is_unread {
+        Some((found, album))
+    } else {
+        None
+    };
     (sink.into_pen(), kept)
 }
 
 /// Judges the open file, keeps pictures of its frames, and writes their lines. None where memory was wanting for a line, or the device failed.
-fn judge_pictures<O: Opener + Drop, W: Device, M: Meter + Drop>(
+fn judge_pictures<F: io::Read + Drop, W: Device, M: Meter + Drop>(
     job: &Job<'_>,
-    files: &mut OpenedFiles<O>,
+    file: &mut OpenFile<F>,
     lines: &mut W,
     watch: Watch<M>,
 ) -> Option<(Found, Album)>
-    requires source { files.old.failures < 2 ^ 64 - 1 }
-    ensures answer { IfSome result (λ kept. IsAnswerOf job.now.task job.now.options.target (left_of O.File.Read.remaining files.old.reader) kept.0.answer) }
-    ensures read { IfSome result (λ kept. IsErrOf kept.0.answer Read → IsUnread files.old.failures files.old.reads files.new.failures files.new.reads) }
+    requires source { file.old.failures < 2 ^ 64 - 1 }
+    ensures answer { IfSome result (λ kept. IsAnswerOf job.now.task job.now.options.target (left_of F.remaining file.old.reader) kept.0.answer) }
+    ensures read { IfSome result (λ kept. IsErrOf kept.0.answer Read → IsUnread file.old.failures file.old.reads file.new.failures file.new.reads) }
+    ensures read_told { IfSome result (λ kept. TellsUnread file.old.failures file.new.failures kept.0.answer) }
+    ensures unread { IfNone result (HasReadAll file.old.failures file.new.failures) }
     ensures further { IfSome result (λ kept. IsFound job.now.options.strict (terms_of (mode_of job.now.task) job.now.options.target)
-        (left_of O.File.Read.remaining files.old.reader) kept.0.answer kept.0.strict) }
+        (left_of F.remaining file.old.reader) kept.0.answer kept.0.strict) }
 {
     let pen = Pen { out: lines };
-    let (_, kept) = judge_pictures_by_pen::<Brand, O, W, M>(job, files, pen, watch);
+    let (_, kept) = judge_pictures_by_pen::<Brand, F, W, M>(job, file, pen, watch);
     kept
 }
 
-/// Judges the open file, and writes a page on it. None where memory is wanting beside the judgement; then nothing is written.
-pub fn report_file<O: Opener + Drop, W: Device, M: Meter + Drop>(
+/// The page of a file that was judged. None where there is no memory for it.
+fn report_page(
     job: &Job<'_>,
-    files: &mut OpenedFiles<O>,
+    found: &Found,
+    album: &Album,
+    lines: &WriteDevice<Vec<u8>>,
+) -> Option<Page> {
+    let digests = str::from_utf8(lines.writer.as_slice()).ok()?;
+    let mut page = Page::new(job.alloc);
+    put_report(job, &mut page, found, &Kept { album, digests });
+    if page.is_short() { None } else { Some(page) }
+}
+
+/// Judges the open file, and writes a page on it. None where memory is wanting beside the judgement; then nothing is written, and no read failed.
+pub fn report_file<F: io::Read + Drop, W: Device, M: Meter + Drop>(
+    job: &Job<'_>,
+    file: &mut OpenFile<F>,
     out: &mut W,
     meter: M,
 ) -> Option<Found>
-    requires { files.old.failures < 2 ^ 64 - 1 }
-    ensures answer { IfSome result (λ found. IsAnswerOf job.now.task job.now.options.target (left_of O.File.Read.remaining files.old.reader) found.answer) }
-    ensures read { IfSome result (λ found. IsErrOf found.answer Read → IsUnread files.old.failures files.old.reads files.new.failures files.new.reads) }
+    requires { file.old.failures < 2 ^ 64 - 1 }
+    ensures answer { IfSome result (λ found. IsAnswerOf job.now.task job.now.options.target (left_of F.remaining file.old.reader) found.answer) }
+    ensures read { IfSome result (λ found. IsErrOf found.answer Read → IsUnread file.old.failures file.old.reads file.new.failures file.new.reads) }
+    ensures read_told { IfSome result (λ found. TellsUnread file.old.failures file.new.failures found.answer) }
+    ensures unread { IfNone result (HasReadAll file.old.failures file.new.failures) }
     ensures further { IfSome result (λ found. IsFound job.now.options.strict (terms_of (mode_of job.now.task) job.now.options.target)
-        (left_of O.File.Read.remaining files.old.reader) found.answer found.strict) }
+        (left_of F.remaining file.old.reader) found.answer found.strict) }
     ensures text { IfSome result (λ found. TakesText (λ _. Unit {0}) (W.contents out.old) (output_of W.contents W.has_failed W.holds_back out.new)) }
     ensures untouched { IfNone result (out.new ≡ out.old) }
 {
@@ -208,17 +235,10 @@ pub fn report_file<O: Opener + Drop, W: Device, M: Meter + Drop>(
     };
     let mut lines = WriteDevice::new(Vec::new(job.alloc));
     let watch = Watch { survey, meter };
-    let (found, album) = judge_pictures(job, files, &mut lines, watch)?;
-    let digests = str::from_utf8(lines.writer.as_slice()).ok()?;
-    let mut page = Page::new(job.alloc);
-    let kept = Kept {
-        album: &album,
-        digests,
+    let (found, album) = judge_pictures(job, file, &mut lines, watch)?;
+    let Some(page) = report_page(job, &found, &album, &lines) else {
+        return found.if_unread();
     };
-    put_report(job, &mut page, &found, &kept);
-    if page.is_short() {
-        return None;
-    }
     // Where this fails, the device tells so.
     let _ = put_text(out, page.as_str());
     Some(found)

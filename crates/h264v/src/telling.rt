@@ -2,7 +2,7 @@
 #![tactic(auto)]
 
 ghost use Rattle.std.specs.Prelude.{◌≡◌, ◌⊎◌, ℕ, List, true, false, Err};
-ghost use Rattle.h264_base.specs.declared.stop.Stop.TheVariants.{Memory, Write};
+ghost use Rattle.h264_base.specs.declared.stop.Stop.TheVariants.{Memory, Read, Write};
 ghost use Rattle.h264_report.specs.Sent.{Takes};
 ghost use Rattle.h264v.specs.Further.{BreakOne};
 
@@ -75,6 +75,7 @@ fn unjudged_line(stop: Stop) -> &'static str {
 /// What is said of an answer for which there was no memory: that a device failed, where the answer is that; else that memory was wanting.
 fn short_of(answer: Answer) -> Stop
     ensures stop { (Err result ≡ answer) ⊎ (result ≡ Memory) }
+    ensures read { answer ≡ Err Read → result ≡ Read }
     ensures write { answer ≡ Err Write → result ≡ Write }
 {
     match answer {
@@ -134,6 +135,7 @@ fn put_end(job: &Job<'_>, page: &mut Page, found: &Found) {
 /// Writes the end of a judgement: lines, or an object of JSON; nothing where quiet is asked.
 pub fn put_found<W: Device>(job: &Job<'_>, out: &mut W, found: &Found) -> Done
     ensures answer { (result.ending.answer ≡ found.now.answer) ⊎ (result.ending.answer ≡ Err Memory) }
+    ensures read { found.now.answer ≡ Err Read → result.ending.answer ≡ Err Read }
     ensures write { found.now.answer ≡ Err Write → result.ending.answer ≡ Err Write }
     ensures text { (end : List ℕ) × Takes result.ending.written (W.contents out.old) (W.contents out.new) end }
     ensures handed_over { result.ending.written ≡ true → W.holds_back out.new ≡ false }

@@ -3,10 +3,9 @@
 
 use crate::check_tests::{RULES, SAMPLES, SLICE_DATA};
 use crate::command::not_text;
-use crate::files::{OpenedFiles, Opener};
+use crate::files::{Maker, OpenedFiles, Opener};
 use crate::frame_tests::{COMPUTED, CROPPED, FRAMES};
 use crate::header_tests::{MARKINGS, PICTURES};
-use crate::more::Maker;
 use crate::program::run_words;
 use crate::set_tests::{SETS_0, SETS_1, SETS_2, SETS_3};
 use crate::target_tests::{FOR_BASELINE, FOR_MAIN_IP};

@@ -1,5 +1,6 @@
 use Rattle.std.proofs.Common.{◌∙◌}
 use Rattle.h264v.proofs.Further.{broken-told, no-verdict, told-answer}
+use Rattle.h264v.proofs.ToldReads.{told-kept}
 use Rattle.h264v.specs.Commands.{output_of}
 use Rattle.h264v.proofs.Texts.{judged-text, unjudged-text}
 use Rattle.h264v.proofs.Writing.{read-told, rest-sent, writes-told}
@@ -13,6 +14,9 @@ returns-clause-broken g c =
 pub returns-clause-read : goal.returns-clause-read
 returns-clause-read g c e =
     c.in-Some.ensures.read (read-told c.is_cut_off-broke_off.result c.in-Some.found.answer c.told_answer-found.result c.put_answer.result.ending.answer c.told_answer-found.ensures c.put_answer.ensures.answer e)
+
+pub returns-clause-read_told : goal.returns-clause-read_told
+returns-clause-read_told g c = told-kept c.is_cut_off-broke_off.result c.told_answer-found.ensures c.put_answer.ensures.read c.put_answer.ensures.write c.in-Some.ensures.read_told
 
 pub returns-clause-failures : goal.returns-clause-failures
 returns-clause-failures g c =

@@ -1,12 +1,14 @@
 use Rattle.std.proofs.Common.{◌≡◌, ℕ, List, [], Bor, IsSome, slice_index_or, length, option_map, refl, sym, ap, ◌∙◌, subst, arith, rules}
 use Rattle.clap.specs.Words.{subcommand_rows_of}
+use Rattle.std.proofs.lemmas.List.{length-map}
+use Rattle.h264v.specs.Files.{counts}
 use Rattle.h264v.specs.More.{Refused, Explained, Judged}
 use Rattle.h264v.specs.Options.{Same}
 use Rattle.h264v.specs.declared.refusal.Clash.TheVariants as clashes
 use Rattle.h264v.specs.declared.refusal.Refusal.TheVariants as refusals
 use Rattle.h264v.proofs.Given.{names-given}
 use Rattle.h264v.proofs.Statuses.{single}
-use Rattle.h264v.proofs.Writing.{alone, alone-elsewhere, read-of-any}
+use Rattle.h264v.proofs.Writing.{alone, alone-elsewhere, of-words}
 use Rattle.h264v.proofs.more.more.Goals as goal
 
 pub returns-in-Err : goal.returns-in-Err
@@ -19,7 +21,9 @@ pub returns-then-names-ne1 : goal.returns-then-names-ne1
 returns-then-names-ne1 g c =
     let names = names-given c.files.result c.unwrap_or-names.result _ (subcommand_rows_of c.args.wanted.now.matches) c.files.ensures c.unwrap_or-names.ensures refl in
     Judged c.in-Ok.options c.in-Ok.ensures.given c.in-Ok.ensures.used
-    (read-of-any names c.do_files.ensures)
+    (of-words (counts c.args.files.now.file.failures c.args.files.now.file.reads c.args.files.now.unread)
+    (counts c.do_files.new.files.file.failures c.do_files.new.files.file.reads c.do_files.new.files.unread) names
+    (λ e. c.if-names-ne1.true (sym (length-map c.unwrap_or-names.result.now (λ (n : Bor (List ℕ)). n.now)) ∙ e)) c.do_files.ensures)
 
 pub returns-in_default : goal.returns-in_default
 returns-in_default g c =
@@ -28,8 +32,8 @@ returns-in_default g c =
     let all = c.unwrap_or-names.result.now in
     let one : length all ≡ 1 = let t = c.if-names-ne1.false in omega (arith, t) in
     Judged c.in-Ok.options c.in-Ok.ensures.given c.in-Ok.ensures.used
-    (alone c.args.wanted.now.request.task c.in-Ok.options _ _ (record { name = (slice_index_or all 0 none).now; done = c.do_one.result; text = c.do_one.ensures.text.text }) _ c.status.result _ _ _ (single (λ (n : Bor (List ℕ)). n.now) all none one ∙ names)
-    c.do_one.ensures.answer c.do_one.ensures.broken c.do_one.ensures.read c.do_one.ensures.failures c.do_one.ensures.text.is_text c.do_one.ensures.text.sends c.status.ensures)
+    (alone c.args.wanted.now.request.task c.in-Ok.options _ _ _ (record { name = (slice_index_or all 0 none).now; done = c.do_one.result; text = c.do_one.ensures.text.text }) _ c.status.result _ _ _ (single (λ (n : Bor (List ℕ)). n.now) all none one ∙ names)
+    c.do_one.ensures.answer c.do_one.ensures.broken (record { read = c.do_one.ensures.read; told = c.do_one.ensures.read_told }) c.do_one.ensures.failures c.do_one.ensures.text.is_text c.do_one.ensures.text.sends c.status.ensures)
 
 pub returns-then-is_same : goal.returns-then-is_same
 returns-then-is_same g c =
@@ -43,5 +47,5 @@ returns g c =
     let all = c.unwrap_or-names.result.now in
     let one : length all ≡ 1 = let t = c.if-names-ne1.false in omega (arith, t) in
     Judged c.in-Ok.options c.in-Ok.ensures.given c.in-Ok.ensures.used
-    (alone-elsewhere c.args.wanted.now.request.task c.in-Ok.options _ _ (record { name = (slice_index_or all 0 none).now; done = c.do_output.result; text = [] }) _ c.status-2.result _ _ (single (λ (n : Bor (List ℕ)). n.now) all none one ∙ names)
-    c.do_output.ensures.answer c.do_output.ensures.broken c.do_output.ensures.read (subst IsSome (sym c.in-Some.is) refl) c.status-2.ensures)
+    (alone-elsewhere c.args.wanted.now.request.task c.in-Ok.options _ _ _ (record { name = (slice_index_or all 0 none).now; done = c.do_output.result; text = [] }) _ c.status-2.result _ _ (single (λ (n : Bor (List ℕ)). n.now) all none one ∙ names)
+    c.do_output.ensures.answer c.do_output.ensures.broken (record { read = c.do_output.ensures.read; told = c.do_output.ensures.read_told }) (subst IsSome (sym c.in-Some.is) refl) c.status-2.ensures)
