@@ -1,9 +1,8 @@
 -- What the deblocking filter takes from two neighbouring 4x4 blocks, whatever their slices: bS (8.7.2.1). To be read beside the standard.
-use Rattle.std.specs.Prelude.{ℕ, ◌-◌, ◌/◌, ◌==◌, nat_lt, nat_le, not, Bool, false, ◌&&◌, ◌||◌, List, Option, Some, None, ◌-ℤ◌, unsigned_abs, if◌then◌else◌}
+use Rattle.std.specs.Prelude.{ℕ, ◌==◌, nat_lt, nat_le, not, Bool, false, ◌||◌, Option, Some, None, ◌-ℤ◌, unsigned_abs, if◌then◌else◌}
 use Rattle.std.specs.Option.{option_and_then}
 use Rattle.std.proofs.Common.{get_or}
 use Rattle.h264_near.specs.Coded.{CodedMacroblock, is_intra, motion_in, number_of}
-use Rattle.h264_near.specs.Place.{part_at}
 use Rattle.h264_near.specs.declared.motion.Motion.{Motion}
 use Rattle.h264_near.specs.declared.motion.Vector.{Vector}
 
@@ -46,9 +45,3 @@ abbrev pub strength_between : Bool → Option Side → Option Side → Option �
 strength_between outer (Some p) (Some q) = Some (strength_of outer p q)
 strength_between outer (Some p) None = None
 strength_between outer None q = None
-
--- bS of the blocks at two neighbouring places of the picture, columns and rows counted from 1; nothing where one does not exist
-unfoldable pub strength : ℕ → List CodedMacroblock → ℕ → ℕ → ℕ → ℕ → Option ℕ
-strength width picture x y x' y' =
-    strength_between (not ((x - 1) / 4 == (x' - 1) / 4
-    && (y - 1) / 4 == (y' - 1) / 4)) (part_at 4 side_part width picture x y) (part_at 4 side_part width picture x' y')
