@@ -30,7 +30,7 @@ use Rattle.h264_dpb.specs.Ending.{ended_of}
 use Rattle.h264_verify.specs.StepOutcome.{steps_outcome}
 use Rattle.h264_verify.specs.Framing.{EndsFrames}
 use Rattle.h264_verify.proofs.Playing.{gives-plays}
-use Rattle.h264_verify.proofs.Made.{IsQuiet, some-made, full-made, quiet-made}
+use Rattle.h264_verify.proofs.Made.{MakesNone, some-made, full-made, quiet-made}
 
 -- the picture that may go on, by what is kept of it
 pub record IsOpen (on : Bool) (pictures : List CodedPicture) (o : OpenPicture) : Type 0 where
@@ -128,7 +128,7 @@ few-end slices o decoder e k h =
 
 -- ---- where no frames are made
 
-quiet-steps : (m : Mode) → IsQuiet m → (on : Bool) (pictures : List CodedPicture) → (if on then end_frames m pictures else []) ≡ []
+quiet-steps : (m : Mode) → MakesNone m → (on : Bool) (pictures : List CodedPicture) → (if on then end_frames m pictures else []) ≡ []
 quiet-steps modes.Units q true [] = refl
 quiet-steps modes.Units q true (p ∷ ps) = refl
 quiet-steps modes.Units q false pictures = refl
@@ -137,7 +137,7 @@ quiet-steps modes.Headers q true (p ∷ ps) = refl
 quiet-steps modes.Headers q false pictures = refl
 quiet-steps modes.Full q on pictures = absurd q
 
-pub quiet-ends : {S : Type 0} (mode : Mode) → IsQuiet mode → (took : S → List Call → Type 0) (failures : S → ℕ) (frames : ℕ → Frame) (decoder : Option Decoder) → decoder ≡ None → (s : S) (on ends : Bool) (pictures : List CodedPicture) → EndsFrames mode took failures frames on ends pictures (steps_outcome (if ends then (if on then end_frames mode pictures else []) else [])) decoder s s (Ok tt)
+pub quiet-ends : {S : Type 0} (mode : Mode) → MakesNone mode → (took : S → List Call → Type 0) (failures : S → ℕ) (frames : ℕ → Frame) (decoder : Option Decoder) → decoder ≡ None → (s : S) (on ends : Bool) (pictures : List CodedPicture) → EndsFrames mode took failures frames on ends pictures (steps_outcome (if ends then (if on then end_frames mode pictures else []) else [])) decoder s s (Ok tt)
 quiet-ends mode q took failures frames decoder n s on ends pictures = record {
   made = frames;
   same = λ i j. refl;

@@ -1,5 +1,5 @@
 -- What is true of a decoder where frames are made.
-use Rattle.std.proofs.Common.{◌≡◌, ℕ, ◌≤◌, Bool, true, false, List, [], Option, Some, None, Ok, refl, ◌∙◌, arith, subst, if◌then◌else◌}
+use Rattle.std.proofs.Common.{◌≡◌, ℕ, ◌≤◌, Bool, true, false, List, [], Option, Some, None, Ok, refl, sym, ◌∙◌, arith, subst, if◌then◌else◌}
 use Rattle.std.specs.Prelude.{IfSome}
 use Rattle.h264_base.specs.declared.mode.Mode.{Mode}
 use Rattle.h264_base.specs.declared.mode.Mode.TheVariants as modes
@@ -19,10 +19,10 @@ use Rattle.h264_verify.specs.declared.decoder.Format.{Format}
 use Rattle.h264_verify.specs.Keeping.{WhereMade, HasPlaces, IsMadeAs, format_in}
 
 -- in this mode no frames are made
-abbrev pub IsQuiet : Mode → Type 0
-IsQuiet modes.Units = Unit {0}
-IsQuiet modes.Headers = Unit {0}
-IsQuiet modes.Full = ⊥
+abbrev pub MakesNone : Mode → Type 0
+MakesNone modes.Units = Unit {0}
+MakesNone modes.Headers = Unit {0}
+MakesNone modes.Full = ⊥
 
 module _ (P : Decoder → Type 0) where
   -- what follows from it is true there too
@@ -60,22 +60,16 @@ module _ (P : Decoder → Type 0) where
   some-made modes.Full o d e h = (refl, subst (WhereMade modes.Full P) e h)
 
   -- there is none: no frames are made
-  pub none-made : (mode : Mode) (o : Option Decoder) → o ≡ None → WhereMade mode P o → IsQuiet mode
+  pub none-made : (mode : Mode) (o : Option Decoder) → o ≡ None → WhereMade mode P o → MakesNone mode
   unfolding WhereMade
   none-made modes.Units o e h = tt
   none-made modes.Headers o e h = tt
   none-made modes.Full o e h = absurd (subst (WhereMade modes.Full P) e h)
 
-  pub quiet-made : (mode : Mode) (o : Option Decoder) → o ≡ None → IsQuiet mode → WhereMade mode P o
+  pub quiet-made : (mode : Mode) (o : Option Decoder) → o ≡ None → MakesNone mode → WhereMade mode P o
   unfolding WhereMade
-  quiet-made modes.Units o e q = subst (WhereMade modes.Units P) (by o e) tt
-    where
-      by : (x : Option Decoder) → x ≡ None → None ≡ x
-      by x e = cc
-  quiet-made modes.Headers o e q = subst (WhereMade modes.Headers P) (by o e) tt
-    where
-      by : (x : Option Decoder) → x ≡ None → None ≡ x
-      by x e = cc
+  quiet-made modes.Units o e q = subst (WhereMade modes.Units P) (sym e) tt
+  quiet-made modes.Headers o e q = subst (WhereMade modes.Headers P) (sym e) tt
   quiet-made modes.Full o e q = absurd q
 
   pub full-made : (mode : Mode) (d : Decoder) → mode ≡ modes.Full → P d → WhereMade mode P (Some d)
@@ -111,24 +105,24 @@ made-same P Q modes.Full f (Some x) (Some d) p q e h = e ∙ h
 
 -- ---- where no frames are made, nothing is told of them
 
-pub quiet-told : (mode : Mode) (written : List (Entry Shown)) → IsQuiet mode → told_frames mode written ≡ []
+pub quiet-told : (mode : Mode) (written : List (Entry Shown)) → MakesNone mode → told_frames mode written ≡ []
 quiet-told modes.Units written q = refl
 quiet-told modes.Headers written q = refl
 quiet-told modes.Full written q = absurd q
 
-pub quiet-written : (mode : Mode) (pictures : List CodedPicture) → IsQuiet mode → 0 ≡ frames_written mode pictures
+pub quiet-written : (mode : Mode) (pictures : List CodedPicture) → MakesNone mode → 0 ≡ frames_written mode pictures
 quiet-written modes.Units pictures q = refl
 quiet-written modes.Headers pictures q = refl
 quiet-written modes.Full pictures q = absurd q
 
-pub quiet-whole : (mode : Mode) (ends : Bool) (before : History) → IsQuiet mode → answers {A = Unit {0}} (Ok tt) ≡ steps_outcome (if ends then whole_steps mode before else [])
+pub quiet-whole : (mode : Mode) (ends : Bool) (before : History) → MakesNone mode → answers {A = Unit {0}} (Ok tt) ≡ steps_outcome (if ends then whole_steps mode before else [])
 quiet-whole modes.Units true before q = refl
 quiet-whole modes.Units false before q = refl
 quiet-whole modes.Headers true before q = refl
 quiet-whole modes.Headers false before q = refl
 quiet-whole modes.Full ends before q = absurd q
 
-pub quiet-first : (mode : Mode) (coded : ℕ) (h : Header) → IsQuiet mode → Ok tt ≡ judged (first_mb_demands mode coded h)
+pub quiet-first : (mode : Mode) (coded : ℕ) (h : Header) → MakesNone mode → Ok tt ≡ judged (first_mb_demands mode coded h)
 quiet-first modes.Units coded h q = refl
 quiet-first modes.Headers coded h q = refl
 quiet-first modes.Full coded h q = absurd q

@@ -18,7 +18,7 @@ use Rattle.h264_verify.specs.Steps.{Step}
 use Rattle.h264_verify.specs.Buffering.{told_frames, gaps_turn, gap_on, missing_steps}
 use Rattle.h264_verify.specs.StepOutcome.{steps_outcome}
 use Rattle.h264_verify.specs.Keeping.{WhereMade, FillsFrames, BufferStays}
-use Rattle.h264_verify.proofs.Made.{IsQuiet, made-then, header-decoder, unit-made}
+use Rattle.h264_verify.proofs.Made.{MakesNone, made-then, header-decoder, unit-made}
 use Rattle.h264_verify.proofs.Missing.{Fills, steps-some}
 
 -- the buffer sees the pictures alone
@@ -50,7 +50,7 @@ full-stays held b modes.Units e s = tt
 full-stays held b modes.Headers e s = tt
 full-stays held b modes.Full e s = s
 
-pub quiet-stays : (held : References) (b : Buffered Shown) (m : Mode) → IsQuiet m → BufferStays m held b
+pub quiet-stays : (held : References) (b : Buffered Shown) (m : Mode) → MakesNone m → BufferStays m held b
 unfolding BufferStays
 quiet-stays held b modes.Units q = tt
 quiet-stays held b modes.Headers q = tt
