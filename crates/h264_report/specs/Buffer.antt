@@ -1,5 +1,5 @@
--- The coded picture buffer of one schedule: when access units arrive and are removed (C.1.1, C.1.2), and what must hold of that (C.3, A.3.1).
--- To be read beside the standard.
+-- The coded picture buffer of one schedule (C.1, C.3, A.3.1). To be read beside the standard.
+-- When access units arrive and are removed (C.1.1, C.1.2), and what must hold of that.
 -- Times count from the arrival of the first bit on, in units of 1 / (90000 * time_scale * BitRate) seconds: so each time of C.1 is a whole number.
 use Rattle.std.specs.Prelude.{List, ◌∷◌, sum, map, filter, take, get_or, replicate}
 use Rattle.std.specs.List.{list_any}

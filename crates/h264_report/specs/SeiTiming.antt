@@ -1,5 +1,5 @@
--- The syntax of messages that need a sequence parameter set: buffering_period() and pic_timing() (D.1, D.2), and the set that they need.
--- To be read beside the standard.
+-- The syntax of messages that need a sequence parameter set (D.1, D.2). To be read beside the standard.
+-- They are buffering_period() and pic_timing(); and the set that they need.
 use Rattle.std.specs.Prelude.{ℕ, zero, suc, ◌+◌, ◌-◌, ◌*◌, ◌^◌, ◌==◌, ◌&&◌, ◌||◌, Bool, false, not, min, nat_le, if◌then◌else◌}
 use Rattle.std.specs.Prelude.{get_or, Option, None, Some, Result, Ok, Err}
 use Rattle.h264_base.specs.Body.{Body}

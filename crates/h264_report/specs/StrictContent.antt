@@ -1,5 +1,5 @@
--- The rules that a unit breaks by its bytes, and where: SEI at its messages, and all else at its first bit; and the set that messages need.
--- To be read beside the standard.
+-- The rules that a unit breaks by its bytes, and where. To be read beside the standard.
+-- SEI breaks them at its messages, and all else at its first bit; and the set that messages need.
 use Rattle.std.specs.Prelude.{ℕ, zero, suc, ◌*◌, ◌==◌, ◌&&◌, not, if◌then◌else◌, List, [], ◌++◌, length, Option, None, Some}
 use Rattle.h264_base.specs.Body.{Body, place}
 use Rattle.h264_rbsp.specs.Rbsp.{body_of}
