@@ -214,7 +214,7 @@ fn part(rt: &impl Abort, pool: &Pool, sink: &mut Counts) -> Result<(), Stop> {
     buffer.flush(pool, true, 1, sink)
 }
 
-// A frame that does not exist takes the only place and is never written, so the picture after it is written at once. Of the picture with a rectangle
+// A frame that does not exist takes the only place and is never written, so the picture after it is written at once. In the picture with a rectangle
 // the first sample that is shown is the one at column 3 of row 2 of chroma.
 #[test]
 fn gaps_and_rectangles(rt: HostRuntime) -> Result<(), AllocError> {

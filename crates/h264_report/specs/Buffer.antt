@@ -161,7 +161,7 @@ abbrev pub is_bulky : Rates → Option Pace → (bytes time : ℕ) → Bool
 is_bulky r None bytes time = false
 is_bulky r (Some pace) bytes time = is_less time (384 * pace.max_mbps) (counted (second r * (bytes * pace.min_cr)))
 
--- Those of the first picture are more than 384 / MinCR bytes for each of its macroblocks, and more than 1/172 of a second allows.
+-- The first picture has more than 384 / MinCR bytes for each of its macroblocks, and more than 1/172 of a second allows.
 abbrev pub is_bulky_first : Option Pace → (bytes : ℕ) → Bool
 is_bulky_first None bytes = false
 is_bulky_first (Some pace) bytes =

@@ -13,7 +13,7 @@ use Rattle.h264_verify.specs.Telling.{Told, calls_of, AreDecoded}
 use Rattle.h264_verify.specs.declared.state.Summary.{Summary}
 use Rattle.h264_verify.specs.declared.state.Terms.{Terms}
 
--- The stream is judged so far. The session was fed these bytes, and the pictures are decoded. Of the frames that they give so many were
+-- The stream is judged so far. The session was fed these bytes, and the pictures are decoded. So many of the frames that they give were
 -- handed out, the first ones, and these wait, all others.
 pub record IsDecoding (terms : Terms) (session : Progress) (bytes : List ℕ) (handed_out : ℕ) (waiting : List ShownFrame) : Type 0 where
   pub frames : ℕ → Frame
@@ -22,7 +22,7 @@ pub record IsDecoding (terms : Terms) (session : Progress) (bytes : List ℕ) (h
   pub decoded : AreDecoded frames told
   pub waits : Waits handed_out waiting (calls_of frames told)
 
--- This is the answer to these bytes: the verdict, or that memory was wanting. Of the frames up to there so many were handed out, the
+-- This is the answer to these bytes: the verdict, or that memory was wanting. So many of the frames up to there were handed out, the
 -- first ones, and these wait, all others.
 pub record HasDecoded (terms : Terms) (bytes : List ℕ) (answer : Result Summary Stop) (handed_out : ℕ) (waiting : List ShownFrame) : Type 0 where
   pub account : Account terms bytes answer

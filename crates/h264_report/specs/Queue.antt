@@ -20,7 +20,7 @@ unfoldable pub told_of_frames : List ShownFrame → List Call
 told_of_frames [] = []
 told_of_frames (f ∷ fs) = told_of_frame f ∷ told_of_frames fs
 
--- Of the frames of these calls so many were handed out, the first ones, and these wait, all others.
+-- So many of the frames of these calls were handed out, the first ones, and these wait, all others.
 pub record Waits (handed_out : ℕ) (waiting : List ShownFrame) (calls : List Call) : Type 0 where
   pub out : List Call
   pub counted : length out ≡ handed_out

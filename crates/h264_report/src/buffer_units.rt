@@ -41,9 +41,9 @@ pub struct AccessUnit {
 /// The schedules that are followed: those with SchedSelIdx 0.
 #[derive(Clone, Copy)]
 pub struct Watches {
-    /// Of the NAL HRD parameters.
+    /// The one of the NAL HRD parameters.
     pub nal: Watch,
-    /// Of the VCL HRD parameters.
+    /// The one of the VCL HRD parameters.
     pub vcl: Watch,
 }
 

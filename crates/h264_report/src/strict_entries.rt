@@ -341,7 +341,8 @@ const BUFFER_ENTRIES: [StrictEntry; BUFFER_RULES] = [
     StrictEntry {
         rule: StrictRule::BufferOverflow,
         breaks: "The coded picture buffer holds more than CpbSize bits: those of access units that have arrived and are not removed, and what has come of the \
-            next. That is with SchedSelIdx 0 of the NAL or the VCL HRD parameters. It is not judged from where more than 256 access units stand in the buffer at once.",
+            next. That is with SchedSelIdx 0 of the NAL or the VCL HRD parameters. It is not judged from where more than 256 access units stand in the buffer \
+            at once.",
         bit: "The first bit of the first unit of the access unit that arrives then.",
         cause: "The encoder was given a larger buffer than cpb_size_value_minus1 tells. Or its rate is constant, and filler data are missing.",
         example: "four pictures of 136 bits in a buffer of 512 bits, from which none of them is removed yet",
@@ -349,16 +350,16 @@ const BUFFER_ENTRIES: [StrictEntry; BUFFER_RULES] = [
     StrictEntry {
         rule: StrictRule::MinCompression,
         breaks: "The units of an access unit's slices have more bytes than 384 * MaxMBPS / MinCR times the seconds since the access unit before was removed \
-            from the coded picture buffer. Of the first one they have more than 384 * PicSizeInMbs / MinCR and more than 384 * MaxMBPS / 172 / MinCR. The times are of \
-            SchedSelIdx 0 of the NAL or the VCL HRD parameters.",
+            from the coded picture buffer. The first one has more than 384 * PicSizeInMbs / MinCR bytes, and more than 384 * MaxMBPS / 172 / MinCR. The times \
+            are of SchedSelIdx 0 of the NAL or the VCL HRD parameters.",
         bit: "The first bit of the first unit of the access unit.",
         cause: "Pictures are coded at the best quality, or as I_PCM macroblocks, at a high frame rate. A level with a greater MaxMBPS allows more bytes.",
         example: "a slice of 4 bytes, 1/100000 of a second after the one before",
     },
     StrictEntry {
         rule: StrictRule::RemovalRate,
-        breaks: "An access unit is removed from the coded picture buffer less than PicSizeInMbs / MaxMBPS seconds after the one before, or less than 1/172 of a \
-            second. PicSizeInMbs and MaxMBPS are those of the one before, and the times are of SchedSelIdx 0 of the NAL or the VCL HRD parameters.",
+        breaks: "An access unit is removed from the coded picture buffer less than PicSizeInMbs / MaxMBPS seconds after the one before, or less than 1/172 of \
+            a second. PicSizeInMbs and MaxMBPS are those of the one before, and the times are of SchedSelIdx 0 of the NAL or the VCL HRD parameters.",
         bit: "The first bit of the first unit of the access unit.",
         cause: "level_idc is too low for the frame rate. Or cpb_removal_delay counts ticks that are not those of num_units_in_tick and time_scale.",
         example: "a picture that is removed 5 ms after the one before",

@@ -11,9 +11,9 @@ use h264_base::ElementName;
 pub struct Vectors {
     /// The slice that is read is a P slice.
     pub is_p: bool,
-    /// Of the macroblock before the last.
+    /// Those that the macroblock before the last has.
     pub earlier: u64,
-    /// Of the last one, as far as it was read.
+    /// Those that the last one has, as far as it was read.
     pub current: u64,
 }
 

@@ -6,7 +6,7 @@
 //! for line as the standard's tables do, with each rule that is checked at its place; the sink is told each element as soon as its
 //! code word was read. Two sets are equal by `==` exactly where their contents are (`laws`). A set is judged here alone: one that
 //! was read is accepted (`specs/Usable.antt`), and `buffer` says how many frames it gives the picture buffer.
-//! Of the VUI the rules on max_dec_frame_buffering are judged. Bit rates, timing and the other values are kept, and not judged.
+//! In the VUI the rules on max_dec_frame_buffering are judged. Bit rates, timing and the other values are kept, and not judged.
 #![tactic(auto)]
 
 pub mod buffer;

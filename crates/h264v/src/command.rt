@@ -157,7 +157,8 @@ fn serve<F: Files, W: Device, E: Device>(
     requires judging { is_judging request.task ≡ true }
     ensures { (words : List Text) → asks program words ≡ Some (name_of request.entry.task, Some request.entry.file.now) →
         IsTarget (value_in (subcommand_of program words) (codes "target")) target → Comes words (λ name. F.holds files.old name)
-        (HasFailedToRead (F.failures files.old) (F.failures files.new) (F.was_read files.old) (F.was_read files.new)) (HasReadAll (F.failures files.old) (F.failures files.new)) result (output_of W.contents W.has_failed W.holds_back out.old)
+        (HasFailedToRead (F.failures files.old) (F.failures files.new) (F.was_read files.old) (F.was_read files.new))
+        (HasReadAll (F.failures files.old) (F.failures files.new)) result (output_of W.contents W.has_failed W.holds_back out.old)
         (output_of W.contents W.has_failed W.holds_back out.new) (output_of E.contents E.has_failed E.holds_back err.old)
         (output_of E.contents E.has_failed E.holds_back err.new) }
 {
