@@ -1,7 +1,7 @@
 //! What the words ask for beside the judgement of one file: options, several files, and the tasks that make texts of their own.
 #![tactic(auto)]
 
-ghost use Rattle.std.specs.Prelude.{◌≡◌, ◌≢◌, ℕ, ◌==◌, ◌-◌, ◌<◌, ◌^◌, ◌++◌, ◌⊎◌, true, false, max, map, length, not, nat_le, List, codes};
+ghost use Rattle.std.specs.Prelude.{◌≡◌, ◌≢◌, ℕ, ◌==◌, ◌-◌, ◌<◌, ◌^◌, ◌++◌, ◌⊎◌, ◌||◌, ◌&&◌, is_some, true, false, max, map, length, not, nat_le, List, codes};
 ghost use Rattle.std.specs.Prelude.{Err, None, IsErrOf, IsSome, IfSome, IfNone};
 ghost use Rattle.clap.specs.Words.{subcommand_rows_of};
 ghost use Rattle.h264_base.specs.declared.stop.Stop.TheVariants.{Memory, Read, Write};
@@ -267,6 +267,7 @@ fn do_file<O: Opener + Drop, W: Device, E: Device, M: Meter + Drop>(
 fn is_cut_off(job: &Job<'_>, found: &Found, failed: bool) -> bool
     ensures cut { result ≡ true → (failed ≡ true) ⊎ (job.now.options.y4m ≡ true) }
     ensures whole { result ≡ false → failed ≡ false }
+    ensures change { result ≡ failed || (job.now.options.y4m && is_some found.now.change) }
 {
     failed || job.options.y4m && found.change.is_some()
 }
