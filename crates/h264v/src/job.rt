@@ -1,11 +1,11 @@
 //! One file, judged as the options say.
 #![tactic(auto)]
 
-ghost use Rattle.std.specs.Prelude.{◌≡◌, ◌-◌, ◌<◌, ◌^◌, List, [], true, false, None, IsErrOf, IsSome, IfSome, IfNone};
+ghost use Rattle.std.specs.Prelude.{◌≡◌, ◌-◌, ◌<◌, ◌^◌, List, [], true, false, None, IsErrOf, IsSome, IfSome, IfNone, string_bytes};
 ghost use Rattle.h264_base.specs.Call.{Call, HasRoom};
 ghost use Rattle.h264_base.specs.declared.stop.Stop.TheVariants.{Read};
 ghost use Rattle.h264_report.specs.Chosen.{TookChosen};
-ghost use Rattle.h264_report.specs.Written.{OfBytes, Account, calls_in};
+ghost use Rattle.h264_report.specs.Written.{OfBytes, Account, calls_in, trail_text};
 ghost use Rattle.h264_verify.specs.Units.{terms_of};
 ghost use Rattle.h264v.specs.Files.{left_of, HasReadAll, IsUnread, TellsUnread};
 ghost use Rattle.h264v.specs.Further.{AreJudged, BreakOne, IsFound};
@@ -118,6 +118,7 @@ impl Found {
     pub fn if_unread(self) -> Option<Found>
         ensures same { IfSome result (λ found. found ≡ self) }
         ensures read { IfNone result (IsErrOf self.answer Read → ⊥) }
+        ensures only { IfSome result (λ _. IsErrOf self.answer Read) }
     {
         match self.answer {
             Err(Stop::Read) => Some(self),
@@ -231,7 +232,8 @@ fn judge_plainly<S: FrameSink + Drop, F: io::Read + Drop, M: Meter + Drop>(
 
 /// The lines of the last elements, before a no; no text before another answer. None where there is no memory for them.
 fn trail_lines(alloc: Global, answer: Answer, sink: &TrailSink) -> Option<String>
-    ensures { IfNone result (IsErrOf answer Read → ⊥) }
+    ensures text { IfSome result (λ text. string_bytes text ≡ trail_text sink.now.trail answer) }
+    ensures read { IfNone result (IsErrOf answer Read → ⊥) }
 {
     match answer {
         Err(Stop::No { .. }) => sink.trail().lines(alloc).ok(),
