@@ -1,18 +1,18 @@
 -- A run says what the relation says, and nothing else does.
-use Rattle.std.proofs.Common.{◌≡◌, ℕ, ◌+◌, ◌*◌, ℤ, Bool, true, false, not, IsTrue, IsFalse, List, [], ◌∷◌, ◌++◌, length, Option, Some, None, nat_le, ◌≤◌, ◌<◌, Result, Ok, Err, replicate, refl, ap, sym, ◌∙◌, subst, cond, inl, inr, ◌⊎◌, if◌then◌else◌}
+use Rattle.std.proofs.Common.{◌≡◌, ℕ, ◌+◌, ◌*◌, ℤ, Bool, true, false, not, IsTrue, IsFalse, List, [], ◌∷◌, length, Option, Some, None, nat_le, ◌≤◌, ◌<◌, Result, Ok, Err, refl, ap, sym, ◌∙◌, subst, cond, inl, inr, ◌⊎◌}
 use Rattle.h264_base.specs.declared.rule.Rule.{Rule}
 use Rattle.h264_base.specs.declared.element_name.ElementName.{ElementName}
 use Rattle.h264_base.specs.declared.stop.Stop.{Stop}
 use Rattle.h264_base.specs.declared.rule.Rule.TheVariants.{CodeWord, Trailing}
 use Rattle.h264_base.specs.declared.stop.Stop.TheVariants.{No, Outside, Memory, Read as ReadFailed, Write}
-use Rattle.h264_base.specs.Call.{Call, OfElement}
+use Rattle.h264_base.specs.Call.{Call, span}
 use Rattle.h264_base.specs.Meets.{Reader, MeetsBy, Meets, AnswersBy, Answers}
 use Rattle.h264_base.specs.Body.{Body, place}
 use Rattle.std.proofs.lemmas.Bool.{leb-true, leb-false, le-leb, lt-leb}
-use Rattle.h264_base.specs.Word.{Code, Reads, StandsAt, bit_of, value_at, closes_at, ends_at, no_zero_at, padding}
-use Rattle.h264_base.specs.Grammar.{Grammar, Element, Found, found, Ahead, ahead, bytes_at, Done, Read, Check, Support, More, Align, Bytes, Close, Says, IsClosed, IsPadded, IsUnpadded, HasMore}
-use Rattle.h264_base.specs.Run.{Run, run, with_element, stopped, element_run, align_run, call_of}
-use Rattle.h264_base.proofs.Words.{value-reads, reads-value, has_more, more-one, closed-from, closes-from, padded-from, from-padded, FirstSet, unpadded-from, from-unpadded}
+use Rattle.h264_base.specs.Word.{Code, Reads, bit_of, value_at, closes_at, ends_at, no_zero_at, padding}
+use Rattle.h264_base.specs.Grammar.{Grammar, Element, Found, found, ahead, bytes_at, Done, Read, Check, Support, More, Align, Bytes, Close, Says, IsClosed}
+use Rattle.h264_base.specs.Run.{Run, run, with_element, stopped, element_run, align_run}
+use Rattle.h264_base.proofs.Words.{value-reads, reads-value, has_more, more-one, closed-from, closes-from, padded-from, from-padded, unpadded-from, from-unpadded}
 
 -- what a run gives
 abbrev pub SaysRun : {A : Type 0} → Grammar A → Body → ℕ → Run A → Type 0
@@ -127,7 +127,7 @@ says-no-read (Close g) body i es (inr s) = let e = s.2 in absurd (cc)
 says-answer : {A : Type 0} (g : Grammar A) (body : Body) (i : ℕ) (a : Result (A × ℕ) Stop) → (run g body i).answer ≡ a → Says g body i (run g body i).elements a
 says-answer g body i a e = subst (Says g body i (run g body i).elements) e (run-says g body i)
 
-answers-by : {X A S : Type 0} (took : S → List Call → Type 0) (failures : S → ℕ) (R : X → A → Type 0) (g : Grammar A) (body : Body) (i j : ℕ) (s s' : S) (r : Result X Stop) → MeetsBy took failures R g body i j s s' r → AnswersBy took failures R g body i j s s' r
+answers-by : {X A S : Type 0} (took : S → List Call → Type 0) (failures : S → ℕ) (R : X → A → Type 0) (g : Grammar A) (body : Body) (i j : ℕ) (s s' : S) (r : Result X Stop) → MeetsBy (span took failures s s') R g (record { body = body; at = i }) j r → AnswersBy (span took failures s s') R g (record { body = body; at = i }) j r
 answers-by took failures R g body i j s s' (Ok x) m = ((run g body i).elements, m.0, m.1, says-answer g body i _ m.2, m.3, m.4)
 answers-by took failures R g body i j s s' (Err (No bit rule)) m = ((run g body i).elements, says-answer g body i _ m.0, m.1, m.2)
 answers-by took failures R g body i j s s' (Err (Outside bit rule)) m = ((run g body i).elements, says-answer g body i _ m.0, m.1, m.2)
@@ -136,5 +136,5 @@ answers-by took failures R g body i j s s' (Err Memory) m = says-none g body i _
 answers-by took failures R g body i j s s' (Err ReadFailed) m = says-no-read g body i _ (says-answer g body i (Err ReadFailed) m.0)
 
 -- What meets a grammar answers as the relation says.
-pub answers : {X A S : Type 0} {took : S → List Call → Type 0} {failures : S → ℕ} {R : X → A → Type 0} {g : Grammar A} {old new : Reader} {s s' : S} {r : Result X Stop} → Meets took failures R g old new s s' r → Answers took failures R g old new s s' r
+pub answers : {X A S : Type 0} {took : S → List Call → Type 0} {failures : S → ℕ} {R : X → A → Type 0} {g : Grammar A} {old new : Reader} {s s' : S} {r : Result X Stop} → Meets (span took failures s s') R g old new r → Answers (span took failures s s') R g old new r
 answers {took} {failures} {R} {g} {old} {new} {s} {s'} {r} m = answers-by took failures R g old.body old.at new.at s s' r m.meets

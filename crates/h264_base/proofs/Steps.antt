@@ -1,15 +1,13 @@
 -- How what is read is put together.
-use Rattle.std.proofs.Common.{ℤ, ◌≡◌, ℕ, ◌+◌, ◌*◌, zero, suc, Bool, true, false, not, IsTrue, IsFalse, List, [], ◌∷◌, ◌++◌, map, length, replicate, nat_le, Result, Ok, Err, Option, Some, None, refl, ap, sym, ◌∙◌, cond, append_assoc, subst, if◌then◌else◌}
+use Rattle.std.proofs.Common.{◌≡◌, ℕ, ◌+◌, ◌*◌, Bool, true, false, not, List, [], ◌∷◌, ◌++◌, map, length, nat_le, Result, Ok, Err, Option, Some, None, refl, ap, sym, ◌∙◌, cond, append_assoc, subst}
 use Rattle.std.proofs.lemmas.List.{append-nil, map-append}
 use Rattle.h264_base.specs.declared.rule.Rule.{Rule}
-use Rattle.h264_base.specs.declared.rule.Rule.TheVariants.{CodeWord, Trailing}
-use Rattle.h264_base.specs.declared.element_name.ElementName.{ElementName}
 use Rattle.h264_base.specs.declared.stop.Stop.{Stop}
 use Rattle.h264_base.specs.declared.stop.Stop.TheVariants.{No, Outside, Memory, Read as ReadFailed, Write}
-use Rattle.h264_base.specs.Call.{Call, OfElement, Tells, TellsFront}
-use Rattle.h264_base.specs.Body.{Body, place}
-use Rattle.h264_base.specs.Word.{Code, value_at, closes_at, ends_at, no_zero_at, padding}
-use Rattle.h264_base.specs.Grammar.{Grammar, Element, Found, found, Ahead, ahead, bytes_at, Done, Read, Check, Support, More, Align, Bytes, Close, ◌>>=◌, element, residual_element, check, support, more, align, raw_bytes, trailing}
+use Rattle.h264_base.specs.Call.{Call, Tells, TellsFront, span}
+use Rattle.h264_base.specs.Body.{Body}
+use Rattle.h264_base.specs.Word.{value_at, closes_at, ends_at, no_zero_at, padding}
+use Rattle.h264_base.specs.Grammar.{Grammar, Element, Found, found, Ahead, ahead, bytes_at, Done, Read, Check, Support, More, Align, Bytes, Close, ◌>>=◌, check, more}
 use Rattle.h264_base.specs.Run.{Run, run, with_element, stopped, element_run, align_run, call_of}
 use Rattle.h264_base.specs.Meets.{Reader, calls_from, MeetsBy, Meets, Is, Checks, ChecksBy}
 
@@ -126,8 +124,8 @@ module _ {Y B S : Type 0} (took : S → List Call → Type 0) (failures : S → 
   }
 
   meets-on : (new : ℕ) (r : Result Y Stop) → run g body i ≡ after es (run g' body j) → Tells took s0 s1 (map (call_of body) es) → failures s1 ≡ failures s0
-      → MeetsBy took failures R g' body j new s1 s2 r
-      → MeetsBy took failures R g body i new s0 s2 r
+      → MeetsBy (span took failures s1 s2) R g' (record { body = body; at = j }) new r
+      → MeetsBy (span took failures s0 s2) R g (record { body = body; at = i }) new r
   meets-on new (Ok y) e t n m = (m.0, m.1, answer-on e ∙ m.2, tells-on e t m.3, m.4 ∙ n)
   meets-on new (Err Write) e t n m = (front-on e t m.0, m.1 ∙ ap (λ k. k + 1) n)
   meets-on new (Err (No b q)) e t n m = (answer-on e ∙ m.0, tells-on e t m.1, m.2 ∙ n)
@@ -135,7 +133,7 @@ module _ {Y B S : Type 0} (took : S → List Call → Type 0) (failures : S → 
   meets-on new (Err Memory) e t n m = (answer-on e ∙ m.0, tells-on e t m.1, m.2 ∙ n)
   meets-on new (Err ReadFailed) e t n m = (answer-on e ∙ m.0, tells-on e t m.1, m.2 ∙ n)
 
-meets-stop : {X Y A B S : Type 0} (took : S → List Call → Type 0) (failures : S → ℕ) (R : X → A → Type 0) (R' : Y → B → Type 0) (g : Grammar A) (f : A → Grammar B) (body : Body) (i j : ℕ) (s0 s1 : S) (e : Stop) → MeetsBy took failures R g body i j s0 s1 (Err e) → MeetsBy took failures R' (g >>= f) body i j s0 s1 (Err e)
+meets-stop : {X Y A B S : Type 0} (took : S → List Call → Type 0) (failures : S → ℕ) (R : X → A → Type 0) (R' : Y → B → Type 0) (g : Grammar A) (f : A → Grammar B) (body : Body) (i j : ℕ) (s0 s1 : S) (e : Stop) → MeetsBy (span took failures s0 s1) R g (record { body = body; at = i }) j (Err e) → MeetsBy (span took failures s0 s1) R' (g >>= f) (record { body = body; at = i }) j (Err e)
 meets-stop took failures R R' g f body i j s0 s1 Write m =
     let more = run-begins (run g body i).elements (λ x k. run (f x) body k) (run g body i).answer in (
       record {
@@ -152,7 +150,7 @@ meets-stop took failures R R' g f body i j s0 s1 Memory m = stops-at took failur
 meets-stop took failures R R' g f body i j s0 s1 ReadFailed m = stops-at took failures g f body i s0 s1 ReadFailed m
 
 -- what was read last leaves the rest
-pub reads : {X A B S : Type 0} {took : S → List Call → Type 0} {failures : S → ℕ} {R : X → A → Type 0} {g : Grammar A} (f : A → Grammar B) {old mid : Reader} {s0 s1 : S} {x : X} → (m : Meets took failures R g old mid s0 s1 (Ok x)) → Leads took failures (g >>= f) (f m.meets.0) old mid s0 s1
+pub reads : {X A B S : Type 0} {took : S → List Call → Type 0} {failures : S → ℕ} {R : X → A → Type 0} {g : Grammar A} (f : A → Grammar B) {old mid : Reader} {s0 s1 : S} {x : X} → (m : Meets (span took failures s0 s1) R g old mid (Ok x)) → Leads took failures (g >>= f) (f m.meets.0) old mid s0 s1
 reads {g} f {old} {mid} m = record {
   before = (run g old.body old.at).elements;
   goes = run-goes_on g f old.body old.at mid.at m.meets.0 m.meets.2;
@@ -162,52 +160,52 @@ reads {g} f {old} {mid} m = record {
 }
 
 -- what is left is met, and so is the whole
-pub finish : {Y B S : Type 0} {took : S → List Call → Type 0} {failures : S → ℕ} {R : Y → B → Type 0} {g g' : Grammar B} {old mid new : Reader} {s0 s1 s2 : S} {r : Result Y Stop} → Leads took failures g g' old mid s0 s1 → Meets took failures R g' mid new s1 s2 r → Meets took failures R g old new s0 s2 r
+pub finish : {Y B S : Type 0} {took : S → List Call → Type 0} {failures : S → ℕ} {R : Y → B → Type 0} {g g' : Grammar B} {old mid new : Reader} {s0 s1 s2 : S} {r : Result Y Stop} → Leads took failures g g' old mid s0 s1 → Meets (span took failures s1 s2) R g' mid new r → Meets (span took failures s0 s2) R g old new r
 finish {took} {failures} {R} {g} {g'} {old} {mid} {new} {s0} {s1} {s2} {r} a b = record {
-  meets = meets-on took failures R g g' old.body old.at mid.at a.before s0 s1 s2 new.at r a.goes a.tells a.quiet (subst (λ b. MeetsBy took failures R g' b mid.at new.at s1 s2 r) a.same b.meets);
+  meets = meets-on took failures R g g' old.body old.at mid.at a.before s0 s1 s2 new.at r a.goes a.tells a.quiet (subst (λ b. MeetsBy (span took failures s1 s2) R g' (record { body = b; at = mid.at }) new.at r) a.same b.meets);
   same = b.same ∙ a.same;
 }
 
 -- reading a part, and then the rest
-pub bind_as : {X Y A B S : Type 0} {took : S → List Call → Type 0} {failures : S → ℕ} {R : X → A → Type 0} {R' : Y → B → Type 0} {g : Grammar A} (f : A → Grammar B) {old mid new : Reader} {s0 s1 s2 : S} {x : X} {r : Result Y Stop} → Meets took failures R g old mid s0 s1 (Ok x) → ((v : A) → R x v → Meets took failures R' (f v) mid new s1 s2 r) → Meets took failures R' (g >>= f) old new s0 s2 r
+pub bind_as : {X Y A B S : Type 0} {took : S → List Call → Type 0} {failures : S → ℕ} {R : X → A → Type 0} {R' : Y → B → Type 0} {g : Grammar A} (f : A → Grammar B) {old mid new : Reader} {s0 s1 s2 : S} {x : X} {r : Result Y Stop} → Meets (span took failures s0 s1) R g old mid (Ok x) → ((v : A) → R x v → Meets (span took failures s1 s2) R' (f v) mid new r) → Meets (span took failures s0 s2) R' (g >>= f) old new r
 bind_as f a b = finish (reads f a) (b a.meets.0 a.meets.1)
 
 -- the same where the value is seen
-pub reads_is : {X A B S : Type 0} {took : S → List Call → Type 0} {failures : S → ℕ} {view : X → A} {g : Grammar A} (f : A → Grammar B) {old mid : Reader} {s0 s1 : S} {x : X} → Meets took failures (Is view) g old mid s0 s1 (Ok x) → Leads took failures (g >>= f) (f (view x)) old mid s0 s1
+pub reads_is : {X A B S : Type 0} {took : S → List Call → Type 0} {failures : S → ℕ} {view : X → A} {g : Grammar A} (f : A → Grammar B) {old mid : Reader} {s0 s1 : S} {x : X} → Meets (span took failures s0 s1) (Is view) g old mid (Ok x) → Leads took failures (g >>= f) (f (view x)) old mid s0 s1
 reads_is {took} {failures} {view} {g} f {old} {mid} {s0} {s1} {x} a = subst (λ v. Leads took failures (g >>= f) (f v) old mid s0 s1) a.meets.1 (reads f a)
 
-pub bind : {X Y A B S : Type 0} {took : S → List Call → Type 0} {failures : S → ℕ} {view : X → A} {R' : Y → B → Type 0} {g : Grammar A} (f : A → Grammar B) {old mid new : Reader} {s0 s1 s2 : S} {x : X} {r : Result Y Stop} → Meets took failures (Is view) g old mid s0 s1 (Ok x) → Meets took failures R' (f (view x)) mid new s1 s2 r → Meets took failures R' (g >>= f) old new s0 s2 r
+pub bind : {X Y A B S : Type 0} {took : S → List Call → Type 0} {failures : S → ℕ} {view : X → A} {R' : Y → B → Type 0} {g : Grammar A} (f : A → Grammar B) {old mid new : Reader} {s0 s1 s2 : S} {x : X} {r : Result Y Stop} → Meets (span took failures s0 s1) (Is view) g old mid (Ok x) → Meets (span took failures s1 s2) R' (f (view x)) mid new r → Meets (span took failures s0 s2) R' (g >>= f) old new r
 bind f a b = finish (reads_is f a) b
 
 -- a part of a loop
-pub leads-on : {X A B S : Type 0} {took : S → List Call → Type 0} {failures : S → ℕ} {view : X → A} {g : Grammar B} {h : Grammar A} (f : A → Grammar B) {old now mid : Reader} {s s' s'' : S} {x : X} → Leads took failures g (h >>= f) old now s s' → Meets took failures (Is view) h now mid s' s'' (Ok x) → Leads took failures g (f (view x)) old mid s s''
+pub leads-on : {X A B S : Type 0} {took : S → List Call → Type 0} {failures : S → ℕ} {view : X → A} {g : Grammar B} {h : Grammar A} (f : A → Grammar B) {old now mid : Reader} {s s' s'' : S} {x : X} → Leads took failures g (h >>= f) old now s s' → Meets (span took failures s' s'') (Is view) h now mid (Ok x) → Leads took failures g (f (view x)) old mid s s''
 leads-on f l m = leads-then l (reads_is f m)
 
 -- a part stops, and so does the whole
-pub stop : {X Y A B S : Type 0} {took : S → List Call → Type 0} {failures : S → ℕ} {R : X → A → Type 0} {R' : Y → B → Type 0} {g : Grammar A} (f : A → Grammar B) {old new : Reader} {s0 s1 : S} {e : Stop} → Meets took failures R g old new s0 s1 (Err e) → Meets took failures R' (g >>= f) old new s0 s1 (Err e)
+pub stop : {X Y A B S : Type 0} {took : S → List Call → Type 0} {failures : S → ℕ} {R : X → A → Type 0} {R' : Y → B → Type 0} {g : Grammar A} (f : A → Grammar B) {old new : Reader} {s0 s1 : S} {e : Stop} → Meets (span took failures s0 s1) R g old new (Err e) → Meets (span took failures s0 s1) R' (g >>= f) old new (Err e)
 stop {took} {failures} {R} {R'} {g} f {old} {new} {s0} {s1} {e} a = record { meets = meets-stop took failures R R' g f old.body old.at new.at s0 s1 e a.meets; same = a.same }
 
 -- how many calls failed, where none did
-pub kept : {X A S : Type 0} {took : S → List Call → Type 0} {failures : S → ℕ} {R : X → A → Type 0} {g : Grammar A} {old new : Reader} {s s' : S} {x : X} → Meets took failures R g old new s s' (Ok x) → failures s' ≡ failures s
+pub kept : {X A S : Type 0} {took : S → List Call → Type 0} {failures : S → ℕ} {R : X → A → Type 0} {g : Grammar A} {old new : Reader} {s s' : S} {x : X} → Meets (span took failures s s') R g old new (Ok x) → failures s' ≡ failures s
 kept m = m.meets.4
 
 -- nothing is left to read
-pub done : {X A S : Type 0} (took : S → List Call → Type 0) (failures : S → ℕ) (R : X → A → Type 0) (v : A) (old : Reader) (s : S) (x : X) → R x v → Meets took failures R (Done v) old old s s (Ok x)
+pub done : {X A S : Type 0} (took : S → List Call → Type 0) (failures : S → ℕ) (R : X → A → Type 0) (v : A) (old : Reader) (s : S) (x : X) → R x v → Meets (span took failures s s) R (Done v) old old (Ok x)
 unfolding run
 done took failures R v old s x e = record { meets = (v, e, refl, tells-none took s, refl); same = refl }
 
 -- whether data follow
-pub looked : {X S : Type 0} (took : S → List Call → Type 0) (failures : S → ℕ) (view : X → Ahead) (old : Reader) (s : S) (x : X) → view x ≡ ahead old.body old.at (not (ends_at old.body.bytes old.at)) → Meets took failures (Is view) more old old s s (Ok x)
+pub looked : {X S : Type 0} (took : S → List Call → Type 0) (failures : S → ℕ) (view : X → Ahead) (old : Reader) (s : S) (x : X) → view x ≡ ahead old.body old.at (not (ends_at old.body.bytes old.at)) → Meets (span took failures s s) (Is view) more old old (Ok x)
 unfolding run more
 looked took failures view old s x e = record { meets = (ahead old.body old.at (not (ends_at old.body.bytes old.at)), sym e, refl, tells-none took s, refl); same = refl }
 
-check_met : {S : Type 0} (took : S → List Call → Type 0) (failures : S → ℕ) (rule : Rule) (bit : ℕ) (holds : Bool) (old : Reader) (s : S) (r : Result (Unit {0}) Stop) → ChecksBy rule bit holds r → MeetsBy took failures (Is (λ (u : Unit {0}). u)) (check rule bit holds) old.body old.at old.at s s r
+check_met : {S : Type 0} (took : S → List Call → Type 0) (failures : S → ℕ) (rule : Rule) (bit : ℕ) (holds : Bool) (old : Reader) (s : S) (r : Result (Unit {0}) Stop) → ChecksBy rule bit holds r → MeetsBy (span took failures s s) (Is (λ (u : Unit {0}). u)) (check rule bit holds) (record { body = old.body; at = old.at }) old.at r
 unfolding check run
 check_met took failures rule bit true old s (Ok u) c = (tt, refl, refl, tells-none took s, refl)
 check_met took failures rule bit false old s (Ok u) c = absurd (cc)
 check_met took failures rule bit true old s (Err e) c = absurd (let f : true ≡ false = c.0 in cc)
-check_met took failures rule bit false old s (Err e) c = let P : Stop → Type 0 = λ e. MeetsBy took failures (Is (λ (u : Unit {0}). u)) (Check rule bit false (Done tt)) old.body old.at old.at s s (Err e) in subst P (sym c.1) (refl, tells-none took s, refl)
+check_met took failures rule bit false old s (Err e) c = let P : Stop → Type 0 = λ e. MeetsBy (span took failures s s) (Is (λ (u : Unit {0}). u)) (Check rule bit false (Done tt)) (record { body = old.body; at = old.at }) old.at (Err e) in subst P (sym c.1) (refl, tells-none took s, refl)
 
 -- a check that was made
-pub checked : {S : Type 0} (took : S → List Call → Type 0) (failures : S → ℕ) {rule : Rule} {bit : ℕ} {holds : Bool} (old : Reader) (s : S) {r : Result (Unit {0}) Stop} → Checks rule bit holds r → Meets took failures (Is (λ (u : Unit {0}). u)) (check rule bit holds) old old s s r
+pub checked : {S : Type 0} (took : S → List Call → Type 0) (failures : S → ℕ) {rule : Rule} {bit : ℕ} {holds : Bool} (old : Reader) (s : S) {r : Result (Unit {0}) Stop} → Checks rule bit holds r → Meets (span took failures s s) (Is (λ (u : Unit {0}). u)) (check rule bit holds) old old r
 checked took failures {rule} {bit} {holds} old s {r} c = record { meets = check_met took failures rule bit holds old s r c.checks; same = refl }

@@ -1,14 +1,13 @@
 -- The functions on bits find the words.
-use Rattle.std.proofs.Common.{◌≡◌, ℕ, ◌+◌, ◌*◌, ◌-◌, ◌^◌, ◌<◌, ◌≤◌, ℤ, pos, zero, suc, Bool, true, false, not, IsTrue, IsFalse, ◌&&◌, nat_lt, nat_le, List, [], ◌∷◌, ◌++◌, length, replicate, Option, Some, None, refl, ap, sym, ◌∙◌, subst, arith, if◌then◌else◌}
+use Rattle.std.proofs.Common.{◌≡◌, ℕ, ◌+◌, ◌*◌, ◌-◌, ◌^◌, ◌<◌, ◌≤◌, ℤ, pos, zero, suc, Bool, true, false, not, ◌&&◌, nat_lt, nat_le, List, [], ◌∷◌, ◌++◌, length, replicate, Option, Some, None, refl, ap, sym, ◌∙◌, subst, arith, if◌then◌else◌}
 use Rattle.std.proofs.lemmas.List.{length-replicate}
 use Rattle.std.proofs.Common.{pow_pos, length-append, ltb-true, leb-true, lt-ltb, le-leb}
 use Rattle.std.specs.Cmp.Derive.{both_true}
 use Rattle.std.specs.Option.{option_map, option_and_then}
-use Rattle.h264_base.specs.Word.{Code, Fixed, Unsigned, Signed, Words, Reads, StandsAt, IsWord, IsWordOf, IsGolomb, Word, number, digit, bit_of, number_at, zeros_at, golomb_at, rows_at, spells, value_at, closes_at, ends_at, no_zero_at, padding, signed, is_bit, stands_at}
-use Rattle.h264_base.specs.Table.{Row, CodeTable, IsRow, is_prefix_free}
+use Rattle.h264_base.specs.Word.{Code, Fixed, Unsigned, Signed, Words, Reads, StandsAt, IsGolomb, Word, number, digit, bit_of, number_at, zeros_at, golomb_at, rows_at, value_at, closes_at, ends_at, no_zero_at, signed, is_bit, stands_at}
 use Rattle.h264_base.proofs.Chains.{map-some, then-some}
-use Rattle.h264_base.proofs.Rows.{FoundRow, row-found, found-row}
-use Rattle.h264_base.specs.Grammar.{Ends, HasMore, IsClosed, IsPadded, IsUnpadded}
+use Rattle.h264_base.proofs.Rows.{row-found, found-row}
+use Rattle.h264_base.specs.Grammar.{Ends, HasMore, IsClosed}
 
 pub number-stands : (n : ℕ) (bytes : List ℕ) (i x : ℕ) → number_at n bytes i ≡ Some x → (w : Word) × (length w ≡ n) × (number w ≡ x) × StandsAt bytes i w
 unfolding number_at

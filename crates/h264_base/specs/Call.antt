@@ -1,5 +1,5 @@
 -- What a sink is told. A working form.
-use Rattle.std.specs.Prelude.{◌≡◌, ℕ, ◌-◌, ◌<◌, ◌^◌, ℤ, List, [], ◌∷◌, ◌++◌}
+use Rattle.std.specs.Prelude.{◌≡◌, ℕ, ◌-◌, ◌<◌, ◌^◌, ℤ, List, ◌++◌}
 use Rattle.h264_base.specs.declared.element_name.ElementName.{ElementName}
 use Rattle.h264_base.specs.declared.mode.SliceType.{SliceType}
 
@@ -24,6 +24,16 @@ pub record TellsFront {S : Type 0} (took : S → List Call → Type 0) (old new 
   pub rest : List Call
   pub whole : calls ≡ front ++ rest
   pub tells : Tells took old new front
+
+-- A sink from one call of it to another: what it took and how often it failed, as it was and as it is.
+pub record SinkSpan (S Call : Type 0) : Type 1 where
+  pub took : S → List Call → Type 0
+  pub failures : S → ℕ
+  pub old : S
+  pub new : S
+
+abbrev pub span : {S Call : Type 0} → (S → List Call → Type 0) → (S → ℕ) → S → S → SinkSpan S Call
+span took failures old new = record { took = took; failures = failures; old = old; new = new }
 
 -- One more failure can be counted in 64 bits.
 abbrev pub HasRoom : {S : Type 0} → (S → ℕ) → S → Type 0

@@ -1,5 +1,5 @@
 -- Syntax structures as terms, and what they mean (7.2, 7.3). To be read beside the standard.
-use Rattle.std.specs.Prelude.{◌≡◌, ℕ, ◌+◌, ◌*◌, ◌-◌, ◌/◌, ◌%◌, Bool, true, false, IsTrue, IsFalse, List, [], ◌∷◌, length, replicate, take, drop, ℤ, Some, ◌<◌}
+use Rattle.std.specs.Prelude.{◌≡◌, ℕ, ◌+◌, ◌*◌, ◌/◌, Bool, true, false, IsTrue, IsFalse, List, [], ◌∷◌, length, replicate, take, drop, ℤ, Some, ◌<◌}
 use Rattle.std.specs.Prelude.{◌≤◌, ◌⊎◌, Result, Ok, Err}
 use Rattle.h264_base.specs.declared.element_name.ElementName.{ElementName}
 use Rattle.h264_base.specs.declared.rule.Rule.{Rule}

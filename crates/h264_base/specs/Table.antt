@@ -1,5 +1,5 @@
 -- Tables of code words (9.1.1, 9.1.2, 9.2). To be read beside the standard.
-use Rattle.std.specs.Prelude.{◌≡◌, ℕ, ◌-◌, ◌/◌, ◌^◌, Bool, true, false, not, List, [], ◌∷◌, ◌==◌, ◌&&◌, ◌⊎◌, nat_le}
+use Rattle.std.specs.Prelude.{◌≡◌, ℕ, ◌-◌, ◌/◌, ◌^◌, Bool, true, not, List, [], ◌∷◌, ◌==◌, ◌&&◌, ◌⊎◌, nat_le}
 
 -- a row: a word, given by its length and the number that it spells, and what it stands for
 pub record Row : Type 0 where

@@ -1,6 +1,6 @@
 -- Code words and where they stand (7.2, 9.1). To be read beside the standard.
-use Rattle.std.specs.Prelude.{◌≡◌, ℕ, zero, suc, ◌+◌, ◌-◌, ◌*◌, ◌/◌, ◌%◌, ◌^◌, ◌<◌, ◌≤◌, Bool, true, false, List, [], ◌∷◌, ◌++◌, length, replicate, ℤ, pos}
-use Rattle.std.specs.Prelude.{negsuc, Option, Some, None, slice_get, ◌==◌, if◌then◌else◌, neg_ℤ, not, nat_lt, nat_le, ◌&&◌}
+use Rattle.std.specs.Prelude.{◌≡◌, ℕ, zero, suc, ◌+◌, ◌-◌, ◌*◌, ◌/◌, ◌%◌, ◌^◌, ◌<◌, Bool, true, false, List, [], ◌∷◌, ◌++◌, length, replicate, ℤ, pos}
+use Rattle.std.specs.Prelude.{Option, Some, None, slice_get, ◌==◌, if◌then◌else◌, neg_ℤ, not, nat_lt, nat_le, ◌&&◌}
 use Rattle.std.specs.Option.{option_map, option_and_then}
 use Rattle.h264_base.specs.Table.{Row, CodeTable, IsRow}
 

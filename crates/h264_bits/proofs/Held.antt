@@ -5,7 +5,7 @@ use Rattle.std.specs.Option.{option_map}
 use Rattle.h264_base.specs.declared.stop.Stop.{Stop}
 use Rattle.h264_base.specs.declared.stop.Stop.TheVariants.{No, Outside, Memory, Read as ReadFailed, Write}
 use Rattle.h264_base.specs.Body.{Body}
-use Rattle.h264_base.specs.Call.{Call}
+use Rattle.h264_base.specs.Call.{Call, span}
 use Rattle.h264_base.specs.Word.{Fixed, Words, Reads}
 use Rattle.h264_base.specs.Grammar.{Grammar}
 use Rattle.h264_base.specs.Meets.{Reader, Meets, MeetsBy, Is}
@@ -38,7 +38,7 @@ peek-middle a b n bytes i few =
     rw (peek-top (a + b) n bytes i few, peek-split a b (a + b) bytes i refl)
     (mod-mul-add (peek_at a bytes i) (2 ^ b) (peek_at b bytes (i + a)) (peek-below b bytes (i + a)))
 
-stopped : {X Y A S : Type 0} (took : S → List Call → Type 0) (failures : S → ℕ) (R : X → A → Type 0) (R' : Y → A → Type 0) (g : Grammar A) (body : Body) (i j k : ℕ) (s s' : S) (e : Stop) → MeetsBy took failures R g body i j s s' (Err e) → MeetsBy took failures R' g body i k s s' (Err e)
+stopped : {X Y A S : Type 0} (took : S → List Call → Type 0) (failures : S → ℕ) (R : X → A → Type 0) (R' : Y → A → Type 0) (g : Grammar A) (body : Body) (i j k : ℕ) (s s' : S) (e : Stop) → MeetsBy (span took failures s s') R g (record { body = body; at = i }) j (Err e) → MeetsBy (span took failures s s') R' g (record { body = body; at = i }) k (Err e)
 stopped took failures R R' g body i j k s s' Write m = m
 stopped took failures R R' g body i j k s s' (No b q) m = m
 stopped took failures R R' g body i j k s s' (Outside b q) m = m
@@ -46,12 +46,12 @@ stopped took failures R R' g body i j k s s' Memory m = m
 stopped took failures R R' g body i j k s s' ReadFailed m = m
 
 -- where a structure stops, the reader may stand at any bit of the body, and it does not matter what would be given
-pub stopped-as : {X Y A S : Type 0} {took : S → List Call → Type 0} {failures : S → ℕ} {R : X → A → Type 0} {R' : Y → A → Type 0} {g : Grammar A} {old new : Reader} {s s' : S} {e : Stop} (mid : Reader) → mid.body ≡ old.body → Meets took failures R g old new s s' (Err e) → Meets took failures R' g old mid s s' (Err e)
+pub stopped-as : {X Y A S : Type 0} {took : S → List Call → Type 0} {failures : S → ℕ} {R : X → A → Type 0} {R' : Y → A → Type 0} {g : Grammar A} {old new : Reader} {s s' : S} {e : Stop} (mid : Reader) → mid.body ≡ old.body → Meets (span took failures s s') R g old new (Err e) → Meets (span took failures s s') R' g old mid (Err e)
 stopped-as {took = took} {failures} {R} {R'} {g} {old} {new} {s} {s'} {e} mid same m = record { meets = stopped took failures R R' g old.body old.at new.at mid.at s s' e m.meets; same = same }
 
-pub stopped-at : {X A S : Type 0} {took : S → List Call → Type 0} {failures : S → ℕ} {R : X → A → Type 0} {g : Grammar A} {old new : Reader} {s s' : S} {e : Stop} (mid : Reader) → mid.body ≡ old.body → Meets took failures R g old new s s' (Err e) → Meets took failures R g old mid s s' (Err e)
+pub stopped-at : {X A S : Type 0} {took : S → List Call → Type 0} {failures : S → ℕ} {R : X → A → Type 0} {g : Grammar A} {old new : Reader} {s s' : S} {e : Stop} (mid : Reader) → mid.body ≡ old.body → Meets (span took failures s s') R g old new (Err e) → Meets (span took failures s s') R g old mid (Err e)
 stopped-at mid same m = stopped-as mid same m
 
 -- what was told is given
-pub given : {A S : Type 0} {took : S → List Call → Type 0} {failures : S → ℕ} {v : A} {g : Grammar A} {old new : Reader} {s s' : S} → Meets {X = Unit {0}} took failures (Is (λ x. v)) g old new s s' (Ok tt) → Meets took failures (Is (λ (x : A). x)) g old new s s' (Ok v)
+pub given : {A S : Type 0} {took : S → List Call → Type 0} {failures : S → ℕ} {v : A} {g : Grammar A} {old new : Reader} {s s' : S} → Meets {X = Unit {0}} (span took failures s s') (Is (λ x. v)) g old new (Ok tt) → Meets (span took failures s s') (Is (λ (x : A). x)) g old new (Ok v)
 given m = record { meets = m.meets; same = m.same }

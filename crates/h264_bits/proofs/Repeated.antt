@@ -1,9 +1,9 @@
 -- A loop that reads a part so often: its turns, and an array that keeps what they read.
-use Rattle.std.proofs.Common.{◌≡◌, ℕ, zero, suc, ◌+◌, ◌-◌, ◌<◌, ◌≤◌, List, [], ◌∷◌, ◌++◌, take, drop, length, replicate, Result, Ok, Err, refl, ap, sym, ◌∙◌, subst, arith}
-use Rattle.std.proofs.lemmas.List.{drop-drop, take-append-drop}
+use Rattle.std.proofs.Common.{◌≡◌, ℕ, suc, ◌+◌, ◌-◌, ◌<◌, ◌≤◌, List, [], ◌∷◌, ◌++◌, drop, replicate, Ok, Err, ap, sym, ◌∙◌, subst, arith}
+use Rattle.std.proofs.lemmas.List.{drop-drop}
 use Rattle.h264_base.specs.declared.stop.Stop.{Stop}
-use Rattle.h264_base.specs.Call.{Call}
-use Rattle.h264_base.specs.Grammar.{Grammar, Done, ◌>>=◌}
+use Rattle.h264_base.specs.Call.{Call, span}
+use Rattle.h264_base.specs.Grammar.{Grammar}
 use Rattle.h264_base.specs.Meets.{Reader, Meets, Is}
 use Rattle.h264_base.proofs.Steps.{Leads, leads-starts, leads-on, stop, done, finish}
 use Rattle.h264_bits.specs.Forms.{repeated}
@@ -16,7 +16,7 @@ module _ {A S : Type 0} {took : S → List Call → Type 0} {failures : S → �
       rw (whole, e) (leads-starts took failures (repeated part [] n) old s)
 
   -- one more turn
-  pub repeated-next : {g : Grammar (List A)} {X : Type 0} {view : X → A} {old now mid : Reader} {s s' s'' : S} {x : X} (part : Grammar A) (n i : ℕ) (before after : List A) → i < n → after ≡ before ++ view x ∷ [] → Leads took failures g (repeated part before (n - i)) old now s s' → Meets took failures (Is view) part now mid s' s'' (Ok x) → Leads took failures g (repeated part after (n - (i + 1))) old mid s s''
+  pub repeated-next : {g : Grammar (List A)} {X : Type 0} {view : X → A} {old now mid : Reader} {s s' s'' : S} {x : X} (part : Grammar A) (n i : ℕ) (before after : List A) → i < n → after ≡ before ++ view x ∷ [] → Leads took failures g (repeated part before (n - i)) old now s s' → Meets (span took failures s' s'') (Is view) part now mid (Ok x) → Leads took failures g (repeated part after (n - (i + 1))) old mid s s''
   unfolding repeated
   repeated-next {g} {view = view} {old} {now} {mid} {s} {s'} {s''} {x} part n i before after h e l m =
       let k : n - i ≡ suc (n - (i + 1)) = omega arith in
@@ -24,7 +24,7 @@ module _ {A S : Type 0} {took : S → List Call → Type 0} {failures : S → �
       rw e (leads-on (λ t. repeated part (before ++ t ∷ []) (n - (i + 1))) (subst P k l) m)
 
   -- a turn stops
-  pub repeated-stop : {g : Grammar (List A)} {X Y : Type 0} {R : Y → List A → Type 0} {view : X → A} {old now mid : Reader} {s s' s'' : S} {e : Stop} (part : Grammar A) (n i : ℕ) (before : List A) → i < n → Leads took failures g (repeated part before (n - i)) old now s s' → Meets {X = X} took failures (Is view) part now mid s' s'' (Err e) → Meets {X = Y} took failures R g old mid s s'' (Err e)
+  pub repeated-stop : {g : Grammar (List A)} {X Y : Type 0} {R : Y → List A → Type 0} {view : X → A} {old now mid : Reader} {s s' s'' : S} {e : Stop} (part : Grammar A) (n i : ℕ) (before : List A) → i < n → Leads took failures g (repeated part before (n - i)) old now s s' → Meets {X = X} (span took failures s' s'') (Is view) part now mid (Err e) → Meets {X = Y} (span took failures s s'') R g old mid (Err e)
   unfolding repeated
   repeated-stop {g} {old = old} {now} {s = s} {s'} part n i before h l m =
       let k : n - i ≡ suc (n - (i + 1)) = omega arith in
@@ -32,7 +32,7 @@ module _ {A S : Type 0} {took : S → List Call → Type 0} {failures : S → �
       finish (subst P k l) (stop (λ t. repeated part (before ++ t ∷ []) (n - (i + 1))) m)
 
   -- the loop is over
-  pub repeated-over : {g : Grammar (List A)} {Y : Type 0} {R : Y → List A → Type 0} {old now : Reader} {s s' : S} (part : Grammar A) (n i : ℕ) (before : List A) (y : Y) → n ≤ i → R y before → Leads took failures g (repeated part before (n - i)) old now s s' → Meets took failures R g old now s s' (Ok y)
+  pub repeated-over : {g : Grammar (List A)} {Y : Type 0} {R : Y → List A → Type 0} {old now : Reader} {s s' : S} (part : Grammar A) (n i : ℕ) (before : List A) (y : Y) → n ≤ i → R y before → Leads took failures g (repeated part before (n - i)) old now s s' → Meets (span took failures s s') R g old now (Ok y)
   unfolding repeated
   repeated-over {g} {R = R} {old} {now} {s} {s'} part n i before y h r l =
       let k : n - i ≡ 0 = omega arith in

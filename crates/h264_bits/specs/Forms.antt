@@ -3,7 +3,7 @@ use Rattle.std.specs.Prelude.{ℕ, zero, suc, ℤ, pos, negsuc, nat_le, int_le, 
 use Rattle.h264_base.specs.declared.element_name.ElementName.{ElementName}
 use Rattle.h264_base.specs.declared.rule.Rule.TheVariants.{Range, Tool}
 use Rattle.h264_base.specs.Word.{Fixed, Unsigned, Signed}
-use Rattle.h264_base.specs.Grammar.{Grammar, Found, Done, ◌>>=◌, element, check}
+use Rattle.h264_base.specs.Grammar.{Grammar, Done, ◌>>=◌, element, check}
 
 -- a value that is not negative
 abbrev pub natural : ℤ → ℕ

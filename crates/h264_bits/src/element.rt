@@ -2,7 +2,7 @@
 #![tactic(auto)]
 
 ghost use Rattle.std.specs.Prelude.{◌≡◌, ℕ, ℤ, pos, neg_ℤ, ◌+◌, ◌-◌, ◌<◌, ◌≤◌, ◌≤ℤ◌, ◌^◌, length, OnOk, IfOk, IfSome, Option, Some, Ok, true, false};
-ghost use Rattle.h264_base.specs.Call.{HasRoom, IsQuiet};
+ghost use Rattle.h264_base.specs.Call.{HasRoom, IsQuiet, span};
 ghost use Rattle.h264_base.specs.Word.{Code, Fixed, Unsigned, Signed, Words, Reads};
 ghost use Rattle.h264_base.specs.Grammar.{Done, read_word as word_form, element, residual_element, more, align, raw_bytes, trailing};
 ghost use Rattle.h264_base.specs.Meets.{Meets, Is, Checks};
@@ -82,7 +82,7 @@ fn read_fixed<S: Elements>(
 ) -> Result<Found<u32>, Stop>
     requires width { n ≤ 32 }
     requires room { HasRoom S.failures sink.old }
-    ensures meets { Meets S.took S.failures (Is seen_unsigned) (word_form rule name (Fixed n)) bits.old bits.new sink.old sink.new result }
+    ensures meets { Meets (span S.took S.failures sink.old sink.new) (Is seen_unsigned) (word_form rule name (Fixed n)) bits.old bits.new result }
     ensures small { IfOk result (λ f. f.value < 2 ^ n) }
     ensures quiet { OnOk result (IsQuiet S.failures sink.old sink.new) }
 {
@@ -106,7 +106,7 @@ pub fn read_bits<S: Elements>(
 ) -> Result<Found<u32>, Stop>
     requires width { n ≤ 32 }
     requires room { HasRoom S.failures sink.old }
-    ensures meets { Meets S.took S.failures (Is seen_unsigned) (element name (Fixed n)) bits.old bits.new sink.old sink.new result }
+    ensures meets { Meets (span S.took S.failures sink.old sink.new) (Is seen_unsigned) (element name (Fixed n)) bits.old bits.new result }
     ensures small { IfOk result (λ f. f.value < 2 ^ n) }
     ensures quiet { OnOk result (IsQuiet S.failures sink.old sink.new) }
 {
@@ -123,7 +123,7 @@ pub fn read_residual_bits<S: Elements>(
 ) -> Result<Found<u32>, Stop>
     requires width { n ≤ 32 }
     requires room { HasRoom S.failures sink.old }
-    ensures meets { Meets S.took S.failures (Is seen_unsigned) (residual_element name (Fixed n)) bits.old bits.new sink.old sink.new result }
+    ensures meets { Meets (span S.took S.failures sink.old sink.new) (Is seen_unsigned) (residual_element name (Fixed n)) bits.old bits.new result }
     ensures small { IfOk result (λ f. f.value < 2 ^ n) }
     ensures quiet { OnOk result (IsQuiet S.failures sink.old sink.new) }
 {
@@ -139,7 +139,7 @@ pub fn read_u<const N: u32, S: Elements>(
 ) -> Result<Found<u32>, Stop>
     requires width { N ≤ 32 }
     requires room { HasRoom S.failures sink.old }
-    ensures meets { Meets S.took S.failures (Is seen_unsigned) (element name (Fixed N)) bits.old bits.new sink.old sink.new result }
+    ensures meets { Meets (span S.took S.failures sink.old sink.new) (Is seen_unsigned) (element name (Fixed N)) bits.old bits.new result }
     ensures small { IfOk result (λ f. f.value < 2 ^ N) }
     ensures quiet { OnOk result (IsQuiet S.failures sink.old sink.new) }
 {
@@ -154,7 +154,7 @@ pub fn read_flag<S: Elements>(
     sink: &mut S,
 ) -> Result<Found<bool>, Stop>
     requires room { HasRoom S.failures sink.old }
-    ensures meets { Meets S.took S.failures (Is seen_flag) (element name (Fixed 1)) bits.old bits.new sink.old sink.new result }
+    ensures meets { Meets (span S.took S.failures sink.old sink.new) (Is seen_flag) (element name (Fixed 1)) bits.old bits.new result }
     ensures quiet { OnOk result (IsQuiet S.failures sink.old sink.new) }
 {
     let bit = bits.stream_bit();
@@ -181,7 +181,7 @@ pub fn read_ue<S: Elements>(
     sink: &mut S,
 ) -> Result<Found<u32>, Stop>
     requires room { HasRoom S.failures sink.old }
-    ensures meets { Meets S.took S.failures (Is seen_unsigned) (element name Unsigned) bits.old bits.new sink.old sink.new result }
+    ensures meets { Meets (span S.took S.failures sink.old sink.new) (Is seen_unsigned) (element name Unsigned) bits.old bits.new result }
     ensures small { IfOk result (λ f. f.value < 2 ^ 32 - 1) }
     ensures quiet { OnOk result (IsQuiet S.failures sink.old sink.new) }
 {
@@ -206,7 +206,7 @@ pub fn read_se<S: Elements>(
     sink: &mut S,
 ) -> Result<Found<i32>, Stop>
     requires room { HasRoom S.failures sink.old }
-    ensures meets { Meets S.took S.failures (Is seen_signed) (element name Signed) bits.old bits.new sink.old sink.new result }
+    ensures meets { Meets (span S.took S.failures sink.old sink.new) (Is seen_signed) (element name Signed) bits.old bits.new result }
     ensures low { IfOk result (λ f. neg_ℤ (pos (2 ^ 31 - 1)) ≤ℤ f.value) }
     ensures high { IfOk result (λ f. f.value ≤ℤ pos (2 ^ 31 - 1)) }
     ensures quiet { OnOk result (IsQuiet S.failures sink.old sink.new) }
@@ -234,7 +234,7 @@ pub fn read_te<S: Elements>(
 ) -> Result<Found<u32>, Stop>
     requires some { 0 < range }
     requires room { HasRoom S.failures sink.old }
-    ensures meets { Meets S.took S.failures (Is seen_unsigned) (element name (truncated range)) bits.old bits.new sink.old sink.new result }
+    ensures meets { Meets (span S.took S.failures sink.old sink.new) (Is seen_unsigned) (element name (truncated range)) bits.old bits.new result }
     ensures small { IfOk result (λ f. f.value < 2 ^ 32 - 1) }
     ensures quiet { OnOk result (IsQuiet S.failures sink.old sink.new) }
 {
@@ -262,7 +262,8 @@ pub fn read_word<S: Elements>(
     sink: &mut S,
 ) -> Result<Found<u8>, Stop>
     requires room { HasRoom S.failures sink.old }
-    ensures meets { Meets S.took S.failures (Is seen_unsigned) (word_form rule name (Words (code_table table))) bits.old bits.new sink.old sink.new result }
+    ensures meets { Meets (span S.took S.failures sink.old sink.new) (Is seen_unsigned) (word_form rule name (Words (code_table table)))
+        bits.old bits.new result }
     ensures small { IfOk result (λ f. f.value ≤ greatest_value table) }
     ensures quiet { OnOk result (IsQuiet S.failures sink.old sink.new) }
 {
@@ -288,8 +289,8 @@ pub fn read_entry<S: Elements>(
     requires word { word.entry ≡ option_map entry_of (front_of 16 (rows_of word.table) (peek_at 16 bits.old.body.bytes bits.old.at)) }
     requires known { IfSome word.entry (λ e. e.value ≤ greatest_value word.table) }
     requires room { HasRoom S.failures sink.old }
-    ensures meets { Meets S.took S.failures (Is seen_unsigned)
-        (word_form rule name (Words (code_table word.table))) bits.old bits.new sink.old sink.new result }
+    ensures meets { Meets (span S.took S.failures sink.old sink.new) (Is seen_unsigned) (word_form rule name (Words (code_table word.table)))
+        bits.old bits.new result }
     ensures small { IfOk result (λ f. f.value ≤ greatest_value word.table) }
     ensures quiet { OnOk result (IsQuiet S.failures sink.old sink.new) }
 {
@@ -319,9 +320,9 @@ pub fn read_entry_if<S: Elements>(
     requires known { coded ≡ true → IfSome word.entry (λ e. e.value ≤ greatest_value word.table) }
     requires nothing { coded ≡ false → word.entry ≡ Some (record { length = 0; value = 0 }) }
     requires room { HasRoom S.failures sink.old }
-    ensures meets { coded ≡ true → Meets S.took S.failures (Is seen_unsigned)
-        (word_form rule name (Words (code_table word.table))) bits.old bits.new sink.old sink.new result }
-    ensures nothing { coded ≡ false → Meets S.took S.failures (Is (λ f. f.value)) (Done 0) bits.old bits.new sink.old sink.new result }
+    ensures meets { coded ≡ true → Meets (span S.took S.failures sink.old sink.new) (Is seen_unsigned) (word_form rule name (Words (code_table word.table)))
+        bits.old bits.new result }
+    ensures nothing { coded ≡ false → Meets (span S.took S.failures sink.old sink.new) (Is (λ f. f.value)) (Done 0) bits.old bits.new result }
     ensures small { coded ≡ true → IfOk result (λ f. f.value ≤ greatest_value word.table) }
     ensures zero { coded ≡ false → IfOk result (λ f. f.value ≡ 0) }
     ensures quiet { OnOk result (IsQuiet S.failures sink.old sink.new) }
@@ -352,8 +353,8 @@ pub fn tell_ahead<S: Elements>(
     requires together { AreTogether bits.now.body bits.now.at (before + length) }
     requires room { HasRoom S.failures sink.old }
     ensures meets { (rule : Rule) (code : Code) → Reads code bits.now.body.bytes (bits.now.at + before) (pos value) (bits.now.at + before + length) →
-        Meets S.took S.failures (Is seen_unsigned) (word_form rule name code) (record { body = bits.now.body; at = bits.now.at + before })
-        (record { body = bits.now.body; at = bits.now.at + before + length }) sink.old sink.new result }
+        Meets (span S.took S.failures sink.old sink.new) (Is seen_unsigned) (word_form rule name code)
+        (record { body = bits.now.body; at = bits.now.at + before }) (record { body = bits.now.body; at = bits.now.at + before + length }) result }
     ensures value { IfOk result (λ f. f.value ≡ value) }
     ensures quiet { OnOk result (IsQuiet S.failures sink.old sink.new) }
 {
@@ -376,8 +377,8 @@ pub fn read_held_entry<S: Elements>(
     requires word { Some entry ≡ option_map entry_of (front_of 16 (rows_of table) (peek_at 16 bits.old.body.bytes bits.old.at)) }
     requires together { AreTogether bits.old.body bits.old.at 16 }
     requires room { HasRoom S.failures sink.old }
-    ensures meets { (rule : Rule) → Meets S.took S.failures (Is seen_unsigned)
-        (word_form rule name (Words (code_table table))) bits.old bits.new sink.old sink.new result }
+    ensures meets { (rule : Rule) → Meets (span S.took S.failures sink.old sink.new) (Is seen_unsigned) (word_form rule name (Words (code_table table)))
+        bits.old bits.new result }
     ensures value { IfOk result (λ f. f.value ≡ entry.value) }
     ensures quiet { OnOk result (IsQuiet S.failures sink.old sink.new) }
 {
@@ -395,7 +396,7 @@ pub fn read_bytes<'a, S: Elements>(
     sink: &S,
 ) -> Result<&'a [u8], Stop>
     requires { n ≤ 2 ^ 28 }
-    ensures meets { Meets S.took S.failures (Is (λ s. s.now)) (raw_bytes n) bits.old bits.new sink.now sink.now result }
+    ensures meets { Meets (span S.took S.failures sink.now sink.now) (Is (λ s. s.now)) (raw_bytes n) bits.old bits.new result }
     ensures count { IfOk result (λ s. length s.now ≡ n) }
 {
     match bits.bytes(n) {
@@ -410,7 +411,7 @@ pub fn read_bytes<'a, S: Elements>(
 /// Looks whether more data follow; nothing is read or told.
 #[inline]
 pub fn look<S: Elements>(bits: &Bits, sink: &S) -> Ahead
-    ensures { Meets S.took S.failures (Is seen_ahead) more bits.now bits.now sink.now sink.now (Ok result) }
+    ensures { Meets (span S.took S.failures sink.now sink.now) (Is seen_ahead) more bits.now bits.now (Ok result) }
 {
     Ahead {
         bit: bits.stream_bit(),
@@ -420,7 +421,7 @@ pub fn look<S: Elements>(bits: &Bits, sink: &S) -> Ahead
 
 /// Reads the zero bits up to the next byte, which the sink is not told. A 1 among them is CodeWord at that bit.
 pub fn read_align<S: Elements>(bits: &mut Bits, sink: &S) -> Result<(), Stop>
-    ensures { Meets S.took S.failures (Is (λ x. x)) align bits.old bits.new sink.now sink.now result }
+    ensures { Meets (span S.took S.failures sink.now sink.now) (Is (λ x. x)) align bits.old bits.new result }
 {
     if let Some(bit) = bits.first_set() {
         return Err(Stop::No {
@@ -434,7 +435,7 @@ pub fn read_align<S: Elements>(bits: &mut Bits, sink: &S) -> Result<(), Stop>
 
 /// Reads the trailing bits, which end the RBSP and which the sink is not told. Where they do not stand there it is Trailing.
 pub fn read_trailing<S: Elements>(bits: &mut Bits, sink: &S) -> Result<(), Stop>
-    ensures { Meets S.took S.failures (Is (λ x. x)) trailing bits.old bits.new sink.now sink.now result }
+    ensures { Meets (span S.took S.failures sink.now sink.now) (Is (λ x. x)) trailing bits.old bits.new result }
 {
     let bit = bits.stream_bit();
     match bits.trailing() {

@@ -4,7 +4,7 @@
 #![tactic(auto)]
 
 ghost use Rattle.std.specs.Prelude.{◌≡◌, ℕ, ◌-◌, ◌<◌, ◌≤◌, ◌≤ℤ◌, ◌^◌, [], IfOk};
-ghost use Rattle.h264_base.specs.Call.{HasRoom};
+ghost use Rattle.h264_base.specs.Call.{HasRoom, span};
 ghost use Rattle.h264_base.specs.Meets.{Meets, Is};
 ghost use Rattle.h264_bits.specs.Forms.{bits as bits_form, unsigned, flag, unsigned_to, signed, signed_within, bits_must_be, unsigned_must_be_0, each};
 
@@ -19,7 +19,7 @@ pub fn u_value<const N: u32, S: Elements>(
 ) -> Result<u32, Stop>
     requires width { N ≤ 32 }
     requires room { HasRoom S.failures sink.old }
-    ensures meets { Meets S.took S.failures (Is (λ x. x)) (bits_form name N) bits.old bits.new sink.old sink.new result }
+    ensures meets { Meets (span S.took S.failures sink.old sink.new) (Is (λ x. x)) (bits_form name N) bits.old bits.new result }
     ensures small { IfOk result (λ v. v < 2 ^ N) }
 {
     let number = read_u::<N, S>(bits, name, sink)?;
@@ -34,7 +34,7 @@ pub fn u_values<const N: u32, const K: usize, S: Elements>(
 ) -> Result<[u32; K], Stop>
     requires width { N ≤ 32 }
     requires room { HasRoom S.failures sink.old }
-    ensures { Meets S.took S.failures (Is (λ x. x)) (each (λ name. bits_form name N) [] names.entry) bits.old bits.new sink.old sink.new result }
+    ensures { Meets (span S.took S.failures sink.old sink.new) (Is (λ x. x)) (each (λ name. bits_form name N) [] names.entry) bits.old bits.new result }
 {
     let mut values = [0; K];
     for i in 0..K {
@@ -51,7 +51,7 @@ pub fn flag_value<S: Elements>(
     sink: &mut S,
 ) -> Result<bool, Stop>
     requires { HasRoom S.failures sink.old }
-    ensures { Meets S.took S.failures (Is (λ x. x)) (flag name) bits.old bits.new sink.old sink.new result }
+    ensures { Meets (span S.took S.failures sink.old sink.new) (Is (λ x. x)) (flag name) bits.old bits.new result }
 {
     let found = read_u::<1, S>(bits, name, sink)?;
     Ok(found.value == 1)
@@ -60,7 +60,7 @@ pub fn flag_value<S: Elements>(
 /// Reads ue(v): its value.
 pub fn ue_value<S: Elements>(bits: &mut Bits, name: ElementName, sink: &mut S) -> Result<u32, Stop>
     requires { HasRoom S.failures sink.old }
-    ensures { Meets S.took S.failures (Is (λ x. x)) (unsigned name) bits.old bits.new sink.old sink.new result }
+    ensures { Meets (span S.took S.failures sink.old sink.new) (Is (λ x. x)) (unsigned name) bits.old bits.new result }
 {
     let code_num = read_ue(bits, name, sink)?;
     Ok(code_num.value)
@@ -73,7 +73,7 @@ pub fn ue_values<const K: usize, S: Elements>(
     sink: &mut S,
 ) -> Result<[u32; K], Stop>
     requires { HasRoom S.failures sink.old }
-    ensures { Meets S.took S.failures (Is (λ x. x)) (each unsigned [] names.entry) bits.old bits.new sink.old sink.new result }
+    ensures { Meets (span S.took S.failures sink.old sink.new) (Is (λ x. x)) (each unsigned [] names.entry) bits.old bits.new result }
 {
     let mut values = [0; K];
     for i in 0..K {
@@ -91,7 +91,7 @@ pub fn ue_up_to<S: Elements>(
     sink: &mut S,
 ) -> Result<u32, Stop>
     requires { HasRoom S.failures sink.old }
-    ensures meets { Meets S.took S.failures (Is (λ x. x)) (unsigned_to name max) bits.old bits.new sink.old sink.new result }
+    ensures meets { Meets (span S.took S.failures sink.old sink.new) (Is (λ x. x)) (unsigned_to name max) bits.old bits.new result }
     ensures within { IfOk result (λ v. v ≤ max) }
 {
     let code = read_ue(bits, name, sink)?;
@@ -102,7 +102,7 @@ pub fn ue_up_to<S: Elements>(
 /// Reads se(v): its value.
 pub fn se_value<S: Elements>(bits: &mut Bits, name: ElementName, sink: &mut S) -> Result<i32, Stop>
     requires { HasRoom S.failures sink.old }
-    ensures { Meets S.took S.failures (Is (λ x. x)) (signed name) bits.old bits.new sink.old sink.new result }
+    ensures { Meets (span S.took S.failures sink.old sink.new) (Is (λ x. x)) (signed name) bits.old bits.new result }
 {
     let signed = read_se(bits, name, sink)?;
     Ok(signed.value)
@@ -117,7 +117,7 @@ pub fn se_within<S: Elements>(
     sink: &mut S,
 ) -> Result<i32, Stop>
     requires { HasRoom S.failures sink.old }
-    ensures meets { Meets S.took S.failures (Is (λ x. x)) (signed_within name min max) bits.old bits.new sink.old sink.new result }
+    ensures meets { Meets (span S.took S.failures sink.old sink.new) (Is (λ x. x)) (signed_within name min max) bits.old bits.new result }
     ensures low { IfOk result (λ v. min ≤ℤ v) }
     ensures high { IfOk result (λ v. v ≤ℤ max) }
 {
@@ -136,7 +136,7 @@ pub fn u_must_be<const N: u32, S: Elements>(
 ) -> Result<(), Stop>
     requires width { N ≤ 32 }
     requires room { HasRoom S.failures sink.old }
-    ensures { Meets S.took S.failures (Is (λ x. x)) (bits_must_be name N value) bits.old bits.new sink.old sink.new result }
+    ensures { Meets (span S.took S.failures sink.old sink.new) (Is (λ x. x)) (bits_must_be name N value) bits.old bits.new result }
 {
     let found = read_u::<N, S>(bits, name, sink)?;
     check(found.value == value, Rule::Tool, found.bit)
@@ -149,7 +149,7 @@ pub fn ue_must_be_0<S: Elements>(
     sink: &mut S,
 ) -> Result<(), Stop>
     requires { HasRoom S.failures sink.old }
-    ensures { Meets S.took S.failures (Is (λ x. x)) (unsigned_must_be_0 name) bits.old bits.new sink.old sink.new result }
+    ensures { Meets (span S.took S.failures sink.old sink.new) (Is (λ x. x)) (unsigned_must_be_0 name) bits.old bits.new result }
 {
     let found = read_ue(bits, name, sink)?;
     check(found.value == 0, Rule::Tool, found.bit)

@@ -5,7 +5,7 @@ use Rattle.h264_base.specs.declared.element_name.ElementName.{ElementName}
 use Rattle.h264_base.specs.declared.rule.Rule.{Rule}
 use Rattle.h264_base.specs.declared.stop.Stop.{Stop}
 use Rattle.h264_base.specs.Body.{Body}
-use Rattle.h264_base.specs.Call.{Call}
+use Rattle.h264_base.specs.Call.{Call, span}
 use Rattle.h264_base.specs.Word.{Code, Word, Words, StandsAt, bit_of, value_at, closes_at, ends_at, no_zero_at, padding}
 use Rattle.h264_base.specs.Grammar.{Grammar, Found, ahead, bytes_at, Done, Read, Check, Support, More, Align, Bytes, Close, read_word}
 use Rattle.h264_base.specs.Run.{Run, run, stopped, element_run, align_run}
@@ -70,7 +70,7 @@ run-within (Bytes n k) body i h = ends-test (end_of body) (nat_le (i + 8 * n) (8
 run-within (Close g) body i h = ends-test (end_of body) (closes_at body.bytes i) _ _ (λ t. run-within g body (8 * length body.bytes) (omega arith))
 
 -- a reader that stood within its bytes still does
-pub met-within : {X A S : Type 0} {took : S → List Call → Type 0} {failures : S → ℕ} {R : X → A → Type 0} {g : Grammar A} {old new : Reader} {s s' : S} {x : X} → old.at ≤ end_of old.body → Meets took failures R g old new s s' (Ok x) → new.at ≤ end_of new.body
+pub met-within : {X A S : Type 0} {took : S → List Call → Type 0} {failures : S → ℕ} {R : X → A → Type 0} {g : Grammar A} {old new : Reader} {s s' : S} {x : X} → old.at ≤ end_of old.body → Meets (span took failures s s') R g old new (Ok x) → new.at ≤ end_of new.body
 met-within {g = g} {old} {new} h m = subst (λ b. new.at ≤ end_of b) (sym m.same) (run-within g old.body old.at h m.meets.0 new.at m.meets.2)
 
 row-value-within : (table : Table) (bytes : List ℕ) (i : ℕ) (v : ℤ) (j : ℕ) → value_at (Words (code_table table)) bytes i ≡ Some (v, j) → j ≤ 8 * length bytes
@@ -89,6 +89,6 @@ word-answer rule name table body i None f v j e = absurd (cc)
 word-answer rule name table body i (Some x) f v j e = let s : x.1 ≡ j = ap (answer_end 0) e in let h = row-value-within table body.bytes i x.0 x.1 f in omega arith
 
 -- and so does one that has read a word of a table, wherever it stood
-pub word-met-within : {X S : Type 0} {took : S → List Call → Type 0} {failures : S → ℕ} {R : X → Found → Type 0} (rule : Rule) (name : ElementName) (table : Table) {old new : Reader} {s s' : S} {x : X} → Meets took failures R (read_word rule name (Words (code_table table))) old new s s' (Ok x) → new.at ≤ end_of new.body
+pub word-met-within : {X S : Type 0} {took : S → List Call → Type 0} {failures : S → ℕ} {R : X → Found → Type 0} (rule : Rule) (name : ElementName) (table : Table) {old new : Reader} {s s' : S} {x : X} → Meets (span took failures s s') R (read_word rule name (Words (code_table table))) old new (Ok x) → new.at ≤ end_of new.body
 unfolding run read_word
 word-met-within rule name table {old} {new} m = subst (λ b. new.at ≤ end_of b) (sym m.same) (word-answer rule name table old.body old.at (value_at (Words (code_table table)) old.body.bytes old.at) refl m.meets.0 new.at m.meets.2)

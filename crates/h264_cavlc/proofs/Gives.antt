@@ -4,7 +4,7 @@ use Rattle.h264_base.specs.declared.element_name.ElementName.{ElementName}
 use Rattle.h264_base.specs.declared.rule.Rule.{Rule}
 use Rattle.h264_base.specs.declared.stop.Stop.{Stop}
 use Rattle.h264_base.specs.Body.{Body}
-use Rattle.h264_base.specs.Call.{Call}
+use Rattle.h264_base.specs.Call.{Call, span}
 use Rattle.h264_base.specs.Word.{Code, value_at}
 use Rattle.h264_base.specs.Grammar.{Grammar, Found, Done, ◌>>=◌, read_word, check}
 use Rattle.h264_base.specs.Run.{Run, run, element_run}
@@ -54,5 +54,5 @@ gives-if P true g h x y = x
 gives-if P false g h x y = y
 
 -- what was read has the property
-pub gives-met : {X A S : Type 0} {took : S → List Call → Type 0} {failures : S → ℕ} {view : X → A} {g : Grammar A} {old new : Reader} {s s' : S} {x : X} (P : A → Type 0) → Gives g P → Meets took failures (Is view) g old new s s' (Ok x) → P (view x)
+pub gives-met : {X A S : Type 0} {took : S → List Call → Type 0} {failures : S → ℕ} {view : X → A} {g : Grammar A} {old new : Reader} {s s' : S} {x : X} (P : A → Type 0) → Gives g P → Meets (span took failures s s') (Is view) g old new (Ok x) → P (view x)
 gives-met {old = old} {new} P h m = subst P m.meets.1 (h.gives old.body old.at m.meets.0 new.at m.meets.2)

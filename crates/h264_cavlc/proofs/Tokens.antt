@@ -5,7 +5,7 @@ use Rattle.h264_base.specs.declared.element_name.ElementName.{ElementName}
 use Rattle.h264_base.specs.declared.rule.Rule.{Rule}
 use Rattle.h264_base.specs.declared.stop.Stop.{Stop}
 use Rattle.h264_base.specs.Body.{Body}
-use Rattle.h264_base.specs.Call.{Call}
+use Rattle.h264_base.specs.Call.{Call, span}
 use Rattle.h264_base.specs.Table.{Row, IsRow}
 use Rattle.h264_base.specs.Word.{Words, value_at}
 use Rattle.h264_base.specs.Grammar.{Found as Seen, Done, read_word}
@@ -52,7 +52,7 @@ found-at body name rule i v j None e = absurd (cc)
 found-at body name rule i v j (Some x) e = (x, refl, ap answer_value e)
 
 -- the row of a word that was read
-row-read : {S : Type 0} {took : S → List Call → Type 0} {failures : S → ℕ} (rule : Rule) (name : ElementName) (table : Table) {old new : Reader} {s s' : S} {f : Found ℕ} → Meets took failures (Is seen_unsigned) (read_word rule name (Words (code_table table))) old new s s' (Ok f) → (r : Row) × IsRow (rows_of table) r × (f.value ≡ r.value)
+row-read : {S : Type 0} {took : S → List Call → Type 0} {failures : S → ℕ} (rule : Rule) (name : ElementName) (table : Table) {old new : Reader} {s s' : S} {f : Found ℕ} → Meets (span took failures s s') (Is seen_unsigned) (read_word rule name (Words (code_table table))) old new (Ok f) → (r : Row) × IsRow (rows_of table) r × (f.value ≡ r.value)
 unfolding run read_word
 row-read rule name table {old} {new} {f = f} m =
     let x = found-at old.body name rule old.at m.meets.0 new.at (value_at (Words (code_table table)) old.body.bytes old.at) m.meets.2 in
@@ -62,7 +62,7 @@ row-read rule name table {old} {new} {f = f} m =
     let p : pos f.value ≡ pos r.0.value = sym v ∙ sym x.2 ∙ r.3 in
     (r.0, r.1, cc)
 
-pub ones-within : {S : Type 0} {took : S → List Call → Type 0} {failures : S → ℕ} (rule : Rule) (name : ElementName) (table : Table) {old new : Reader} {s s' : S} {f : Found ℕ} (size nc : ℕ) → table ≡ coeff_token_table size nc → Meets took failures (Is seen_unsigned) (read_word rule name (Words (code_table table))) old new s s' (Ok f) → f.value % 4 ≤ f.value / 4
+pub ones-within : {S : Type 0} {took : S → List Call → Type 0} {failures : S → ℕ} (rule : Rule) (name : ElementName) (table : Table) {old new : Reader} {s s' : S} {f : Found ℕ} (size nc : ℕ) → table ≡ coeff_token_table size nc → Meets (span took failures s s') (Is seen_unsigned) (read_word rule name (Words (code_table table))) old new (Ok f) → f.value % 4 ≤ f.value / 4
 ones-within rule name table {f = f} size nc e m =
     let r = row-read rule name table m in
     let t = ap (λ (t : Table). are_tokens (rows_of t)) e ∙ table-tokens size nc in

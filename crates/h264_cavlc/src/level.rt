@@ -2,7 +2,7 @@
 #![tactic(auto)]
 
 ghost use Rattle.std.specs.Prelude.{◌≡◌, ℕ, ℤ, pos, ◌+◌, ◌-◌, ◌*◌, ◌<◌, ◌≤◌, ◌^◌, List, length, IfOk, IfSome, take};
-ghost use Rattle.h264_base.specs.Call.{HasRoom};
+ghost use Rattle.h264_base.specs.Call.{HasRoom, span};
 ghost use Rattle.h264_base.specs.Meets.{Meets, Is};
 ghost use Rattle.h264_base.specs.Word.{Fixed, Words, Reads};
 ghost use Rattle.h264_bits.specs.Peek.{peek_at};
@@ -101,7 +101,7 @@ fn level_value(code: u32) -> i16
 fn read_level_suffix<S: Elements>(bits: &mut Bits, size: u32, sink: &mut S) -> Result<u32, Stop>
     requires few { size ≤ 12 }
     requires room { HasRoom S.failures sink.old }
-    ensures meets { Meets S.took S.failures (Is (λ x. x)) (syntax.level_suffix size) bits.old bits.new sink.old sink.new result }
+    ensures meets { Meets (span S.took S.failures sink.old sink.new) (Is (λ x. x)) (syntax.level_suffix size) bits.old bits.new result }
     ensures small { IfOk result (λ v. v < 4096) }
 {
     if size == 0 {
@@ -122,7 +122,7 @@ fn read_any_level<S: Elements>(
 ) -> Result<i16, Stop>
     requires length { suffix_length ≤ 6 }
     requires room { HasRoom S.failures sink.old }
-    ensures { Meets S.took S.failures (Is (λ x. x)) (syntax.level suffix_length never_one) bits.old bits.new sink.old sink.new result }
+    ensures { Meets (span S.took S.failures sink.old sink.new) (Is (λ x. x)) (syntax.level suffix_length never_one) bits.old bits.new result }
 {
     let found = read_word(
         bits,
@@ -192,8 +192,8 @@ fn tell_level_suffix<S: Elements>(
     requires small { suffix < 2 ^ size }
     requires room { HasRoom S.failures sink.old }
     ensures { Reads (Fixed size) bits.now.body.bytes (bits.now.at + before) (pos suffix) (bits.now.at + before + size) →
-        Meets S.took S.failures (Is (λ _. suffix)) (syntax.level_suffix size) (record { body = bits.now.body; at = bits.now.at + before })
-        (record { body = bits.now.body; at = bits.now.at + before + size }) sink.old sink.new result }
+        Meets (span S.took S.failures sink.old sink.new) (Is (λ _. suffix)) (syntax.level_suffix size)
+        (record { body = bits.now.body; at = bits.now.at + before }) (record { body = bits.now.body; at = bits.now.at + before + size }) result }
 {
     if size == 0 {
         return Ok(());
@@ -212,7 +212,7 @@ pub(crate) fn read_level<S: Elements>(
 ) -> Result<i16, Stop>
     requires length { suffix_length ≤ 6 }
     requires room { HasRoom S.failures sink.old }
-    ensures { Meets S.took S.failures (Is (λ x. x)) (syntax.level suffix_length never_one) bits.old bits.new sink.old sink.new result }
+    ensures { Meets (span S.took S.failures sink.old sink.new) (Is (λ x. x)) (syntax.level suffix_length never_one) bits.old bits.new result }
 {
     if let Some(front) = bits.held(SHORT) {
         if let Some(parts) = short_level(front, suffix_length) {
@@ -254,9 +254,8 @@ pub(crate) fn read_more_levels<S: Elements>(
     requires few { token.total ≤ 16 }
     requires within { token.ones ≤ token.total }
     requires room { HasRoom S.failures sink.old }
-    ensures { Meets S.took S.failures (λ _ l. l ≡ take token.total levels.new)
-        (syntax.more_levels token.ones (take token.ones levels.old) (syntax.first_suffix_length token) (token.total - token.ones)) bits.old bits.new
-        sink.old sink.new result }
+    ensures { Meets (span S.took S.failures sink.old sink.new) (λ _ l. l ≡ take token.total levels.new)
+        (syntax.more_levels token.ones (take token.ones levels.old) (syntax.first_suffix_length token) (token.total - token.ones)) bits.old bits.new result }
 {
     if token.ones == token.total {
         return Ok(());

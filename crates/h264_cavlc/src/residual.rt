@@ -2,7 +2,7 @@
 #![tactic(auto)]
 
 ghost use Rattle.std.specs.Prelude.{◌≡◌, ℕ, ℤ, ◌-◌, ◌*◌, ◌<◌, ◌≤◌, ◌^◌, [], ◌∷◌, IfOk, OnOk, length, take, replicate, pos};
-ghost use Rattle.h264_base.specs.Call.{HasRoom, IsQuiet};
+ghost use Rattle.h264_base.specs.Call.{HasRoom, IsQuiet, span};
 ghost use Rattle.h264_base.specs.Meets.{Meets, Is, Answers};
 ghost use Rattle.h264_cavlc.specs.Block.{nonzero_count, all_levels, coefficients as coefficients_form, residual_block};
 
@@ -33,7 +33,7 @@ fn read_levels<S: Elements>(
     requires within { token.ones ≤ token.total }
     requires ones { token.ones ≤ 3 }
     requires room { HasRoom S.failures sink.old }
-    ensures { Meets S.took S.failures (λ _ l. l ≡ take token.total levels.new) (all_levels token) bits.old bits.new sink.old sink.new result }
+    ensures { Meets (span S.took S.failures sink.old sink.new) (λ _ l. l ≡ take token.total levels.new) (all_levels token) bits.old bits.new result }
 {
     read_trailing_ones(bits, usize::from(token.ones), levels, sink)?;
     read_more_levels(bits, token, levels, sink)?;
@@ -46,7 +46,7 @@ fn read_only_level<S: Elements>(bits: &mut Bits, token: Token, sink: &mut S) -> 
     requires one { token.total ≡ 1 }
     requires within { token.ones ≤ token.total }
     requires room { HasRoom S.failures sink.old }
-    ensures { Meets S.took S.failures (λ x l. l ≡ x ∷ []) (all_levels token) bits.old bits.new sink.old sink.new result }
+    ensures { Meets (span S.took S.failures sink.old sink.new) (λ x l. l ≡ x ∷ []) (all_levels token) bits.old bits.new result }
 {
     if token.ones == 1 {
         read_trailing_one(bits, sink)
@@ -68,8 +68,8 @@ fn read_one<const N: usize, S: Elements>(
     requires few { N ≤ 16 }
     requires within { token.ones ≤ token.total }
     requires room { HasRoom S.failures sink.old }
-    ensures meets { Meets S.took S.failures (Is (λ _. record { by_place = by_place.new; total = token.total }))
-        (coefficients_form N token) bits.old bits.new sink.old sink.new result }
+    ensures meets { Meets (span S.took S.failures sink.old sink.new) (Is (λ _. record { by_place = by_place.new; total = token.total }))
+        (coefficients_form N token) bits.old bits.new result }
     ensures nonzero { OnOk result (nonzero_count by_place.new ≡ token.total) }
     ensures inside { bits.old.at ≤ 8 * length bits.old.body.bytes → OnOk result (bits.new.at ≤ 8 * length bits.new.body.bytes) }
     ensures quiet { OnOk result (IsQuiet S.failures sink.old sink.new) }
@@ -96,8 +96,8 @@ fn read_several<const N: usize, S: Elements>(
     requires within { token.ones ≤ token.total }
     requires ones { token.ones ≤ 3 }
     requires room { HasRoom S.failures sink.old }
-    ensures meets { Meets S.took S.failures (Is (λ _. record { by_place = by_place.new; total = token.total }))
-        (coefficients_form N token) bits.old bits.new sink.old sink.new result }
+    ensures meets { Meets (span S.took S.failures sink.old sink.new) (Is (λ _. record { by_place = by_place.new; total = token.total }))
+        (coefficients_form N token) bits.old bits.new result }
     ensures nonzero { OnOk result (nonzero_count by_place.new ≡ token.total) }
     ensures inside { bits.old.at ≤ 8 * length bits.old.body.bytes → OnOk result (bits.new.at ≤ 8 * length bits.new.body.bytes) }
     ensures quiet { OnOk result (IsQuiet S.failures sink.old sink.new) }
@@ -123,8 +123,8 @@ fn read_coefficients<const N: usize, S: Elements>(
     requires within { token.ones ≤ token.total }
     requires ones { token.ones ≤ 3 }
     requires room { HasRoom S.failures sink.old }
-    ensures meets { Meets S.took S.failures (Is (λ _. record { by_place = by_place.new; total = token.total }))
-        (coefficients_form N token) bits.old bits.new sink.old sink.new result }
+    ensures meets { Meets (span S.took S.failures sink.old sink.new) (Is (λ _. record { by_place = by_place.new; total = token.total }))
+        (coefficients_form N token) bits.old bits.new result }
     ensures nonzero { OnOk result (nonzero_count by_place.new ≡ token.total) }
     ensures inside { bits.old.at ≤ 8 * length bits.old.body.bytes → OnOk result (bits.new.at ≤ 8 * length bits.new.body.bytes) }
     ensures quiet { OnOk result (IsQuiet S.failures sink.old sink.new) }
@@ -147,8 +147,8 @@ fn read_block<const N: usize, S: Elements>(
 ) -> Result<u8, Stop>
     requires size { N ≤ 16 }
     requires room { HasRoom S.failures sink.old }
-    ensures meets { Meets S.took S.failures (Is (λ total. record { by_place = by_place.new; total = total }))
-        (residual_block N nc) bits.old bits.new sink.old sink.new result }
+    ensures meets { Meets (span S.took S.failures sink.old sink.new) (Is (λ total. record { by_place = by_place.new; total = total })) (residual_block N nc)
+        bits.old bits.new result }
     ensures total { IfOk result (λ total. total ≤ N) }
     ensures nonzero { IfOk result (λ total. nonzero_count by_place.new ≡ total) }
     ensures none { IfOk result (λ total. total ≡ 0 → by_place.new ≡ replicate N (pos 0)) }
@@ -181,10 +181,10 @@ pub fn block_into<const N: usize, S: Elements>(
 ) -> Result<u8, Stop>
     requires size { N ≤ 16 }
     requires room { HasRoom S.failures sink.old }
-    ensures answers { Answers S.took S.failures (Is (λ total. record { by_place = by_place.new; total = total }))
-        (residual_block N nc) bits.old bits.new sink.old sink.new result }
-    ensures meets { Meets S.took S.failures (Is (λ total. record { by_place = by_place.new; total = total }))
-        (residual_block N nc) bits.old bits.new sink.old sink.new result }
+    ensures answers { Answers (span S.took S.failures sink.old sink.new) (Is (λ total. record { by_place = by_place.new; total = total }))
+        (residual_block N nc) bits.old bits.new result }
+    ensures meets { Meets (span S.took S.failures sink.old sink.new) (Is (λ total. record { by_place = by_place.new; total = total })) (residual_block N nc)
+        bits.old bits.new result }
     ensures total { IfOk result (λ total. total ≤ N) }
     ensures nonzero { IfOk result (λ total. nonzero_count by_place.new ≡ total) }
     ensures none { IfOk result (λ total. total ≡ 0 → by_place.new ≡ replicate N (pos 0)) }
@@ -202,10 +202,10 @@ pub fn block<const N: usize, S: Elements>(
 ) -> Result<Levels<N>, Stop>
     requires size { N ≤ 16 }
     requires room { HasRoom S.failures sink.old }
-    ensures answers { Answers S.took S.failures (Is (λ b. record { by_place = b.by_place; total = b.total }))
-        (residual_block N nc) bits.old bits.new sink.old sink.new result }
-    ensures meets { Meets S.took S.failures (Is (λ b. record { by_place = b.by_place; total = b.total }))
-        (residual_block N nc) bits.old bits.new sink.old sink.new result }
+    ensures answers { Answers (span S.took S.failures sink.old sink.new) (Is (λ b. record { by_place = b.by_place; total = b.total })) (residual_block N nc)
+        bits.old bits.new result }
+    ensures meets { Meets (span S.took S.failures sink.old sink.new) (Is (λ b. record { by_place = b.by_place; total = b.total })) (residual_block N nc)
+        bits.old bits.new result }
     ensures total { IfOk result (λ b. b.total ≤ N) }
     ensures nonzero { IfOk result (λ b. nonzero_count b.by_place ≡ b.total) }
     ensures none { IfOk result (λ b. b.total ≡ 0 → b.by_place ≡ replicate N (pos 0)) }

@@ -2,7 +2,7 @@
 #![tactic(auto)]
 
 ghost use Rattle.std.specs.Prelude.{◌≡◌, ℕ, ℤ, pos, ◌+◌, ◌-◌, ◌*◌, ◌/◌, ◌%◌, ◌<◌, ◌≤◌, ◌^◌, [], IfOk, OnOk, length, take, get_or};
-ghost use Rattle.h264_base.specs.Call.{HasRoom, IsQuiet};
+ghost use Rattle.h264_base.specs.Call.{HasRoom, IsQuiet, span};
 ghost use Rattle.h264_base.specs.Meets.{Meets, Is};
 ghost use Rattle.h264_base.specs.Word.{Fixed, Reads};
 ghost use Rattle.h264_bits.specs.Forms.{repeated};
@@ -34,7 +34,7 @@ fn read_any_token<S: Elements>(
     sink: &mut S,
 ) -> Result<Token, Stop>
     requires { HasRoom S.failures sink.old }
-    ensures meets { Meets S.took S.failures (Is (λ x. x)) (syntax.coeff_token size nc) bits.old bits.new sink.old sink.new result }
+    ensures meets { Meets (span S.took S.failures sink.old sink.new) (Is (λ x. x)) (syntax.coeff_token size nc) bits.old bits.new result }
     ensures fits { IfOk result (λ t. t.total ≤ size) }
     ensures few { IfOk result (λ t. t.ones ≤ 3) }
     ensures within { IfOk result (λ t. t.ones ≤ t.total) }
@@ -62,7 +62,7 @@ pub(crate) fn read_token<S: Elements>(
     sink: &mut S,
 ) -> Result<Token, Stop>
     requires { HasRoom S.failures sink.old }
-    ensures meets { Meets S.took S.failures (Is (λ x. x)) (syntax.coeff_token size nc) bits.old bits.new sink.old sink.new result }
+    ensures meets { Meets (span S.took S.failures sink.old sink.new) (Is (λ x. x)) (syntax.coeff_token size nc) bits.old bits.new result }
     ensures fits { IfOk result (λ t. t.total ≤ size) }
     ensures few { IfOk result (λ t. t.ones ≤ 3) }
     ensures within { IfOk result (λ t. t.ones ≤ t.total) }
@@ -92,7 +92,7 @@ pub(crate) fn read_token<S: Elements>(
 #[inline(never)]
 fn read_any_one<S: Elements>(bits: &mut Bits, sink: &mut S) -> Result<i16, Stop>
     requires { HasRoom S.failures sink.old }
-    ensures { Meets S.took S.failures (Is (λ x. x)) syntax.trailing_one bits.old bits.new sink.old sink.new result }
+    ensures { Meets (span S.took S.failures sink.old sink.new) (Is (λ x. x)) syntax.trailing_one bits.old bits.new result }
 {
     let sign = read_residual_bits(bits, ElementName::TrailingOnesSignFlag, 1, sink)?;
     Ok(if sign.value == 0 { 1 } else { -1 })
@@ -109,7 +109,8 @@ fn read_each_one<S: Elements>(
 ) -> Result<(), Stop>
     requires few { ones ≤ 16 }
     requires room { HasRoom S.failures sink.old }
-    ensures { Meets S.took S.failures (λ _ l. l ≡ take ones levels.new) (repeated syntax.trailing_one [] ones) bits.old bits.new sink.old sink.new result }
+    ensures { Meets (span S.took S.failures sink.old sink.new) (λ _ l. l ≡ take ones levels.new) (repeated syntax.trailing_one [] ones)
+        bits.old bits.new result }
 {
     for k in 0..ones {
         let one = read_any_one(bits, sink)?;
@@ -155,8 +156,8 @@ fn tell_one<S: Elements>(bits: &Bits, k: u32, sign: u32, sink: &mut S) -> Result
     requires together { AreTogether bits.now.body bits.now.at (k + 1) }
     requires room { HasRoom S.failures sink.old }
     ensures meets { Reads (Fixed 1) bits.now.body.bytes (bits.now.at + k) (pos sign) (bits.now.at + k + 1) →
-        Meets S.took S.failures (Is (λ _. syntax.one_of sign)) syntax.trailing_one (record { body = bits.now.body; at = bits.now.at + k })
-        (record { body = bits.now.body; at = bits.now.at + (k + 1) }) sink.old sink.new result }
+        Meets (span S.took S.failures sink.old sink.new) (Is (λ _. syntax.one_of sign)) syntax.trailing_one
+        (record { body = bits.now.body; at = bits.now.at + k }) (record { body = bits.now.body; at = bits.now.at + (k + 1) }) result }
     ensures quiet { OnOk result (IsQuiet S.failures sink.old sink.new) }
 {
     tell_ahead(bits, k, 1, ElementName::TrailingOnesSignFlag, sign, sink)?;
@@ -167,7 +168,7 @@ fn tell_one<S: Elements>(bits: &Bits, k: u32, sign: u32, sink: &mut S) -> Result
 #[inline(always)]
 pub(crate) fn read_trailing_one<S: Elements>(bits: &mut Bits, sink: &mut S) -> Result<i16, Stop>
     requires { HasRoom S.failures sink.old }
-    ensures { Meets S.took S.failures (Is (λ x. x)) syntax.trailing_one bits.old bits.new sink.old sink.new result }
+    ensures { Meets (span S.took S.failures sink.old sink.new) (Is (λ x. x)) syntax.trailing_one bits.old bits.new result }
 {
     if let Some(front) = bits.held(1) {
         let sign = front as u32;
@@ -191,7 +192,8 @@ pub(crate) fn read_trailing_ones<S: Elements>(
 ) -> Result<(), Stop>
     requires few { ones ≤ 3 }
     requires room { HasRoom S.failures sink.old }
-    ensures { Meets S.took S.failures (λ _ l. l ≡ take ones levels.new) (repeated syntax.trailing_one [] ones) bits.old bits.new sink.old sink.new result }
+    ensures { Meets (span S.took S.failures sink.old sink.new) (λ _ l. l ≡ take ones levels.new) (repeated syntax.trailing_one [] ones)
+        bits.old bits.new result }
 {
     let Some(signs) = bits.held(MOST_ONES) else {
         let mut own = bits.again();

@@ -3,7 +3,7 @@
 
 ghost use Rattle.std.specs.Prelude.{◌≡◌, ℕ, ℤ, ◌+◌, ◌-◌, ◌<◌, ◌≤◌, ◌^◌, [], IfOk, Some, take};
 ghost use Rattle.std.specs.Option.{option_map};
-ghost use Rattle.h264_base.specs.Call.{HasRoom};
+ghost use Rattle.h264_base.specs.Call.{HasRoom, span};
 ghost use Rattle.h264_base.specs.Meets.{Meets, Is};
 ghost use Rattle.h264_bits.specs.Peek.{peek_at};
 ghost use Rattle.h264_bits.specs.Stretch.{AreTogether};
@@ -34,7 +34,7 @@ fn read_any_total_zeros<S: Elements>(
     requires fits { total ≤ size }
     requires few { size ≤ 16 }
     requires room { HasRoom S.failures sink.old }
-    ensures meets { Meets S.took S.failures (Is (λ x. x)) (syntax.total_zeros size total) bits.old bits.new sink.old sink.new result }
+    ensures meets { Meets (span S.took S.failures sink.old sink.new) (Is (λ x. x)) (syntax.total_zeros size total) bits.old bits.new result }
     ensures fits { IfOk result (λ z. total + z ≤ size) }
 {
     if usize::from(total) >= size {
@@ -66,7 +66,7 @@ pub(crate) fn read_total_zeros<S: Elements>(
     requires fits { total ≤ size }
     requires few { size ≤ 16 }
     requires room { HasRoom S.failures sink.old }
-    ensures meets { Meets S.took S.failures (Is (λ x. x)) (syntax.total_zeros size total) bits.old bits.new sink.old sink.new result }
+    ensures meets { Meets (span S.took S.failures sink.old sink.new) (Is (λ x. x)) (syntax.total_zeros size total) bits.old bits.new result }
     ensures fits { IfOk result (λ z. total + z ≤ size) }
 {
     if usize::from(total) >= size {
@@ -105,7 +105,7 @@ fn read_long_run_before<S: Elements>(
 ) -> Result<u8, Stop>
     requires many { 6 < zeros_left }
     requires room { HasRoom S.failures sink.old }
-    ensures meets { Meets S.took S.failures (Is (λ x. x)) (syntax.run_before zeros_left) bits.old bits.new sink.old sink.new result }
+    ensures meets { Meets (span S.took S.failures sink.old sink.new) (Is (λ x. x)) (syntax.run_before zeros_left) bits.old bits.new result }
     ensures within { IfOk result (λ r. r ≤ zeros_left) }
 {
     let found = read_word(
@@ -129,7 +129,7 @@ fn read_any_run_before<S: Elements>(
 ) -> Result<u8, Stop>
     requires few { zeros_left ≤ 15 }
     requires room { HasRoom S.failures sink.old }
-    ensures meets { Meets S.took S.failures (Is (λ x. x)) (syntax.run_before zeros_left) bits.old bits.new sink.old sink.new result }
+    ensures meets { Meets (span S.took S.failures sink.old sink.new) (Is (λ x. x)) (syntax.run_before zeros_left) bits.old bits.new result }
     ensures within { IfOk result (λ r. r ≤ zeros_left) }
 {
     let table = run_before_table(zeros_left);
@@ -169,8 +169,8 @@ fn tell_run_before<S: Elements>(
     requires short { word.length ≤ 16 }
     requires together { AreTogether bits.now.body bits.now.at 16 }
     requires room { HasRoom S.failures sink.old }
-    ensures { Meets S.took S.failures (Is (λ _. word.value)) (syntax.run_before zeros_left) bits.now
-        (record { body = bits.now.body; at = bits.now.at + word.length }) sink.old sink.new result }
+    ensures { Meets (span S.took S.failures sink.old sink.new) (Is (λ _. word.value)) (syntax.run_before zeros_left) bits.now
+        (record { body = bits.now.body; at = bits.now.at + word.length }) result }
 {
     if zeros_left > 0 {
         let length = u32::from(word.length);
@@ -185,7 +185,7 @@ fn tell_run_before<S: Elements>(
 fn read_run_before<S: Elements>(bits: &mut Bits, zeros_left: u8, sink: &mut S) -> Result<u8, Stop>
     requires few { zeros_left ≤ 15 }
     requires room { HasRoom S.failures sink.old }
-    ensures meets { Meets S.took S.failures (Is (λ x. x)) (syntax.run_before zeros_left) bits.old bits.new sink.old sink.new result }
+    ensures meets { Meets (span S.took S.failures sink.old sink.new) (Is (λ x. x)) (syntax.run_before zeros_left) bits.old bits.new result }
     ensures within { IfOk result (λ r. r ≤ zeros_left) }
 {
     if let Some(front) = bits.held(16) {
@@ -216,8 +216,8 @@ pub(crate) fn read_places<const N: usize, S: Elements>(
     requires few { N ≤ 16 }
     requires fits { total + zeros ≤ N }
     requires room { HasRoom S.failures sink.old }
-    ensures { Meets S.took S.failures (λ _ runs. by_place.new ≡ standing N (take total levels.now) zeros runs)
-        (syntax.runs_before [] zeros (total - 1)) bits.old bits.new sink.old sink.new result }
+    ensures { Meets (span S.took S.failures sink.old sink.new) (λ _ runs. by_place.new ≡ standing N (take total levels.now) zeros runs)
+        (syntax.runs_before [] zeros (total - 1)) bits.old bits.new result }
 {
     let none = [0i16; N];
     *by_place = none;

@@ -2,6 +2,7 @@
 use Rattle.std.proofs.Common.{◌≡◌, ℕ, zero, suc, ◌<◌, ◌≤◌, Bool, true, false, List, [], ◌∷◌, length, get_or, refl, sym, ap, subst, arith}
 use Rattle.std.proofs.lemmas.List.{get_or_default}
 use Rattle.h264_plane.specs.Samples.{Samples, at, ShowsSamples}
+use Rattle.h264_deblock.specs.Edge.{edge_at}
 use Rattle.h264_deblock.specs.CodedEdges.{filters}
 use Rattle.h264_deblock.specs.Filtering.{AreInside, edge_or, edges_done}
 use Rattle.h264_deblock.specs.Steps.{side_qp, inner_edge}
@@ -49,7 +50,7 @@ chroma-same old new m c r n own qp g f e o i held =
 
 -- an inner edge of no bS but 0
 pub still-edge : (v chroma : Bool) (p : Samples) (qp : ℕ) (f : SliceFilter) (words : List (List ℕ)) (n along across : ℕ) → words ≡ zeros ∷ zeros ∷ zeros ∷ [] → n < 3 → 4 ≤ across →
-    ShowsSamples p p (edge_or (inner_edge qp f (names (get_or words n []))) v chroma along across (at p))
+    ShowsSamples p p (edge_or (inner_edge qp f (names (get_or words n []))) v chroma (edge_at along across) (at p))
 still-edge v chroma p qp f words n along across e h before = go (filters f.deblocking true) refl
   where
     zero-at : (k : ℕ) → k < 3 → get_or words k [] ≡ zeros
@@ -58,6 +59,6 @@ still-edge v chroma p qp f words n along across e h before = go (filters f.deblo
     zero-at (suc (suc zero)) i = rw e refl
     zero-at (suc (suc (suc k))) i = absurd (omega arith)
 
-    go : (t : Bool) → filters f.deblocking true ≡ t → ShowsSamples p p (edge_or (inner_edge qp f (names (get_or words n []))) v chroma along across (at p))
+    go : (t : Bool) → filters f.deblocking true ≡ t → ShowsSamples p p (edge_or (inner_edge qp f (names (get_or words n []))) v chroma (edge_at along across) (at p))
     go true t = rw t (or_some _ _ _ _ _ _ _ (zero-edge v chroma p _ along across (get_or words n []) before (zero-at n h) refl))
     go false t = rw t (or_none _ _ _ _ _)

@@ -3,7 +3,7 @@ use Rattle.std.proofs.Common.{◌≡◌, ℕ, zero, suc, ◌<◌, ◌≤◌, Boo
 use Rattle.std.specs.Int.{from_le_bytes}
 use Rattle.std.proofs.lemmas.Nat.{le_bytes_4}
 use Rattle.h264_plane.specs.Samples.{Samples, at, ShowsSamples}
-use Rattle.h264_deblock.specs.Edge.{edge_after}
+use Rattle.h264_deblock.specs.Edge.{edge_after, edge_at}
 use Rattle.h264_deblock.specs.declared.edge_parameters.EdgeParameters.{EdgeParameters}
 use Rattle.h264_deblock.proofs.Beside.{edge_off}
 use Rattle.h264_deblock.specs.declared.plane_level.Border.{Border}
@@ -60,6 +60,6 @@ some-named None h = h
 some-named (Some b) h = refl
 
 -- an edge whose strengths are 0
-pub zero-edge : (v chroma : Bool) (p : Samples) (e : EdgeParameters) (along across : ℕ) (word : List ℕ) → 4 ≤ across → word ≡ zeros → names word ≡ e.strengths → ShowsSamples p p (edge_after v chroma e along across (at p))
+pub zero-edge : (v chroma : Bool) (p : Samples) (e : EdgeParameters) (along across : ℕ) (word : List ℕ) → 4 ≤ across → word ≡ zeros → names word ≡ e.strengths → ShowsSamples p p (edge_after v chroma e (edge_at along across) (at p))
 zero-edge v chroma p e along across word before z named-by =
     edge_off v chroma p e along across before (subst (λ s. AreAll Zero s) named-by (zeros-are word z))

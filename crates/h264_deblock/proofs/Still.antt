@@ -6,7 +6,7 @@ use Rattle.h264_plane.specs.declared.frame.Component.{Component}
 use Rattle.h264_plane.specs.declared.frame.Component.TheVariants.{Y, Cb, Cr}
 use Rattle.h264_near.specs.Coded.{CodedMacroblock}
 use Rattle.h264_near.specs.Raster.{last_in, last_left}
-use Rattle.h264_deblock.specs.Edge.{lines_of}
+use Rattle.h264_deblock.specs.Edge.{lines_of, edge_at}
 use Rattle.h264_deblock.specs.Filtering.{PlaneEdges, edges_after, edges_done, is_chroma}
 use Rattle.h264_deblock.specs.Limits.{AreAll}
 use Rattle.h264_deblock.specs.Steps.{NamedBorder as Border}
@@ -26,14 +26,14 @@ IsOff None = Unit {0}
 IsOff (Some e) = AreAll Zero e.strengths
 
 stay : (k : ℕ) (v chroma : Bool) (es : List (Option EdgeParameters)) (a b : ℕ) (p : Samples) (s : ℕ → ℕ → ℕ) → ((j : ℕ) → j < k → IsOff (get_or es j None)) →
-    (IsTrue (is_some (get_or es 0 None)) → 4 ≤ b) → a + lines_of chroma ≤ size_along v p → b + 4 * k ≤ size_across v p → ShowsSamples p p s → ShowsSamples p p (edges_after k v chroma es a b s)
+    (IsTrue (is_some (get_or es 0 None)) → 4 ≤ b) → a + lines_of chroma ≤ size_along v p → b + 4 * k ≤ size_across v p → ShowsSamples p p s → ShowsSamples p p (edges_after k v chroma es (edge_at a b) s)
 stay zero v chroma es a b p s off first i j held = after_none v chroma es a b p p s held
 stay (suc k) v chroma es a b p s off first i j held =
     let next : k + 1 ≡ suc k = omega arith in
     let before = stay k v chroma es a b p s (λ n h. off n (omega arith)) first i (omega (arith, j)) held in
-    subst (λ z. ShowsSamples p p (edges_after z v chroma es a b s)) next (go (get_or es k None) refl before)
+    subst (λ z. ShowsSamples p p (edges_after z v chroma es (edge_at a b) s)) next (go (get_or es k None) refl before)
   where
-    go : (o : Option EdgeParameters) → get_or es k None ≡ o → ShowsSamples p p (edges_after k v chroma es a b s) → ShowsSamples p p (edges_after (k + 1) v chroma es a b s)
+    go : (o : Option EdgeParameters) → get_or es k None ≡ o → ShowsSamples p p (edges_after k v chroma es (edge_at a b) s) → ShowsSamples p p (edges_after (k + 1) v chroma es (edge_at a b) s)
     go None e held = after_skip k v chroma es a b p p s e held
     go (Some q) e held =
         let four : 4 ≤ b + 4 * k = before_edge b k es q first e in
@@ -84,14 +84,14 @@ luma-stays : (es fs : List (Option EdgeParameters)) (c r : ℕ) (p : Samples) �
     16 * c + 16 ≤ p.width → 16 * r + 16 ≤ p.height → ShowsSamples p p (edges_done 16 false (record { vertical = es; horizontal = fs }) c r (at p))
 luma-stays es fs c r p oe of' ie if' i j =
     edges_all 16 false (record { vertical = es; horizontal = fs }) c r p p
-    (stay 4 false false fs (16 * c) (16 * r) p (edges_after 4 true false es (16 * r) (16 * c) (at p)) of' (λ h. let z = if' h in omega (arith, z)) i (omega (arith, j))
+    (stay 4 false false fs (16 * c) (16 * r) p (edges_after 4 true false es (edge_at (16 * r) (16 * c)) (at p)) of' (λ h. let z = if' h in omega (arith, z)) i (omega (arith, j))
     (stay 4 true false es (16 * r) (16 * c) p (at p) oe (λ h. let z = ie h in omega (arith, z)) j (omega (arith, i)) (holds_self p)))
 
 chroma-stays : (es fs : List (Option EdgeParameters)) (c r : ℕ) (p : Samples) → AreOff 2 es → AreOff 2 fs → (IsTrue (is_some (get_or es 0 None)) → 0 < c) → (IsTrue (is_some (get_or fs 0 None)) → 0 < r) →
     8 * c + 8 ≤ p.width → 8 * r + 8 ≤ p.height → ShowsSamples p p (edges_done 8 true (record { vertical = es; horizontal = fs }) c r (at p))
 chroma-stays es fs c r p oe of' ie if' i j =
     edges_all 8 true (record { vertical = es; horizontal = fs }) c r p p
-    (stay 2 false true fs (8 * c) (8 * r) p (edges_after 2 true true es (8 * r) (8 * c) (at p)) of' (λ h. let z = if' h in omega (arith, z)) i (omega (arith, j))
+    (stay 2 false true fs (8 * c) (8 * r) p (edges_after 2 true true es (edge_at (8 * r) (8 * c)) (at p)) of' (λ h. let z = if' h in omega (arith, z)) i (omega (arith, j))
     (stay 2 true true es (8 * r) (8 * c) p (at p) oe (λ h. let z = ie h in omega (arith, z)) j (omega (arith, i)) (holds_self p)))
 
 -- no edge is filtered

@@ -4,11 +4,11 @@
 use Rattle.std.specs.Prelude.{◌≡◌, ℕ, zero, suc, ◌+◌, ◌*◌, ◌/◌, ◌%◌, ◌<◌, Bool, true, false, IsTrue, List, get_or, Option, Some, None, is_some}
 use Rattle.h264_plane.specs.Samples.{Samples, at, IsSized}
 use Rattle.h264_plane.specs.Frames.{plane_of}
-use Rattle.h264_plane.specs.Places.{side, Before}
+use Rattle.h264_plane.specs.Places.{side, Before, Grid}
 use Rattle.h264_plane.specs.declared.frame.Component.{Component}
 use Rattle.h264_plane.specs.declared.frame.Component.TheVariants.{Y, Cb, Cr}
 use Rattle.h264_plane.specs.declared.frame.Frame.{Frame}
-use Rattle.h264_deblock.specs.Edge.{edge_after}
+use Rattle.h264_deblock.specs.Edge.{edge_after, EdgePlace, edge_at}
 use Rattle.h264_deblock.specs.declared.edge_parameters.EdgeParameters.{EdgeParameters}
 use Rattle.h264_deblock.specs.declared.filtering.LumaEdges.{LumaEdges}
 use Rattle.h264_deblock.specs.declared.filtering.ChromaEdges.{ChromaEdges}
@@ -44,27 +44,39 @@ is_chroma Cb = true
 is_chroma Cr = true
 
 -- samples after an edge that may be filtered
-unfoldable pub edge_or : Option EdgeParameters → Bool → Bool → ℕ → ℕ → (ℕ → ℕ → ℕ) → ℕ → ℕ → ℕ
-edge_or None vertical chroma along across s x y = s x y
-edge_or (Some e) vertical chroma along across s x y = edge_after vertical chroma e along across s x y
+unfoldable pub edge_or : Option EdgeParameters → Bool → Bool → EdgePlace → Grid → Grid
+edge_or None vertical chroma place s x y = s x y
+edge_or (Some e) vertical chroma place s x y = edge_after vertical chroma e place s x y
 
--- samples after the first k edges of a direction, of which the first begins at these places along and across it
-unfoldable pub edges_after : ℕ → Bool → Bool → List (Option EdgeParameters) → ℕ → ℕ → (ℕ → ℕ → ℕ) → ℕ → ℕ → ℕ
-edges_after zero vertical chroma es along across s x y = s x y
-edges_after (suc k) vertical chroma es along across s x y =
-    edge_or (get_or es k None) vertical chroma along (across + 4 * k) (edges_after k vertical chroma es along across s) x y
+-- samples after the first k edges of a direction, of which the first is at this place
+unfoldable pub edges_after : ℕ → Bool → Bool → List (Option EdgeParameters) → EdgePlace → Grid → Grid
+edges_after zero vertical chroma es place s x y = s x y
+edges_after (suc k) vertical chroma es place s x y =
+    edge_or (get_or es k None) vertical chroma (edge_at place.along (place.across + 4 * k)) (edges_after k vertical chroma es place s) x y
 
 -- and after all of the macroblock at column c and row r of macroblocks
-unfoldable pub edges_done : ℕ → Bool → PlaneEdges → ℕ → ℕ → (ℕ → ℕ → ℕ) → ℕ → ℕ → ℕ
+unfoldable pub edges_done : ℕ → Bool → PlaneEdges → ℕ → ℕ → Grid → Grid
 edges_done n chroma e c r s =
-    edges_after (n / 4) false chroma e.horizontal (n * c) (n * r) (edges_after (n / 4) true chroma e.vertical (n * r) (n * c) s)
+    edges_after (n / 4) false chroma e.horizontal (edge_at (n * c) (n * r)) (edges_after (n / 4) true chroma e.vertical (edge_at (n * r) (n * c)) s)
 
 -- ---- the picture
 
--- samples of a plane after the filter of the first m macroblocks of a picture, `across` to a row, by their edges
-unfoldable pub filtered_by : ℕ → ℕ → ℕ → Bool → (ℕ → PlaneEdges) → (ℕ → ℕ → ℕ) → ℕ → ℕ → ℕ
-filtered_by zero across n chroma edges s x y = s x y
-filtered_by (suc m) across n chroma edges s x y = edges_done n chroma (edges m) (m % across) (m / across) (filtered_by m across n chroma edges s) x y
+-- a plane of a picture before the filter: how many macroblocks there are to a row, of n columns and rows each, whether the plane is filtered as chroma,
+-- the edges of each macroblock by its address, and the samples
+pub record Unfiltered : Type 0 where
+  pub across : ℕ
+  pub n : ℕ
+  pub chroma : Bool
+  pub edges : ℕ → PlaneEdges
+  pub samples : Grid
+
+abbrev pub unfiltered : ℕ → ℕ → Bool → (ℕ → PlaneEdges) → Grid → Unfiltered
+unfiltered across n chroma edges samples = record { across = across; n = n; chroma = chroma; edges = edges; samples = samples }
+
+-- its samples after the filter of the first m macroblocks
+unfoldable pub filtered_by : ℕ → Unfiltered → Grid
+filtered_by zero u x y = u.samples x y
+filtered_by (suc m) u x y = edges_done u.n u.chroma (u.edges m) (m % u.across) (m / u.across) (filtered_by m u) x y
 
 -- no edge at the border of the picture is filtered
 abbrev pub IsInside : Bool → ℕ → ℕ → List (Option EdgeParameters) → Type 0
@@ -88,5 +100,5 @@ abbrev pub IsOf : ℕ → ℕ → Frame → Type 0
 IsOf across down f = (p : Component) → IsSized (plane_of p f) (side p * across) (side p * down)
 
 -- a plane holds what the filter makes of u with the macroblocks before the one at column c and row r, at the places of these
-pub record IsReached (w n : ℕ) (chroma : Bool) (edges : ℕ → PlaneEdges) (u : ℕ → ℕ → ℕ) (c r : ℕ) (p : Samples) : Type 0 where
-  pub each : (x y : ℕ) → x < n * w → Before n c r x y → at p x y ≡ filtered_by (r * w + c) w n chroma edges u x y
+pub record IsReached (u : Unfiltered) (c r : ℕ) (p : Samples) : Type 0 where
+  pub each : (x y : ℕ) → x < u.n * u.across → Before u.n c r x y → at p x y ≡ filtered_by (r * u.across + c) u x y

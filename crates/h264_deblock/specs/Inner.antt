@@ -2,7 +2,7 @@
 use Rattle.std.specs.Prelude.{◌≡◌, ℕ, ◌+◌, ◌<◌, Bool, true, List, get_or, slice_index}
 use Rattle.h264_plane.specs.Samples.{Samples, look}
 use Rattle.h264_deblock.specs.Line.{filtered, Line, Limits}
-use Rattle.h264_deblock.specs.Edge.{taps, lines_after, HasSamplesBy}
+use Rattle.h264_deblock.specs.Edge.{taps, lines_after, HasSamplesBy, edge_at}
 use Rattle.h264_deblock.specs.Rows.{any_filter}
 use Rattle.h264_deblock.specs.declared.inner.Inner.{Inner}
 use Rattle.h264_deblock.specs.declared.inner.Nearest.{Nearest}
@@ -57,4 +57,4 @@ pub record AreBeside (r : Pairs) (f : ℕ → Line) : Type 0 where
 -- the samples are written: where they are those of filtered lines, so are the plane's
 pub record AreNearestWritten (vertical : Bool) (old new : Samples) (along across : ℕ) (r : Nearest) : Type 0 where
   pub lines : (k : ℕ → Limits) → AreNearest r (λ n. filtered true (k n) (taps (look vertical old (along + n)) across)) →
-      HasSamplesBy vertical old new (lines_after true k 8 along across (look vertical old))
+      HasSamplesBy vertical old new (lines_after true k 8 (edge_at along across) (look vertical old))

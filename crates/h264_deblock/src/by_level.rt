@@ -3,6 +3,7 @@
 
 ghost use Rattle.std.specs.Prelude.{◌≡◌, ◌+◌, ◌*◌, ◌<◌, ◌≤◌, true, false, IsTrue, is_some};
 ghost use Rattle.h264_plane.specs.Samples.{at, size_along, size_across, ShowsSamples};
+ghost use Rattle.h264_deblock.specs.Edge.{edge_at};
 ghost use Rattle.h264_deblock.specs.Filtering.{edge_or, edges_done};
 ghost use Rattle.h264_deblock.specs.CodedEdges.{filters};
 ghost use Rattle.h264_deblock.specs.Steps.{side_qp, border_edge, inner_edge};
@@ -40,7 +41,7 @@ fn luma_border<const VERTICAL: bool>(
     requires qp { own.now.qp ≡ side_qp false own.now.luma_qp own.now.filter.now.chroma_qp_index_offset }
     requires inner { IsLevelOf own.now.inner own.now.qp own.now.qp own.now.filter.now }
     ensures { ShowsSamples plane.old plane.new
-        (edge_or (border_edge false own.now.qp own.now.filter.now (named_border border.now)) VERTICAL false along across (at plane.old)) }
+        (edge_or (border_edge false own.now.qp own.now.filter.now (named_border border.now)) VERTICAL false (edge_at along across) (at plane.old)) }
 {
     let Some(border) = border else {
         return;
@@ -68,7 +69,7 @@ fn luma_inner<const VERTICAL: bool>(
     requires inner { IsLevelOf own.now.inner own.now.qp own.now.qp own.now.filter.now }
     requires filtered { filters own.now.filter.now.deblocking true ≡ true }
     ensures { ShowsSamples plane.old plane.new
-        (edge_or (inner_edge own.now.qp own.now.filter.now (names word.now)) VERTICAL false along across (at plane.old)) }
+        (edge_or (inner_edge own.now.qp own.now.filter.now (names word.now)) VERTICAL false (edge_at along across) (at plane.old)) }
 {
     luma_at_level::<VERTICAL>(plane, along, across, &own.inner, word);
 }
@@ -92,9 +93,9 @@ fn pair_border<const VERTICAL: bool>(
     requires qp { own.now.qp ≡ side_qp true own.now.luma_qp own.now.filter.now.chroma_qp_index_offset }
     requires inner { IsLevelOf own.now.inner own.now.qp own.now.qp own.now.filter.now }
     ensures cb { ShowsSamples cb.old cb.new
-        (edge_or (border_edge true own.now.qp own.now.filter.now (named_border border.now)) VERTICAL true along across (at cb.old)) }
+        (edge_or (border_edge true own.now.qp own.now.filter.now (named_border border.now)) VERTICAL true (edge_at along across) (at cb.old)) }
     ensures cr { ShowsSamples cr.old cr.new
-        (edge_or (border_edge true own.now.qp own.now.filter.now (named_border border.now)) VERTICAL true along across (at cr.old)) }
+        (edge_or (border_edge true own.now.qp own.now.filter.now (named_border border.now)) VERTICAL true (edge_at along across) (at cr.old)) }
 {
     let Some(border) = border else {
         return;
@@ -125,9 +126,9 @@ fn pair_inner<const VERTICAL: bool>(
     requires inner { IsLevelOf own.now.inner own.now.qp own.now.qp own.now.filter.now }
     requires filtered { filters own.now.filter.now.deblocking true ≡ true }
     ensures cb { ShowsSamples cb.old cb.new
-        (edge_or (inner_edge own.now.qp own.now.filter.now (names word.now)) VERTICAL true along across (at cb.old)) }
+        (edge_or (inner_edge own.now.qp own.now.filter.now (names word.now)) VERTICAL true (edge_at along across) (at cb.old)) }
     ensures cr { ShowsSamples cr.old cr.new
-        (edge_or (inner_edge own.now.qp own.now.filter.now (names word.now)) VERTICAL true along across (at cr.old)) }
+        (edge_or (inner_edge own.now.qp own.now.filter.now (names word.now)) VERTICAL true (edge_at along across) (at cr.old)) }
 {
     pair_at_level::<VERTICAL>(cb, cr, along, across, &own.inner, word);
 }

@@ -3,9 +3,9 @@ ghost use Rattle.h264_plane.specs.Samples.{Samples, at, ShowsSamples, size_along
 ghost use Rattle.h264_plane.specs.Frames.{plane_of};
 ghost use Rattle.h264_plane.specs.Places.{side, Agree};
 ghost use Rattle.h264_plane.specs.declared.frame.Component.{Component};
-ghost use Rattle.h264_deblock.specs.Edge.{lines_of};
+ghost use Rattle.h264_deblock.specs.Edge.{lines_of, edge_at};
 ghost use Rattle.h264_deblock.specs.Filtering.{edges_after, edges_done, luma_edges, chroma_edges as chroma_edges_of, edges_of, is_chroma, AreInside};
-ghost use Rattle.h264_deblock.specs.Filtering.{AreEdges, IsOf, PlaneEdges, filtered_by};
+ghost use Rattle.h264_deblock.specs.Filtering.{AreEdges, IsOf, PlaneEdges, filtered_by, unfiltered};
 
 use crate::edge_parameters::EdgeParameters;
 use crate::edges::{chroma_edges, edge};
@@ -62,7 +62,7 @@ fn direction<const VERTICAL: bool, const CHROMA: bool, const N: usize>(
     ensures width { plane.new.width ≡ plane.old.width }
     ensures height { plane.new.height ≡ plane.old.height }
     ensures held { (p : Samples) (s : ℕ → ℕ → ℕ) → ShowsSamples p plane.old s →
-        ShowsSamples p plane.new (edges_after N VERTICAL CHROMA edges.now along across s) }
+        ShowsSamples p plane.new (edges_after N VERTICAL CHROMA edges.now (edge_at along across) s) }
 {
     for k in 0..N {
         match &edges[k] {
@@ -127,9 +127,9 @@ pub fn macroblock(frame: &mut Frame, edges: &Edges, column: usize, row: usize)
     ensures step { (across down : ℕ) (all : Component → ℕ → PlaneEdges) (u : Component → ℕ → ℕ → ℕ) → column < across → row < down →
         IsOf across down frame.old → AreEdges across all edges.now column row →
         ((p : Component) → Agree (side p) across (column + 1) row (at (plane_of p frame.old))
-        (filtered_by (row * across + column) across (side p) (is_chroma p) (all p) (u p))) → (p : Component) →
+        (filtered_by (row * across + column) (unfiltered across (side p) (is_chroma p) (all p) (u p)))) → (p : Component) →
         Agree (side p) across (column + 1) row (at (plane_of p frame.new))
-        (filtered_by (row * across + (column + 1)) across (side p) (is_chroma p) (all p) (u p)) }
+        (filtered_by (row * across + (column + 1)) (unfiltered across (side p) (is_chroma p) (all p) (u p))) }
 {
     luma(&mut frame.y, &edges.y, column, row);
     let Some(others) = &edges.cr else {

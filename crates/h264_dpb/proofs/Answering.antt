@@ -2,7 +2,7 @@
 use Rattle.std.proofs.Common.{◌≡◌, ℕ, ◌+◌, ◌-◌, ◌<◌, ◌≤◌, Bool, true, false, Option, Result, Ok, Err, List, [], length, refl, ap, sym, ◌∙◌, subst, arith, OnOk, not, if◌then◌else◌}
 use Rattle.std.proofs.lemmas.List.{length-map}
 use Rattle.h264_base.specs.declared.stop.Stop.{Stop}
-use Rattle.h264_base.specs.Call.{Call}
+use Rattle.h264_base.specs.Call.{Call, span}
 use Rattle.h264_plane.specs.declared.frame.Frame.{Frame}
 use Rattle.h264_marking.specs.Frames.{References}
 use Rattle.h264_dpb.specs.declared.entry.Entry.{Entry}
@@ -32,11 +32,11 @@ of_turn t = record { written = t.written; entries = t.buffer.entries }
 -- ---- a step that follows a turn
 
 module _ {X S : Type 0} (took : S → List Call → Type 0) (failures : S → ℕ) (lent : ℕ → Option Frame) (step : Step Placed) (missing size : ℕ) (t : Turn) (f : Follows step missing size t) where
-  pub turn-written : (new : List (Entry Placed)) (s s' : S) (result : Result X Stop) (frames : ℕ → Frame) → Steps took failures lent step new s s' result → Each (IsAtPlace frames lent) step.written → Writes took failures (shown_calls frames t.written) s s' result
+  pub turn-written : (new : List (Entry Placed)) (s s' : S) (result : Result X Stop) (frames : ℕ → Frame) → Steps (span took failures s s') lent step new result → Each (IsAtPlace frames lent) step.written → Writes took failures (shown_calls frames t.written) s s' result
   turn-written new s s' result frames h each = written-is took failures lent step (of_turn t) f.is new s s' result frames h each
 
   -- what is kept after it
-  pub turn-kept : (new : Output) (s s' : S) (x : X) (old written joins waited : ℕ) → Steps took failures lent step new.buffer.entries s s' (Ok x) → new.buffer.missing ≡ missing → new.buffer.size ≡ size → old ≡ written → length step.written + waiting_in step.entries ≡ waited + joins → new.frames ≡ old + (waited + joins - waiting_in new.buffer.entries) → KeepsBuffer t.buffer (written + length t.written) new
+  pub turn-kept : (new : Output) (s s' : S) (x : X) (old written joins waited : ℕ) → Steps (span took failures s s') lent step new.buffer.entries (Ok x) → new.buffer.missing ≡ missing → new.buffer.size ≡ size → old ≡ written → length step.written + waiting_in step.entries ≡ waited + joins → new.frames ≡ old + (waited + joins - waiting_in new.buffer.entries) → KeepsBuffer t.buffer (written + length t.written) new
   turn-kept new s s' x old written joins waited h m z o counts frames = record {
     same = record { entries = entries-are took failures lent step (of_turn t) f.is new.buffer.entries s s' x h; missing = f.missing_is ∙ sym m; size = f.size_is ∙ sym z };
     count =
@@ -47,7 +47,7 @@ module _ {X S : Type 0} (took : S → List Call → Type 0) (failures : S → �
 
 -- the order of what it leaves
 module _ {X S : Type 0} (took : S → List Call → Type 0) (failures : S → ℕ) (lent : ℕ → Option Frame) (step : Step Placed) where
-  pub step-ordered : (new : Output) (s s' : S) (x : X) (old joins waited high next : ℕ) → Steps took failures lent step new.buffer.entries s s' (Ok x) → AreRising number_of 0 step.entries next → StaysWithin new.buffer → length step.written + waiting_in step.entries ≡ waited + joins → new.frames ≡ old + (waited + joins - waiting_in new.buffer.entries) → old + waited ≤ high → high + joins ≤ next → IsOrdered next new
+  pub step-ordered : (new : Output) (s s' : S) (x : X) (old joins waited high next : ℕ) → Steps (span took failures s s') lent step new.buffer.entries (Ok x) → AreRising number_of 0 step.entries next → StaysWithin new.buffer → length step.written + waiting_in step.entries ≡ waited + joins → new.frames ≡ old + (waited + joins - waiting_in new.buffer.entries) → old + waited ≤ high → high + joins ≤ next → IsOrdered next new
   step-ordered new s s' x old joins waited high next h rising within counts frames few up = record {
     rising = subst (λ (l : List (Entry Placed)). AreRising number_of 0 l next) (sym h.steps.0) rising;
     within = within;
@@ -56,7 +56,7 @@ module _ {X S : Type 0} (took : S → List Call → Type 0) (failures : S → �
         omega (arith, w, counts, frames, few, up);
   }
 
-  pub step-each : (P : Placed → Type 0) (new : List (Entry Placed)) (s s' : S) (x : X) → Steps took failures lent step new s s' (Ok x) → Each P step.entries → Each P new
+  pub step-each : (P : Placed → Type 0) (new : List (Entry Placed)) (s s' : S) (x : X) → Steps (span took failures s s') lent step new (Ok x) → Each P step.entries → Each P new
   step-each P new s s' x h each = subst (λ (l : List (Entry Placed)). Each P l) (sym h.steps.0) each
 
 -- ---- the buffer is emptied
@@ -115,9 +115,9 @@ module _ (p : Ended) (b : Buffered Shown) where
 
 -- ---- the frame of a missing number
 
-module _ {X S : Type 0} (took : S → List Call → Type 0) (failures : S → ℕ) (lent : ℕ → Option Frame) (pic : Picture) (old new : Output) (s s' : S) (result : Result X Stop) (is : pic.kind ≡ kinds.Missing) (steps : Steps took failures lent (stored_by pic.kind pic old.buffer) new.buffer.entries s s' result) where
-  missing-steps : Steps took failures lent (stored_by kinds.Missing pic old.buffer) new.buffer.entries s s' result
-  missing-steps = subst (λ (k : Kind). Steps took failures lent (stored_by k pic old.buffer) new.buffer.entries s s' result) is steps
+module _ {X S : Type 0} (took : S → List Call → Type 0) (failures : S → ℕ) (lent : ℕ → Option Frame) (pic : Picture) (old new : Output) (s s' : S) (result : Result X Stop) (is : pic.kind ≡ kinds.Missing) (steps : Steps (span took failures s s') lent (stored_by pic.kind pic old.buffer) new.buffer.entries result) where
+  missing-steps : Steps (span took failures s s') lent (stored_by kinds.Missing pic old.buffer) new.buffer.entries result
+  missing-steps = subst (λ (k : Kind). Steps (span took failures s s') lent (stored_by k pic old.buffer) new.buffer.entries result) is steps
 
   pub missed-writes : (refs : References) → pic.held.now ≡ names refs → (frames : ℕ → Frame) (b : Buffered Shown) (written : ℕ) → KeepsBuffer b written old → HasFrames frames lent old → Writes took failures (shown_calls frames (missing_turn refs b).written) s s' result
   missed-writes refs named frames b written k h = turn-written took failures lent (stored_by kinds.Missing pic old.buffer) (missing_in (names refs)) old.buffer.size (missing_turn refs b) (missing-follows b old.buffer refs pic k.same named) new.buffer.entries s s' result frames missing-steps (missing-each (IsAtPlace frames lent) pic old.buffer h.each).0
@@ -125,7 +125,7 @@ module _ {X S : Type 0} (took : S → List Call → Type 0) (failures : S → �
   pub missed-keeps : (refs : References) → pic.held.now ≡ names refs → OnOk result (new.buffer.missing ≡ missing_by pic.kind pic old.buffer) → new.buffer.size ≡ old.buffer.size → OnOk result (new.frames ≡ old.frames + (waiting_in old.buffer.entries + 0 - waiting_in new.buffer.entries)) → (b : Buffered Shown) (written : ℕ) → KeepsBuffer b written old → OnOk result (KeepsBuffer (missing_turn refs b).buffer (written + length (missing_turn refs b).written) new)
   missed-keeps refs named m z f b written k = by result missing-steps m f
     where
-      by : (result : Result X Stop) → Steps took failures lent (stored_by kinds.Missing pic old.buffer) new.buffer.entries s s' result → OnOk result (new.buffer.missing ≡ missing_by pic.kind pic old.buffer) → OnOk result (new.frames ≡ old.frames + (waiting_in old.buffer.entries + 0 - waiting_in new.buffer.entries)) → OnOk result (KeepsBuffer (missing_turn refs b).buffer (written + length (missing_turn refs b).written) new)
+      by : (result : Result X Stop) → Steps (span took failures s s') lent (stored_by kinds.Missing pic old.buffer) new.buffer.entries result → OnOk result (new.buffer.missing ≡ missing_by pic.kind pic old.buffer) → OnOk result (new.frames ≡ old.frames + (waiting_in old.buffer.entries + 0 - waiting_in new.buffer.entries)) → OnOk result (KeepsBuffer (missing_turn refs b).buffer (written + length (missing_turn refs b).written) new)
       by (Ok x) h m f =
           let counts = missing-counts pic old.buffer in
           let plus : length (stored_by kinds.Missing pic old.buffer).written + waiting_in (stored_by kinds.Missing pic old.buffer).entries ≡ waiting_in old.buffer.entries + 0 = omega (arith, counts) in
@@ -136,14 +136,14 @@ module _ {X S : Type 0} (took : S → List Call → Type 0) (failures : S → �
   pub missed-frames : (frames : ℕ → Frame) → HasFrames frames lent old → OnOk result (HasFrames frames lent new)
   missed-frames frames h = by result missing-steps
     where
-      by : (result : Result X Stop) → Steps took failures lent (stored_by kinds.Missing pic old.buffer) new.buffer.entries s s' result → OnOk result (HasFrames frames lent new)
+      by : (result : Result X Stop) → Steps (span took failures s s') lent (stored_by kinds.Missing pic old.buffer) new.buffer.entries result → OnOk result (HasFrames frames lent new)
       by (Ok x) t = record { each = step-each took failures lent (stored_by kinds.Missing pic old.buffer) (IsAtPlace frames lent) new.buffer.entries s s' x t (missing-each (IsAtPlace frames lent) pic old.buffer h.each).1 }
       by (Err e) t = tt
 
   pub missed-ordered : (StaysWithin old.buffer → OnOk result (StaysWithin new.buffer)) → OnOk result (new.frames ≡ old.frames + (waiting_in old.buffer.entries + 0 - waiting_in new.buffer.entries)) → (next : ℕ) → IsOrdered next old → OnOk result (IsOrdered next new)
   missed-ordered w f next o = by result missing-steps (w o.within) f
     where
-      by : (result : Result X Stop) → Steps took failures lent (stored_by kinds.Missing pic old.buffer) new.buffer.entries s s' result → OnOk result (StaysWithin new.buffer) → OnOk result (new.frames ≡ old.frames + (waiting_in old.buffer.entries + 0 - waiting_in new.buffer.entries)) → OnOk result (IsOrdered next new)
+      by : (result : Result X Stop) → Steps (span took failures s s') lent (stored_by kinds.Missing pic old.buffer) new.buffer.entries result → OnOk result (StaysWithin new.buffer) → OnOk result (new.frames ≡ old.frames + (waiting_in old.buffer.entries + 0 - waiting_in new.buffer.entries)) → OnOk result (IsOrdered next new)
       by (Ok x) h within f =
           let counts = missing-counts pic old.buffer in
           let plus : length (stored_by kinds.Missing pic old.buffer).written + waiting_in (stored_by kinds.Missing pic old.buffer).entries ≡ waiting_in old.buffer.entries + 0 = omega (arith, counts) in
@@ -183,7 +183,7 @@ store-room p place refs pic old s rising held few' = subst (λ (k : Kind). HasRo
         omega (arith, all, count, size, few')
     by false e = tt
 
-module _ {X S : Type 0} (took : S → List Call → Type 0) (failures : S → ℕ) (lent : ℕ → Option Frame) (p : Ended) (place : ℕ) (refs : References) (pic : Picture) (old new : Output) (s s' : S) (result : Result X Stop) (stored : IsStored p place refs pic) (steps : Steps took failures lent (stored_by pic.kind pic old.buffer) new.buffer.entries s s' result) where
+module _ {X S : Type 0} (took : S → List Call → Type 0) (failures : S → ℕ) (lent : ℕ → Option Frame) (p : Ended) (place : ℕ) (refs : References) (pic : Picture) (old new : Output) (s s' : S) (result : Result X Stop) (stored : IsStored p place refs pic) (steps : Steps (span took failures s s') lent (stored_by pic.kind pic old.buffer) new.buffer.entries result) where
   abbrev step : Step Placed
   step = stored_by pic.kind pic old.buffer
 
@@ -193,20 +193,20 @@ module _ {X S : Type 0} (took : S → List Call → Type 0) (failures : S → �
   pub store-keeps : OnOk result (new.buffer.missing ≡ missing_by pic.kind pic old.buffer) → new.buffer.size ≡ old.buffer.size → OnOk result (new.frames ≡ old.frames + (waiting_in old.buffer.entries + 1 - waiting_in new.buffer.entries)) → (b : Buffered Shown) (written : ℕ) → KeepsBuffer b written old → OnOk result (KeepsBuffer (store_turn p refs b).buffer (written + length (store_turn p refs b).written) new)
   store-keeps m z f b written k = by result steps m f
     where
-      by : (result : Result X Stop) → Steps took failures lent step new.buffer.entries s s' result → OnOk result (new.buffer.missing ≡ missing_by pic.kind pic old.buffer) → OnOk result (new.frames ≡ old.frames + (waiting_in old.buffer.entries + 1 - waiting_in new.buffer.entries)) → OnOk result (KeepsBuffer (store_turn p refs b).buffer (written + length (store_turn p refs b).written) new)
+      by : (result : Result X Stop) → Steps (span took failures s s') lent step new.buffer.entries result → OnOk result (new.buffer.missing ≡ missing_by pic.kind pic old.buffer) → OnOk result (new.frames ≡ old.frames + (waiting_in old.buffer.entries + 1 - waiting_in new.buffer.entries)) → OnOk result (KeepsBuffer (store_turn p refs b).buffer (written + length (store_turn p refs b).written) new)
       by (Ok x) h m f = turn-kept took failures lent step (missing_by pic.kind pic old.buffer) old.buffer.size (store_turn p refs b) (stored-follows p place refs pic b old.buffer stored k.same) new s s' x old.frames written 1 (waiting_in old.buffer.entries) h m z k.count (stored-counts p place refs pic old.buffer stored) f
       by (Err e) h m f = tt
 
   pub store-frames : (frames : ℕ → Frame) → HasFrames frames lent old → IsAtPlace frames lent (placed_at p place) → OnOk result (HasFrames frames lent new)
   store-frames frames h own = by result steps
     where
-      by : (result : Result X Stop) → Steps took failures lent step new.buffer.entries s s' result → OnOk result (HasFrames frames lent new)
+      by : (result : Result X Stop) → Steps (span took failures s s') lent step new.buffer.entries result → OnOk result (HasFrames frames lent new)
       by (Ok x) t = record { each = step-each took failures lent step (IsAtPlace frames lent) new.buffer.entries s s' x t (stored-each (IsAtPlace frames lent) p place refs pic old.buffer stored own h.each).1 }
       by (Err e) t = tt
 
   pub store-ordered : (StaysWithin old.buffer → OnOk result (StaysWithin new.buffer)) → OnOk result (new.frames ≡ old.frames + (waiting_in old.buffer.entries + 1 - waiting_in new.buffer.entries)) → IsOrdered p.picture old → OnOk result (IsOrdered (p.picture + 1) new)
   store-ordered w f o = by result steps (w o.within) f
     where
-      by : (result : Result X Stop) → Steps took failures lent step new.buffer.entries s s' result → OnOk result (StaysWithin new.buffer) → OnOk result (new.frames ≡ old.frames + (waiting_in old.buffer.entries + 1 - waiting_in new.buffer.entries)) → OnOk result (IsOrdered (p.picture + 1) new)
+      by : (result : Result X Stop) → Steps (span took failures s s') lent step new.buffer.entries result → OnOk result (StaysWithin new.buffer) → OnOk result (new.frames ≡ old.frames + (waiting_in old.buffer.entries + 1 - waiting_in new.buffer.entries)) → OnOk result (IsOrdered (p.picture + 1) new)
       by (Ok x) h within f = step-ordered took failures lent step new s s' x old.frames 1 (waiting_in old.buffer.entries) p.picture (p.picture + 1) h (stored-rising p place refs pic old.buffer stored o.rising) within (stored-counts p place refs pic old.buffer stored) f o.count (omega arith)
       by (Err e) h within f = tt

@@ -3,7 +3,7 @@ use Rattle.std.proofs.Common.{◌≡◌, ℕ, ◌-◌, Bool, Option, Some, Resul
 use Rattle.std.specs.Prelude.{unwrap_or}
 use Rattle.std.proofs.lemmas.List.{length-map}
 use Rattle.h264_base.specs.declared.stop.Stop.{Stop}
-use Rattle.h264_base.specs.Call.{Call}
+use Rattle.h264_base.specs.Call.{Call, span}
 use Rattle.h264_plane.specs.declared.frame.Frame.{Frame}
 use Rattle.h264_plane.specs.Frames.{no_frame}
 use Rattle.h264_marking.specs.Frames.{References}
@@ -60,17 +60,17 @@ module _ (b : Buffered Shown) (kept : Buffered Placed) (same : SameBuffer b kept
 
 -- A step at the places was made, which is this step of pictures.
 module _ {X S : Type 0} (took : S → List Call → Type 0) (failures : S → ℕ) (lent : ℕ → Option Frame) (step : Step Placed) (t : Step Shown) (is : t ≡ renamed_step shown_at step) where
-  pub written-is : (new : List (Entry Placed)) (s s' : S) (result : Result X Stop) (frames : ℕ → Frame) → Steps took failures lent step new s s' result → Each (IsAtPlace frames lent) step.written → Writes took failures (shown_calls frames t.written) s s' result
+  pub written-is : (new : List (Entry Placed)) (s s' : S) (result : Result X Stop) (frames : ℕ → Frame) → Steps (span took failures s s') lent step new result → Each (IsAtPlace frames lent) step.written → Writes took failures (shown_calls frames t.written) s s' result
   written-is new s s' result frames h each = by result h
     where
       calls : calls_of lent step.written ≡ shown_calls frames t.written
       calls = calls-are frames lent step.written each ∙ ap (λ (u : Step Shown). shown_calls frames u.written) (sym is)
 
-      by : (result : Result X Stop) → Steps took failures lent step new s s' result → Writes took failures (shown_calls frames t.written) s s' result
+      by : (result : Result X Stop) → Steps (span took failures s s') lent step new result → Writes took failures (shown_calls frames t.written) s s' result
       by (Ok x) h = subst (λ (l : List Call). Writes took failures l s s' (Ok x)) calls (record { writes = (h.steps.1, h.steps.2) })
       by (Err e) h = subst (λ (l : List Call). Writes {X = X} took failures l s s' (Err e)) calls (record { writes = h.steps })
 
-  pub entries-are : (new : List (Entry Placed)) (s s' : S) (x : X) → Steps took failures lent step new s s' (Ok x) → t.entries ≡ all_renamed shown_at new
+  pub entries-are : (new : List (Entry Placed)) (s s' : S) (x : X) → Steps (span took failures s s') lent step new (Ok x) → t.entries ≡ all_renamed shown_at new
   entries-are new s s' x h = ap (λ (u : Step Shown). u.entries) is ∙ ap (all_renamed shown_at) (sym h.steps.0)
 
 pub count-is : (step : Step Placed) (t : Step Shown) → t ≡ renamed_step shown_at step → length t.written ≡ length step.written

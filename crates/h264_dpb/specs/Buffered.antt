@@ -2,7 +2,7 @@
 use Rattle.std.specs.Prelude.{◌≡◌, ℕ, ◌+◌, ◌-◌, ◌<◌, ◌≤◌, not, ◌||◌, Bool, true, false, IsTrue, cond, List, [], ◌∷◌, length, Option, Result, Ok, Err}
 use Rattle.h264_base.specs.declared.stop.Stop.{Stop}
 use Rattle.h264_base.specs.declared.stop.Stop.TheVariants.{Write}
-use Rattle.h264_base.specs.Call.{Call, Tells, TellsFront}
+use Rattle.h264_base.specs.Call.{Call, SinkSpan, Tells, TellsFront}
 use Rattle.h264_plane.specs.declared.frame.Frame.{Frame}
 use Rattle.h264_dpb.specs.Shown.{is_shown}
 use Rattle.h264_dpb.specs.declared.entry.Entry.{Entry}
@@ -53,15 +53,15 @@ abbrev pub AreReady : (ℕ → Option Frame) → List (Entry Placed) → Type 0
 AreReady lent [] = Unit {0}
 AreReady lent (e ∷ es) = IsTrue (is_ready lent e) × AreReady lent es
 
-abbrev pub StepsBy : {X S : Type 0} → (S → List Call → Type 0) → (S → ℕ) → (ℕ → Option Frame) → Step Placed → List (Entry Placed) → S →
-    S → Result X Stop → Type 0
-StepsBy took failures lent step new s s' (Ok x) = (new ≡ step.entries) × Tells took s s' (calls_of lent step.written) × (failures s' ≡ failures s)
-StepsBy took failures lent step new s s' (Err e) = (e ≡ Write) × TellsFront took s s' (calls_of lent step.written) × (failures s' ≡ failures s + 1)
+abbrev pub StepsBy : {X S : Type 0} → SinkSpan S Call → (ℕ → Option Frame) → Step Placed → List (Entry Placed) → Result X Stop → Type 0
+StepsBy w lent step new (Ok x) = (new ≡ step.entries) × Tells w.took w.old w.new (calls_of lent step.written) × (w.failures w.new ≡ w.failures w.old)
+StepsBy w lent step new (Err e) =
+    (e ≡ Write) × TellsFront w.took w.old w.new (calls_of lent step.written) × (w.failures w.new ≡ w.failures w.old + 1)
 
 -- The sink was told the frames of a step, which left these in the buffer; or it failed, and took the first of them.
-pub record Steps {X S : Type 0} (took : S → List Call → Type 0) (failures : S → ℕ) (lent : ℕ → Option Frame) (step : Step Placed) (new : List (Entry Placed))
-    (s s' : S) (result : Result X Stop) : Type 0 where
-  pub steps : StepsBy took failures lent step new s s' result
+pub record Steps {X S : Type 0} (w : SinkSpan S Call) (lent : ℕ → Option Frame) (step : Step Placed) (new : List (Entry Placed))
+    (result : Result X Stop) : Type 0 where
+  pub steps : StepsBy w lent step new result
 
 -- what is stored of a picture
 abbrev pub entry_of : Picture → Bool → Entry Placed

@@ -31,7 +31,7 @@ impl Model for Buffer {
 
 impl Buffer {
     ghost use Rattle.std.specs.Prelude.{◌≡◌, ◌+◌, ◌-◌, ◌<◌, ◌≤◌, ◌^◌, IsTrue, false, is_some, length, [], OnOk, IfSome};
-    ghost use Rattle.h264_base.specs.Call.{HasRoom};
+    ghost use Rattle.h264_base.specs.Call.{HasRoom, span};
     ghost use Rattle.h264_dpb.specs.Numbered.{is_taken};
     ghost use Rattle.h264_dpb.specs.Bumping.{flushed};
     ghost use Rattle.h264_dpb.specs.Buffered.{AreReady, Steps, HasRoomBy, StaysWithin, places_taken, stored_by, missing_by, IsShownBy};
@@ -86,8 +86,8 @@ impl Buffer {
         requires ready { AreReady (F.lent frames.now) self.old.entries }
         requires own { IsShownBy picture.now.kind (F.lent frames.now) picture.now }
         requires few { HasRoomBy picture.now.kind picture.now self.old }
-        ensures steps { Steps S.took S.failures (F.lent frames.now)
-            (stored_by picture.now.kind picture.now self.old) self.new.entries sink.old sink.new result }
+        ensures steps { Steps (span S.took S.failures sink.old sink.new) (F.lent frames.now)
+            (stored_by picture.now.kind picture.now self.old) self.new.entries result }
         ensures missing { OnOk result (self.new.missing ≡ missing_by picture.now.kind picture.now self.old) }
         ensures size { self.new.size ≡ self.old.size }
         ensures within { StaysWithin self.old → OnOk result (StaysWithin self.new) }
@@ -122,7 +122,7 @@ impl Buffer {
         requires ready { AreReady (F.lent frames.now) self.old.entries }
         requires some { 0 < size }
         requires few { size ≤ 16 }
-        ensures steps { Steps S.took S.failures (F.lent frames.now) (flushed write self.old.entries) self.new.entries sink.old sink.new result }
+        ensures steps { Steps (span S.took S.failures sink.old sink.new) (F.lent frames.now) (flushed write self.old.entries) self.new.entries result }
         ensures emptied { OnOk result (self.new ≡ record { entries = []; missing = 0; size = size }) }
     {
         empty(write, &mut self.entries, frames, sink)?;

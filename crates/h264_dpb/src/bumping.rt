@@ -1,5 +1,5 @@
 ghost use Rattle.std.specs.Prelude.{◌≡◌, ◌||◌, ◌+◌, ◌-◌, ◌<◌, ◌≤◌, ◌^◌, true, false, IsTrue, [], ◌∷◌, ◌++◌, Some, length, map, slice_set, OnOk, IfOk};
-ghost use Rattle.h264_base.specs.Call.{HasRoom};
+ghost use Rattle.h264_base.specs.Call.{HasRoom, span};
 ghost use Rattle.std.specs.Prelude.{if◌then◌else◌};
 ghost use Rattle.std.specs.List.{position, filter, list_all};
 ghost use Rattle.arrayvec.specs.ArrayVec.{array_vec_len};
@@ -119,7 +119,7 @@ fn bump<F: FrameStore, S: FrameOut>(
 ) -> Result<(), Stop>
     requires room { HasRoom S.failures sink.old }
     requires ready { AreReady (F.lent frames.now) entries.old.items }
-    ensures { Steps S.took S.failures (F.lent frames.now) (bumped entries.old.items) entries.new.items sink.old sink.new result }
+    ensures { Steps (span S.took S.failures sink.old sink.new) (F.lent frames.now) (bumped entries.old.items) entries.new.items result }
 {
     let Some(least) = least_count(entries.as_slice()) else {
         return Ok(());
@@ -141,8 +141,8 @@ pub(crate) fn make_room<F: FrameStore, S: FrameOut>(
 ) -> Result<(), Stop>
     requires room { HasRoom S.failures sink.old }
     requires ready { AreReady (F.lent frames.now) entries.old.items }
-    ensures { Steps S.took S.failures (F.lent frames.now) (made_room (length entries.old.items) places entries.old.items) entries.new.items sink.old
-        sink.new result }
+    ensures { Steps (span S.took S.failures sink.old sink.new) (F.lent frames.now)
+        (made_room (length entries.old.items) places entries.old.items) entries.new.items result }
 {
     for _turn in 0..entries.len() {
         if entries.len() < places {
@@ -165,7 +165,7 @@ pub(crate) fn place<F: FrameStore, S: FrameOut>(
     requires ready { AreReady (F.lent frames.now) entries.old.items }
     requires own { IsTrue (is_shown (F.lent frames.now) entry.of) }
     requires few { places ≤ 16 }
-    ensures { Steps S.took S.failures (F.lent frames.now) (stored_other places entry entries.old.items) entries.new.items sink.old sink.new result }
+    ensures { Steps (span S.took S.failures sink.old sink.new) (F.lent frames.now) (stored_other places entry entries.old.items) entries.new.items result }
 {
     for _turn in 0..entries.len() {
         if entries.len() < places {
@@ -274,7 +274,7 @@ pub(crate) fn store_reference<F: FrameStore, S: FrameOut>(
     requires used { AreUsed entries.old.items }
     requires few { references entries.old.items < places }
     requires most { places ≤ 16 }
-    ensures { Steps S.took S.failures (F.lent frames.now) (stored_reference places entry entries.old.items) entries.new.items sink.old sink.new result }
+    ensures { Steps (span S.took S.failures sink.old sink.new) (F.lent frames.now) (stored_reference places entry entries.old.items) entries.new.items result }
 {
     make_room(places, entries, frames, sink)?;
     entries.push(entry);
@@ -304,8 +304,9 @@ pub(crate) fn store_marked<F: FrameStore, S: FrameOut>(
     requires ready { AreReady (F.lent frames.now) entries.old.items }
     requires few { references (marked (still picture.now) entries.old.items) + missing_in picture.now.held.now < size }
     requires most { size ≤ 16 }
-    ensures { Steps S.took S.failures (F.lent frames.now) (stored_reference (size - missing_in picture.now.held.now) (entry_of picture.now true)
-        (marked (still picture.now) entries.old.items)) entries.new.items sink.old sink.new result }
+    ensures { Steps (span S.took S.failures sink.old sink.new) (F.lent frames.now)
+        (stored_reference (size - missing_in picture.now.held.now) (entry_of picture.now true)
+        (marked (still picture.now) entries.old.items)) entries.new.items result }
 {
     mark(picture.held, entries);
     let places = size.saturating_sub(missing_in(picture.held));
@@ -322,8 +323,9 @@ pub(crate) fn store_missing<F: FrameStore, S: FrameOut>(
 ) -> Result<(), Stop>
     requires room { HasRoom S.failures sink.old }
     requires ready { AreReady (F.lent frames.now) entries.old.items }
-    ensures { Steps S.took S.failures (F.lent frames.now) (room_step (size - (missing_in picture.now.held.now - 1))
-        (marked (still picture.now) entries.old.items)) entries.new.items sink.old sink.new result }
+    ensures { Steps (span S.took S.failures sink.old sink.new) (F.lent frames.now)
+        (room_step (size - (missing_in picture.now.held.now - 1))
+        (marked (still picture.now) entries.old.items)) entries.new.items result }
 {
     mark(picture.held, entries);
     let others = missing_in(picture.held).saturating_sub(1);
@@ -342,8 +344,8 @@ pub(crate) fn store_other<F: FrameStore, S: FrameOut>(
     requires ready { AreReady (F.lent frames.now) entries.old.items }
     requires own { IsTrue (is_shown (F.lent frames.now) picture.now.of) }
     requires few { places ≤ 16 }
-    ensures { Steps S.took S.failures (F.lent frames.now) (stored_other places (entry_of picture.now false) entries.old.items) entries.new.items
-        sink.old sink.new result }
+    ensures { Steps (span S.took S.failures sink.old sink.new) (F.lent frames.now)
+        (stored_other places (entry_of picture.now false) entries.old.items) entries.new.items result }
 {
     place(places, held_entry(picture, false), entries, frames, sink)
 }
@@ -357,7 +359,7 @@ pub(crate) fn empty<F: FrameStore, S: FrameOut>(
 ) -> Result<(), Stop>
     requires room { HasRoom S.failures sink.old }
     requires ready { AreReady (F.lent frames.now) entries.old.items }
-    ensures steps { Steps S.took S.failures (F.lent frames.now) (flushed write entries.old.items) entries.new.items sink.old sink.new result }
+    ensures steps { Steps (span S.took S.failures sink.old sink.new) (F.lent frames.now) (flushed write entries.old.items) entries.new.items result }
     ensures none { OnOk result (entries.new.items ≡ []) }
 {
     if !write {
@@ -383,9 +385,8 @@ pub(crate) fn store<F: FrameStore, S: FrameOut>(
     requires own { IsShownBy picture.now.kind (F.lent frames.now) picture.now }
     requires few { HasRoomBy picture.now.kind picture.now (record { entries = entries.old.items; missing = missing; size = size }) }
     requires most { size ≤ 16 }
-    ensures steps { Steps S.took S.failures (F.lent frames.now)
-        (stored_by picture.now.kind picture.now (record { entries = entries.old.items; missing = missing; size = size })) entries.new.items sink.old
-        sink.new result }
+    ensures steps { Steps (span S.took S.failures sink.old sink.new) (F.lent frames.now)
+        (stored_by picture.now.kind picture.now (record { entries = entries.old.items; missing = missing; size = size })) entries.new.items result }
     ensures missing { IfOk result (λ n. n ≡ missing_by picture.now.kind picture.now
         (record { entries = entries.old.items; missing = missing; size = size })) }
     ensures within { length entries.old.items + missing ≤ size → IfOk result (λ n. length entries.new.items + n ≤ size) }

@@ -2,7 +2,7 @@
 #![tactic(auto)]
 
 ghost use Rattle.std.specs.Prelude.{◌≡◌, ◌≤◌, ℕ, map, length};
-ghost use Rattle.h264_base.specs.Call.{HasRoom};
+ghost use Rattle.h264_base.specs.Call.{HasRoom, span};
 ghost use Rattle.std.specs.List.{count_by};
 ghost use Rattle.h264_dpb.specs.Turns.{empties};
 ghost use Rattle.h264_dpb.specs.declared.entry.Kind.TheVariants as kinds;
@@ -200,8 +200,8 @@ impl Output {
         requires few { HasRoomBy picture.now.kind picture.now self.old.buffer }
         requires joins { joins ≤ 1 }
         requires counted { self.old.frames + waiting_in self.old.buffer.entries < 2 ^ 63 }
-        ensures steps { Steps S.took S.failures (F.lent store.now)
-            (stored_by picture.now.kind picture.now self.old.buffer) self.new.buffer.entries sink.old sink.new result }
+        ensures steps { Steps (span S.took S.failures sink.old sink.new) (F.lent store.now)
+            (stored_by picture.now.kind picture.now self.old.buffer) self.new.buffer.entries result }
         ensures missing { OnOk result (self.new.buffer.missing ≡ missing_by picture.now.kind picture.now self.old.buffer) }
         ensures size { self.new.buffer.size ≡ self.old.buffer.size }
         ensures within { StaysWithin self.old.buffer → OnOk result (StaysWithin self.new.buffer) }

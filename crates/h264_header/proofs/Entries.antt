@@ -1,7 +1,7 @@
 -- The entries of a list that a code ends: their turns, their codes, and what other codes are.
 use Rattle.std.proofs.Common.{◌≡◌, ◌≢◌, ℕ, zero, suc, ◌+◌, ◌-◌, ◌<◌, ◌≤◌, ◌==◌, Bool, true, false, List, [], ◌∷◌, ◌++◌, Option, Some, None, Ok, Err, refl, subst, arith}
 use Rattle.h264_base.specs.declared.stop.Stop.{Stop}
-use Rattle.h264_base.specs.Call.{Call}
+use Rattle.h264_base.specs.Call.{Call, span}
 use Rattle.h264_base.specs.Word.{digit}
 use Rattle.h264_base.specs.declared.element_name.ElementName.TheVariants.{AbsDiffPicNumMinus1}
 use Rattle.h264_base.specs.Grammar.{Grammar, Done, ◌>>=◌}
@@ -33,7 +33,7 @@ digit-is true = refl
 digit-is false = refl
 
 -- a part that is read last, seen otherwise
-pub seen-last : {X A B S : Type 0} {took : S → List Call → Type 0} {failures : S → ℕ} {R : X → A → Type 0} {R' : X → B → Type 0} {g : Grammar A} (f : A → B) {old new : Reader} {s s' : S} (r : Result X Stop) → ((x : X) (v : A) → R x v → R' x (f v)) → Meets took failures R g old new s s' r → Meets took failures R' (g >>= (λ v. Done (f v))) old new s s' r
+pub seen-last : {X A B S : Type 0} {took : S → List Call → Type 0} {failures : S → ℕ} {R : X → A → Type 0} {R' : X → B → Type 0} {g : Grammar A} (f : A → B) {old new : Reader} {s s' : S} (r : Result X Stop) → ((x : X) (v : A) → R x v → R' x (f v)) → Meets (span took failures s s') R g old new r → Meets (span took failures s s') R' (g >>= (λ v. Done (f v))) old new r
 seen-last f (Ok x) h m = bind_as _ m (λ v e. done _ _ _ _ _ _ _ (h x v e))
 seen-last f (Err e) h m = stop _ m
 
@@ -45,7 +45,7 @@ module _ {A S : Type 0} {took : S → List Call → Type 0} {failures : S → �
       rw (whole, e) (leads-starts took failures (listed entry n []) old s)
 
   -- one more entry
-  pub listed-next : {g : Grammar (List A)} {old now mid : Reader} {s s' s'' : S} {x : A} (entry : List A → Grammar (Option A)) (n i : ℕ) (before after : List A) → i < n → after ≡ before ++ x ∷ [] → Leads took failures g (listed entry (n - i) before) old now s s' → Meets took failures (Is (λ (o : Option A). o)) (entry before) now mid s' s'' (Ok (Some x)) → Leads took failures g (listed entry (n - (i + 1)) after) old mid s s''
+  pub listed-next : {g : Grammar (List A)} {old now mid : Reader} {s s' s'' : S} {x : A} (entry : List A → Grammar (Option A)) (n i : ℕ) (before after : List A) → i < n → after ≡ before ++ x ∷ [] → Leads took failures g (listed entry (n - i) before) old now s s' → Meets (span took failures s' s'') (Is (λ (o : Option A). o)) (entry before) now mid (Ok (Some x)) → Leads took failures g (listed entry (n - (i + 1)) after) old mid s s''
   unfolding listed
   listed-next {g} {old} {now} {mid} {s} {s'} {s''} entry n i before after h e l m =
       let k : n - i ≡ suc (n - (i + 1)) = omega arith in
@@ -53,7 +53,7 @@ module _ {A S : Type 0} {took : S → List Call → Type 0} {failures : S → �
       rw e (leads-on (listed_on (listed entry (n - (i + 1))) before) (subst P k l) m)
 
   -- an entry stops
-  pub listed-stop : {g : Grammar (List A)} {Y : Type 0} {R : Y → List A → Type 0} {old now mid : Reader} {s s' s'' : S} {e : Stop} (entry : List A → Grammar (Option A)) (n i : ℕ) (before : List A) → i < n → Leads took failures g (listed entry (n - i) before) old now s s' → Meets took failures (Is (λ (o : Option A). o)) (entry before) now mid s' s'' (Err e) → Meets {X = Y} took failures R g old mid s s'' (Err e)
+  pub listed-stop : {g : Grammar (List A)} {Y : Type 0} {R : Y → List A → Type 0} {old now mid : Reader} {s s' s'' : S} {e : Stop} (entry : List A → Grammar (Option A)) (n i : ℕ) (before : List A) → i < n → Leads took failures g (listed entry (n - i) before) old now s s' → Meets (span took failures s' s'') (Is (λ (o : Option A). o)) (entry before) now mid (Err e) → Meets {X = Y} (span took failures s s'') R g old mid (Err e)
   unfolding listed
   listed-stop {g} {old = old} {now} {s = s} {s'} entry n i before h l m =
       let k : n - i ≡ suc (n - (i + 1)) = omega arith in
@@ -61,7 +61,7 @@ module _ {A S : Type 0} {took : S → List Call → Type 0} {failures : S → �
       finish (subst P k l) (stop (listed_on (listed entry (n - (i + 1))) before) m)
 
   -- the end
-  pub listed-ends : {g : Grammar (List A)} {Y : Type 0} {R : Y → List A → Type 0} {old now mid : Reader} {s s' s'' : S} (entry : List A → Grammar (Option A)) (n i : ℕ) (before : List A) (y : Y) → i < n → R y before → Leads took failures g (listed entry (n - i) before) old now s s' → Meets took failures (Is (λ (o : Option A). o)) (entry before) now mid s' s'' (Ok None) → Meets took failures R g old mid s s'' (Ok y)
+  pub listed-ends : {g : Grammar (List A)} {Y : Type 0} {R : Y → List A → Type 0} {old now mid : Reader} {s s' s'' : S} (entry : List A → Grammar (Option A)) (n i : ℕ) (before : List A) (y : Y) → i < n → R y before → Leads took failures g (listed entry (n - i) before) old now s s' → Meets (span took failures s' s'') (Is (λ (o : Option A). o)) (entry before) now mid (Ok None) → Meets (span took failures s s'') R g old mid (Ok y)
   unfolding listed
   listed-ends {g} {R = R} {old} {now} {mid} {s} {s'} {s''} entry n i before y h r l m =
       let k : n - i ≡ suc (n - (i + 1)) = omega arith in
@@ -69,7 +69,7 @@ module _ {A S : Type 0} {took : S → List Call → Type 0} {failures : S → �
       finish (leads-on (listed_on (listed entry (n - (i + 1))) before) (subst P k l) m) (done took failures R before mid s'' y r)
 
   -- no turn is left
-  pub listed-over : {g : Grammar (List A)} {Y : Type 0} {R : Y → List A → Type 0} {old now : Reader} {s s' : S} (entry : List A → Grammar (Option A)) (n i : ℕ) (before : List A) (y : Y) → n ≤ i → R y before → Leads took failures g (listed entry (n - i) before) old now s s' → Meets took failures R g old now s s' (Ok y)
+  pub listed-over : {g : Grammar (List A)} {Y : Type 0} {R : Y → List A → Type 0} {old now : Reader} {s s' : S} (entry : List A → Grammar (Option A)) (n i : ℕ) (before : List A) (y : Y) → n ≤ i → R y before → Leads took failures g (listed entry (n - i) before) old now s s' → Meets (span took failures s s') R g old now (Ok y)
   unfolding listed
   listed-over {g} {R = R} {old} {now} {s} {s'} entry n i before y h r l =
       let k : n - i ≡ 0 = omega arith in
@@ -94,7 +94,7 @@ pub allowed-by : (before : List MarkingOperation) (number : ℕ) → number ≢ 
 allowed-by before number h k l = grind (arith, nat_tests)
 
 -- where a command has a difference, that stops
-pub difference-stops : {S : Type 0} {took : S → List Call → Type 0} {failures : S → ℕ} {old new : Reader} {s s' : S} {e : Stop} (greatest idc : ℕ) → idc ≤ 2 → idc ≢ 2 → Meets {X = ℕ} took failures (Is (λ x. x)) (unsigned_to AbsDiffPicNumMinus1 greatest) old new s s' (Err e) → Meets {X = Modification} took failures (Is Some) (command greatest idc) old new s s' (Err e)
+pub difference-stops : {S : Type 0} {took : S → List Call → Type 0} {failures : S → ℕ} {old new : Reader} {s s' : S} {e : Stop} (greatest idc : ℕ) → idc ≤ 2 → idc ≢ 2 → Meets {X = ℕ} (span took failures s s') (Is (λ x. x)) (unsigned_to AbsDiffPicNumMinus1 greatest) old new (Err e) → Meets {X = Modification} (span took failures s s') (Is Some) (command greatest idc) old new (Err e)
 unfolding command
 difference-stops greatest zero h k m = stop _ m
 difference-stops greatest (suc zero) h k m = stop _ m
@@ -109,7 +109,7 @@ deblocking-other (suc zero) a b = absurd (b refl)
 deblocking-other (suc (suc n)) a b = refl
 
 -- where disable_deblocking_filter_idc is not 1, the offsets stop
-pub offsets-stop : {S : Type 0} {took : S → List Call → Type 0} {failures : S → ℕ} {old new : Reader} {s s' : S} {e : Stop} (n : ℕ) → n ≢ 1 → Meets {X = FilterOffsets} took failures (Is (λ x. x)) filter_offsets old new s s' (Err e) → Meets {X = Deblocking} took failures (Is (λ x. x)) (deblocking_of n) old new s s' (Err e)
+pub offsets-stop : {S : Type 0} {took : S → List Call → Type 0} {failures : S → ℕ} {old new : Reader} {s s' : S} {e : Stop} (n : ℕ) → n ≢ 1 → Meets {X = FilterOffsets} (span took failures s s') (Is (λ x. x)) filter_offsets old new (Err e) → Meets {X = Deblocking} (span took failures s s') (Is (λ x. x)) (deblocking_of n) old new (Err e)
 unfolding deblocking_of
 offsets-stop zero h m = stop _ m
 offsets-stop (suc zero) h m = absurd (h refl)
@@ -128,7 +128,7 @@ one-operand (suc (suc (suc (suc (suc (suc zero)))))) h k a b = refl
 one-operand (suc (suc (suc (suc (suc (suc (suc n))))))) h k a b = absurd (omega arith)
 
 -- the first operand stops
-pub operand-stops : {S : Type 0} {took : S → List Call → Type 0} {failures : S → ℕ} {old new : Reader} {s s' : S} {e : Stop} (n : ℕ) → 0 < n → n ≤ 6 → n ≢ 5 → Meets {X = ℕ} took failures (Is (λ x. x)) (unsigned (operand_name n)) old new s s' (Err e) → Meets {X = Operation} took failures (Is Some) (operands n) old new s s' (Err e)
+pub operand-stops : {S : Type 0} {took : S → List Call → Type 0} {failures : S → ℕ} {old new : Reader} {s s' : S} {e : Stop} (n : ℕ) → 0 < n → n ≤ 6 → n ≢ 5 → Meets {X = ℕ} (span took failures s s') (Is (λ x. x)) (unsigned (operand_name n)) old new (Err e) → Meets {X = Operation} (span took failures s s') (Is Some) (operands n) old new (Err e)
 unfolding operands
 operand-stops zero h k b m = absurd (omega arith)
 operand-stops (suc zero) h k b m = stop _ m

@@ -4,7 +4,7 @@ use Rattle.std.specs.Prelude.{OnOk}
 use Rattle.std.specs.Option.{is_some, option_map}
 use Rattle.std.proofs.lemmas.Bool.{leb-true}
 use Rattle.h264_base.specs.declared.stop.Stop.{Stop}
-use Rattle.h264_base.specs.Call.{Call}
+use Rattle.h264_base.specs.Call.{Call, span}
 use Rattle.h264_base.specs.Grammar.{◌>>=◌, read_word, check}
 use Rattle.h264_base.specs.Meets.{Reader, Meets, Is}
 use Rattle.h264_base.proofs.OneAnswer.{answers}
@@ -36,7 +36,7 @@ unfolding header
 header-gives sets unit = gives-following _ _ _ (λ first. gives-following _ _ _ (λ stated. gives-met (named_sets sets) _ (λ n. IsNamed sets n.id.value) _ (named-gives sets) (λ named h. gives-following _ _ _ (λ num. gives-following _ _ _ (λ idr. gives-following _ _ _ (λ order. gives-following _ _ _ (λ kind. gives-following _ _ _ (λ marking. gives-following _ _ _ (λ qp. gives-following _ _ _ (λ filter. h))))))))))
 
 -- so where a header was read
-pub header-named : {S : Type 0} {took : S → List Call → Type 0} {failures : S → ℕ} {h : Header} {old new : Reader} {s s' : S} (sets : ℕ → Option (Pps × Sps)) (unit : SliceUnit) (r : Result (Unit {0}) Stop) → Meets took failures (Is (λ _. h)) (header sets unit) old new s s' r → OnOk r (IsNamed sets h.pic_parameter_set_id.value)
+pub header-named : {S : Type 0} {took : S → List Call → Type 0} {failures : S → ℕ} {h : Header} {old new : Reader} {s s' : S} (sets : ℕ → Option (Pps × Sps)) (unit : SliceUnit) (r : Result (Unit {0}) Stop) → Meets (span took failures s s') (Is (λ _. h)) (header sets unit) old new r → OnOk r (IsNamed sets h.pic_parameter_set_id.value)
 header-named {h = h} {old} {new} sets unit (Ok x) m =
     let a = answers m in
     subst (λ (v : Header). IsNamed sets v.pic_parameter_set_id.value) a.2 (gives-derived (header sets unit) (λ v. IsNamed sets v.pic_parameter_set_id.value) old.body old.at a.0 new.at a.1 (header-gives sets unit) a.3)

@@ -4,7 +4,6 @@ use Rattle.h264_base.specs.declared.element_name.ElementName.{ElementName}
 use Rattle.h264_base.specs.declared.element_name.ElementName.TheVariants.{LumaLog2WeightDenom, ChromaLog2WeightDenom, LumaWeightL0Flag, LumaWeightL0}
 use Rattle.h264_base.specs.declared.element_name.ElementName.TheVariants.{LumaOffsetL0, ChromaWeightL0Flag, ChromaWeightL0, ChromaOffsetL0}
 use Rattle.h264_base.specs.declared.weight.Weight.{Weight}
-use Rattle.h264_base.specs.declared.weight.Weights.{Weights}
 use Rattle.h264_base.specs.Grammar.{Grammar, Done, ◌>>=◌}
 use Rattle.h264_bits.specs.Forms.{flag, unsigned_to, signed_within, repeated}
 use Rattle.h264_header.specs.declared.header.IndexWeights.{IndexWeights}

@@ -2,7 +2,7 @@
 #![tactic(auto)]
 
 ghost use Rattle.std.specs.Prelude.{◌≡◌, ℕ, ◌==◌, ◌-◌, ◌<◌, ◌≤◌, ◌^◌, true, Some, None, IfOk, OnSome};
-ghost use Rattle.h264_base.specs.Call.{HasRoom};
+ghost use Rattle.h264_base.specs.Call.{HasRoom, span};
 ghost use Rattle.std.specs.List.{list_any};
 ghost use Rattle.arrayvec.specs.ArrayVec.{array_vec_len};
 ghost use Rattle.h264_base.specs.Meets.{Meets, Is};
@@ -71,7 +71,7 @@ fn read_operands<S: Elements>(number: u32, bits: &mut Bits, sink: &mut S) -> Res
     requires some { 0 < number }
     requires known { number ≤ 6 }
     requires room { HasRoom S.failures sink.old }
-    ensures { Meets S.took S.failures (Is Some) (operands number) bits.old bits.new sink.old sink.new result }
+    ensures { Meets (span S.took S.failures sink.old sink.new) (Is Some) (operands number) bits.old bits.new result }
 {
     if number == 5 {
         return Ok(Operation::UnmarkAll);
@@ -114,7 +114,7 @@ fn read_operation<S: Elements>(
     sink: &mut S,
 ) -> Result<Option<MarkingOperation>, Stop>
     requires { HasRoom S.failures sink.old }
-    ensures meets { Meets S.took S.failures (Is (λ x. x)) (operation before.now.items) bits.old bits.new sink.old sink.new result }
+    ensures meets { Meets (span S.took S.failures sink.old sink.new) (Is (λ x. x)) (operation before.now.items) bits.old bits.new result }
     ensures room { IfOk result (λ m. OnSome m (array_vec_len before.now < 36)) }
 {
     let number = read_ue(bits, ElementName::MemoryManagementControlOperation, sink)?;
@@ -139,7 +139,7 @@ fn read_operations<S: Elements>(
     sink: &mut S,
 ) -> Result<ArrayVec<MarkingOperation, 36>, Stop>
     requires { HasRoom S.failures sink.old }
-    ensures { Meets S.took S.failures (Is (λ x. x.items)) operations bits.old bits.new sink.old sink.new result }
+    ensures { Meets (span S.took S.failures sink.old sink.new) (Is (λ x. x.items)) operations bits.old bits.new result }
 {
     let mut operations = ArrayVec::new();
     for _turn in 0..MOST + 1 {
@@ -159,7 +159,7 @@ fn read_idr_marking<S: Elements>(
     sink: &mut S,
 ) -> Result<(), Stop>
     requires { HasRoom S.failures sink.old }
-    ensures { Meets S.took S.failures (λ _ m. marking.new ≡ Some m) idr_marking bits.old bits.new sink.old sink.new result }
+    ensures { Meets (span S.took S.failures sink.old sink.new) (λ _ m. marking.new ≡ Some m) idr_marking bits.old bits.new result }
 {
     let no_output = read_flag(bits, ElementName::NoOutputOfPriorPicsFlag, sink)?;
     let long_term = flag_value(bits, ElementName::LongTermReferenceFlag, sink)?;
@@ -182,8 +182,8 @@ fn read_adaptive<S: Elements>(
     sink: &mut S,
 ) -> Result<(), Stop>
     requires { HasRoom S.failures sink.old }
-    ensures { Meets S.took S.failures (λ _ m. marking.new ≡ Some (record { bit = bit; value = m }))
-        (marking_mode true) bits.old bits.new sink.old sink.new result }
+    ensures { Meets (span S.took S.failures sink.old sink.new) (λ _ m. marking.new ≡ Some (record { bit = bit; value = m })) (marking_mode true)
+        bits.old bits.new result }
 {
     let operations = read_operations(bits, sink)?;
     *marking = Some(Found {
@@ -200,7 +200,7 @@ fn read_other_marking<S: Elements>(
     sink: &mut S,
 ) -> Result<(), Stop>
     requires { HasRoom S.failures sink.old }
-    ensures { Meets S.took S.failures (λ _ m. marking.new ≡ Some m) other_marking bits.old bits.new sink.old sink.new result }
+    ensures { Meets (span S.took S.failures sink.old sink.new) (λ _ m. marking.new ≡ Some m) other_marking bits.old bits.new result }
 {
     let adaptive = read_flag(bits, ElementName::AdaptiveRefPicMarkingModeFlag, sink)?;
     if adaptive.value {
@@ -222,7 +222,7 @@ pub(crate) fn read_marking<S: Elements>(
     sink: &mut S,
 ) -> Result<(), Stop>
     requires { HasRoom S.failures sink.old }
-    ensures { Meets S.took S.failures (Is (λ _. marking.new)) (optional reference (dec_ref_pic_marking idr)) bits.old bits.new sink.old sink.new result }
+    ensures { Meets (span S.took S.failures sink.old sink.new) (Is (λ _. marking.new)) (optional reference (dec_ref_pic_marking idr)) bits.old bits.new result }
 {
     if !reference {
         *marking = None;

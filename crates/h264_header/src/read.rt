@@ -2,7 +2,7 @@
 #![tactic(auto)]
 
 ghost use Rattle.std.specs.Prelude.{◌≡◌, ℕ, ◌-◌, ◌<◌, ◌≤◌, ◌^◌, true, IfOk, OnOk, is_some};
-ghost use Rattle.h264_base.specs.Call.{HasRoom};
+ghost use Rattle.h264_base.specs.Call.{HasRoom, span};
 ghost use Rattle.h264_base.specs.Meets.{Meets, Is, Answers};
 ghost use Rattle.h264_bits.specs.Forms.{optional, signed};
 ghost use Rattle.h264_header.specs.Layout.{sets_of, IsShort, IsShortCount};
@@ -55,7 +55,7 @@ fn type_of(value: u32) -> SliceType
 /// slice_type.
 fn read_stated_type<S: Elements>(bits: &mut Bits, sink: &mut S) -> Result<StatedType, Stop>
     requires { HasRoom S.failures sink.old }
-    ensures { Meets S.took S.failures (Is (λ x. x)) stated_type bits.old bits.new sink.old sink.new result }
+    ensures { Meets (span S.took S.failures sink.old sink.new) (Is (λ x. x)) stated_type bits.old bits.new result }
 {
     let stated = read_ue(bits, ElementName::SliceType, sink)?;
     check(stated.value <= 9, Rule::Range, stated.bit)?;
@@ -74,7 +74,7 @@ fn read_named_sets<S: Elements>(
     sink: &mut S,
 ) -> Result<NamedSets, Stop>
     requires { HasRoom S.failures sink.old }
-    ensures meets { Meets S.took S.failures (Is (λ x. x)) (named_sets (sets_of sets.now)) bits.old bits.new sink.old sink.new result }
+    ensures meets { Meets (span S.took S.failures sink.old sink.new) (Is (λ x. x)) (named_sets (sets_of sets.now)) bits.old bits.new result }
     ensures short { IfOk result (λ n. IsShort n.layout) }
 {
     let id = read_ue(bits, ElementName::PicParameterSetId, sink)?;
@@ -98,7 +98,7 @@ fn read_idr<S: Elements>(
     sink: &mut S,
 ) -> Result<Option<Found<u32>>, Stop>
     requires { HasRoom S.failures sink.old }
-    ensures { Meets S.took S.failures (Is (λ x. x)) (optional idr idr_pic_id) bits.old bits.new sink.old sink.new result }
+    ensures { Meets (span S.took S.failures sink.old sink.new) (Is (λ x. x)) (optional idr idr_pic_id) bits.old bits.new result }
 {
     if !idr {
         return Ok(None);
@@ -116,7 +116,7 @@ fn read_delta<S: Elements>(
     sink: &mut S,
 ) -> Result<i32, Stop>
     requires { HasRoom S.failures sink.old }
-    ensures { Meets S.took S.failures (Is (λ x. x)) (or_0 present (signed name)) bits.old bits.new sink.old sink.new result }
+    ensures { Meets (span S.took S.failures sink.old sink.new) (Is (λ x. x)) (or_0 present (signed name)) bits.old bits.new result }
 {
     if !present {
         return Ok(0);
@@ -133,7 +133,7 @@ fn read_pic_order_cnt<S: Elements>(
 ) -> Result<PicOrderCnt, Stop>
     requires short { IsShortCount count }
     requires room { HasRoom S.failures sink.old }
-    ensures { Meets S.took S.failures (Is (λ x. x)) (pic_order_cnt count has_bottom) bits.old bits.new sink.old sink.new result }
+    ensures { Meets (span S.took S.failures sink.old sink.new) (Is (λ x. x)) (pic_order_cnt count has_bottom) bits.old bits.new result }
 {
     match count {
         CountElements::Lsb { length } => {
@@ -163,7 +163,7 @@ fn read_deblocking<S: Elements>(
     sink: &mut S,
 ) -> Result<Deblocking, Stop>
     requires { HasRoom S.failures sink.old }
-    ensures { Meets S.took S.failures (Is (λ x. x)) (deblocking present) bits.old bits.new sink.old sink.new result }
+    ensures { Meets (span S.took S.failures sink.old sink.new) (Is (λ x. x)) (deblocking present) bits.old bits.new result }
 {
     if !present {
         return Ok(Deblocking::AllEdges(FilterOffsets {
@@ -199,7 +199,8 @@ fn header_from_kind<S: Elements>(
 ) -> Result<(), Stop>
     requires short { layout.frame_num_length ≤ 16 }
     requires room { HasRoom S.failures sink.old }
-    ensures { Meets S.took S.failures (Is (λ _. header.new)) (header_from_kind header.old unit stated layout) bits.old bits.new sink.old sink.new result }
+    ensures { Meets (span S.took S.failures sink.old sink.new) (Is (λ _. header.new)) (header_from_kind header.old unit stated layout)
+        bits.old bits.new result }
 {
     header.kind.bit = stated.bit;
     let kind = &mut header.kind.value;
@@ -228,8 +229,8 @@ fn header_from_frame_num<S: Elements>(
 ) -> Result<(), Stop>
     requires short { IsShort layout }
     requires room { HasRoom S.failures sink.old }
-    ensures { Meets S.took S.failures (Is (λ _. header.new)) (header_from_frame_num header.old unit stated layout) bits.old bits.new sink.old sink.new
-        result }
+    ensures { Meets (span S.took S.failures sink.old sink.new) (Is (λ _. header.new)) (header_from_frame_num header.old unit stated layout)
+        bits.old bits.new result }
 {
     header.frame_num = read_bits(bits, ElementName::FrameNum, layout.frame_num_length, sink)?;
     header.idr_pic_id = read_idr(unit.idr_pic_flag, bits, sink)?;
@@ -246,7 +247,7 @@ fn header_steps<S: Elements>(
     sink: &mut S,
 ) -> Result<(), Stop>
     requires { HasRoom S.failures sink.old }
-    ensures { Meets S.took S.failures (Is (λ _. header.new)) (header_of (sets_of sets.now) unit) bits.old bits.new sink.old sink.new result }
+    ensures { Meets (span S.took S.failures sink.old sink.new) (Is (λ _. header.new)) (header_of (sets_of sets.now) unit) bits.old bits.new result }
 {
     header.nal_ref_idc = unit.nal_ref_idc;
     header.first_mb_in_slice = read_ue(bits, ElementName::FirstMbInSlice, sink)?;
@@ -271,8 +272,8 @@ pub fn read_header<S: Elements>(
     sink: &mut S,
 ) -> Result<(), Stop>
     requires { HasRoom S.failures sink.old }
-    ensures answers { Answers S.took S.failures (Is (λ _. header.new)) (header_of (sets_of sets.now) unit) bits.old bits.new sink.old sink.new result }
-    ensures meets { Meets S.took S.failures (Is (λ _. header.new)) (header_of (sets_of sets.now) unit) bits.old bits.new sink.old sink.new result }
+    ensures answers { Answers (span S.took S.failures sink.old sink.new) (Is (λ _. header.new)) (header_of (sets_of sets.now) unit) bits.old bits.new result }
+    ensures meets { Meets (span S.took S.failures sink.old sink.new) (Is (λ _. header.new)) (header_of (sets_of sets.now) unit) bits.old bits.new result }
     ensures id { OnOk result (header.new.pic_parameter_set_id.value ≤ 255) }
     ensures named { OnOk result (is_some (sets_of sets.now header.new.pic_parameter_set_id.value) ≡ true) }
 {

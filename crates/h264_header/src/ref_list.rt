@@ -2,7 +2,7 @@
 #![tactic(auto)]
 
 ghost use Rattle.std.specs.Prelude.{◌≡◌, ℕ, ◌+◌, ◌-◌, ◌<◌, ◌≤◌, ◌^◌, Some, [], IfOk, OnSome};
-ghost use Rattle.h264_base.specs.Call.{HasRoom};
+ghost use Rattle.h264_base.specs.Call.{HasRoom, span};
 ghost use Rattle.arrayvec.specs.ArrayVec.{array_vec_len};
 ghost use Rattle.h264_base.specs.Meets.{Meets, Is};
 ghost use Rattle.h264_bits.specs.Forms.{optional};
@@ -29,7 +29,7 @@ fn read_active_minus1<S: Elements>(
     sink: &mut S,
 ) -> Result<u32, Stop>
     requires { HasRoom S.failures sink.old }
-    ensures meets { Meets S.took S.failures (Is (λ x. x)) (num_ref_idx_l0_active_minus1 default_minus1) bits.old bits.new sink.old sink.new result }
+    ensures meets { Meets (span S.took S.failures sink.old sink.new) (Is (λ x. x)) (num_ref_idx_l0_active_minus1 default_minus1) bits.old bits.new result }
     ensures few { IfOk result (λ n. n ≤ 15) }
 {
     let own = read_flag(bits, ElementName::NumRefIdxActiveOverrideFlag, sink)?;
@@ -49,7 +49,7 @@ fn read_command<S: Elements>(
 ) -> Result<Modification, Stop>
     requires known { idc ≤ 2 }
     requires room { HasRoom S.failures sink.old }
-    ensures { Meets S.took S.failures (Is Some) (command greatest idc) bits.old bits.new sink.old sink.new result }
+    ensures { Meets (span S.took S.failures sink.old sink.new) (Is Some) (command greatest idc) bits.old bits.new result }
 {
     if idc == 2 {
         let long_term_pic_num = ue_value(bits, ElementName::LongTermPicNum, sink)?;
@@ -87,7 +87,7 @@ fn read_modification<S: Elements>(
     sink: &mut S,
 ) -> Result<Option<PicNumModification>, Stop>
     requires { HasRoom S.failures sink.old }
-    ensures meets { Meets S.took S.failures (Is (λ x. x)) (modification greatest active before.now.items) bits.old bits.new sink.old sink.new result }
+    ensures meets { Meets (span S.took S.failures sink.old sink.new) (Is (λ x. x)) (modification greatest active before.now.items) bits.old bits.new result }
     ensures room { IfOk result (λ m. OnSome m (array_vec_len before.now < active)) }
 {
     let idc = read_ue(bits, ElementName::ModificationOfPicNumsIdc, sink)?;
@@ -118,8 +118,8 @@ fn read_modifications<S: Elements>(
     requires few { active ≤ 16 }
     requires empty { commands.old.items ≡ [] }
     requires room { HasRoom S.failures sink.old }
-    ensures { Meets S.took S.failures (Is (λ _. commands.new.items))
-        (modifications_if greatest active modified) bits.old bits.new sink.old sink.new result }
+    ensures { Meets (span S.took S.failures sink.old sink.new) (Is (λ _. commands.new.items)) (modifications_if greatest active modified)
+        bits.old bits.new result }
 {
     if !modified {
         return Ok(());
@@ -152,7 +152,7 @@ fn read_weights<S: Elements>(
 ) -> Result<(), Stop>
     requires few { active ≤ 16 }
     requires room { HasRoom S.failures sink.old }
-    ensures { Meets S.took S.failures (Is (λ _. table.new)) (optional present (pred_weight_table active)) bits.old bits.new sink.old sink.new result }
+    ensures { Meets (span S.took S.failures sink.old sink.new) (Is (λ _. table.new)) (optional present (pred_weight_table active)) bits.old bits.new result }
 {
     if !present {
         *table = None;
@@ -170,7 +170,7 @@ fn read_ref_pic_list0<S: Elements>(
 ) -> Result<(), Stop>
     requires short { layout.frame_num_length ≤ 16 }
     requires room { HasRoom S.failures sink.old }
-    ensures { Meets S.took S.failures (λ _ l. kind.new ≡ P l) (ref_pic_list0 layout) bits.old bits.new sink.old sink.new result }
+    ensures { Meets (span S.took S.failures sink.old sink.new) (λ _ l. kind.new ≡ P l) (ref_pic_list0 layout) bits.old bits.new result }
 {
     let minus1 = read_active_minus1(layout.default_active_minus1, bits, sink)?;
     let active = minus1 + 1;
@@ -198,7 +198,7 @@ pub(crate) fn read_slice_kind<S: Elements>(
 ) -> Result<(), Stop>
     requires short { layout.frame_num_length ≤ 16 }
     requires room { HasRoom S.failures sink.old }
-    ensures { Meets S.took S.failures (Is (λ _. kind.new)) (slice_kind layout slice_type) bits.old bits.new sink.old sink.new result }
+    ensures { Meets (span S.took S.failures sink.old sink.new) (Is (λ _. kind.new)) (slice_kind layout slice_type) bits.old bits.new result }
 {
     match slice_type {
         SliceType::P => read_ref_pic_list0(layout, kind, bits, sink),

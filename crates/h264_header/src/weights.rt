@@ -2,7 +2,7 @@
 #![tactic(auto)]
 
 ghost use Rattle.std.specs.Prelude.{◌≡◌, ℕ, ◌-◌, ◌<◌, ◌≤◌, ◌^◌, [], Some, IfOk};
-ghost use Rattle.h264_base.specs.Call.{HasRoom};
+ghost use Rattle.h264_base.specs.Call.{HasRoom, span};
 ghost use Rattle.h264_base.specs.Meets.{Meets, Is};
 ghost use Rattle.h264_bits.specs.Forms.{repeated};
 ghost use Rattle.h264_header.specs.PredWeightTable.{stated_weight, inferred_weight, luma_weight, index_weights, pred_weight_table};
@@ -23,7 +23,8 @@ fn read_stated_weight<S: Elements>(
     sink: &mut S,
 ) -> Result<Weight, Stop>
     requires { HasRoom S.failures sink.old }
-    ensures { Meets S.took S.failures (Is (λ x. x)) (stated_weight weight_name offset_name log2_weight_denom) bits.old bits.new sink.old sink.new result }
+    ensures { Meets (span S.took S.failures sink.old sink.new) (Is (λ x. x)) (stated_weight weight_name offset_name log2_weight_denom)
+        bits.old bits.new result }
 {
     let weight = se_within(bits, weight_name, -128, 127, sink)?;
     let offset = se_within(bits, offset_name, -128, 127, sink)?;
@@ -55,7 +56,7 @@ fn read_luma_weight<S: Elements>(
 ) -> Result<Weight, Stop>
     requires denom { denom ≤ 7 }
     requires room { HasRoom S.failures sink.old }
-    ensures { Meets S.took S.failures (Is (λ x. x)) (luma_weight denom given) bits.old bits.new sink.old sink.new result }
+    ensures { Meets (span S.took S.failures sink.old sink.new) (Is (λ x. x)) (luma_weight denom given) bits.old bits.new result }
 {
     if !given {
         return Ok(inferred_weight(denom));
@@ -74,7 +75,7 @@ fn read_index_weights<S: Elements>(
     requires luma { luma_denom ≤ 7 }
     requires chroma { chroma_denom ≤ 7 }
     requires room { HasRoom S.failures sink.old }
-    ensures { Meets S.took S.failures (Is (λ x. x)) (index_weights luma_denom chroma_denom) bits.old bits.new sink.old sink.new result }
+    ensures { Meets (span S.took S.failures sink.old sink.new) (Is (λ x. x)) (index_weights luma_denom chroma_denom) bits.old bits.new result }
 {
     let luma_given = flag_value(bits, ElementName::LumaWeightL0Flag, sink)?;
     let luma = read_luma_weight(luma_denom, luma_given, bits, sink)?;
@@ -111,8 +112,8 @@ fn read_entries<S: Elements>(
     requires few { active ≤ 16 }
     requires empty { entries.old.items ≡ [] }
     requires room { HasRoom S.failures sink.old }
-    ensures { Meets S.took S.failures (Is (λ _. entries.new.items))
-        (repeated (index_weights luma_denom chroma_denom) [] active) bits.old bits.new sink.old sink.new result }
+    ensures { Meets (span S.took S.failures sink.old sink.new) (Is (λ _. entries.new.items)) (repeated (index_weights luma_denom chroma_denom) [] active)
+        bits.old bits.new result }
 {
     for _index in 0..active {
         let next = read_index_weights(luma_denom, chroma_denom, bits, sink)?;
@@ -130,7 +131,7 @@ pub(crate) fn read_pred_weight_table<S: Elements>(
 ) -> Result<(), Stop>
     requires few { active ≤ 16 }
     requires room { HasRoom S.failures sink.old }
-    ensures { Meets S.took S.failures (λ _ t. table.new ≡ Some t) (pred_weight_table active) bits.old bits.new sink.old sink.new result }
+    ensures { Meets (span S.took S.failures sink.old sink.new) (λ _ t. table.new ≡ Some t) (pred_weight_table active) bits.old bits.new result }
 {
     let luma_denom = ue_up_to(bits, ElementName::LumaLog2WeightDenom, 7, sink)? as u8;
     let chroma_denom = ue_up_to(bits, ElementName::ChromaLog2WeightDenom, 7, sink)? as u8;

@@ -4,7 +4,7 @@ use Rattle.std.proofs.lemmas.Bool.{cases_lt}
 use Rattle.std.proofs.lemmas.Bool.Decides.{nat_tests}
 use Rattle.h264_plane.specs.Samples.{Samples, at}
 use Rattle.h264_inter.specs.Luma.{quarter, mean, half, central, taps, across, down, middle, six}
-use Rattle.h264_inter.specs.Rows.{IsRow, IsHeld, LastFive, AllSix, LastFiveOfBoth, AllSixOfBoth, AreUpTo, IsPair, ArePairs, partner}
+use Rattle.h264_inter.specs.Rows.{IsRow, IsHeld, LastFive, AllSix, LastFiveOfBoth, AllSixOfBoth, AreUpTo, IsPair, ArePairs, partner, rows_at}
 use Rattle.h264_inter.specs.declared.window.Pair.{Pair}
 use Rattle.h264_inter.specs.declared.window.Pairs.{Pairs}
 use Rattle.h264_inter.specs.declared.window.Window.{Window}
@@ -15,7 +15,7 @@ use Rattle.h264_inter.proofs.SixTaps.{sums_lane}
 use Rattle.h264_inter.proofs.Strips.{lower}
 
 -- one row by another place that it is counted from
-row_from : (b : Bool) (p : Samples) (x c y z r s : ℕ) (l : List ℕ) → y + r ≡ z + s → IsRow b p x c y r l → IsRow b p x c z s l
+row_from : (b : Bool) (p : Samples) (x c y z r s : ℕ) (l : List ℕ) → y + r ≡ z + s → IsRow b p (rows_at x c y) r l → IsRow b p (rows_at x c z) s l
 row_from true p x c y z r s l e h = record {
   each = λ u q. h.each u q ∙ ap (λ n. six (λ i. pos (at p (x + u + i) n)) +ℤ pos 2550) e;
   small = h.small;
@@ -25,7 +25,7 @@ row_from false p x c y z r s l e h = record {
   small = h.small;
 }
 
-held_from : (b : Bool) (p : Samples) (x c y z r s : ℕ) (l : List ℕ) → y + r ≡ z + s → IsHeld b p x c y r l → IsHeld b p x c z s l
+held_from : (b : Bool) (p : Samples) (x c y z r s : ℕ) (l : List ℕ) → y + r ≡ z + s → IsHeld b p (rows_at x c y) r l → IsHeld b p (rows_at x c z) s l
 held_from true p x c y z r s l e h = row_from true p x c y z r s l e h
 held_from false p x c y z r s l e h = record {
   each = λ u q.
@@ -34,7 +34,7 @@ held_from false p x c y z r s l e h = record {
   small = h.small;
 }
 
-moved : (b : Bool) (p : Samples) (x c y z : ℕ) (w : Window) → y + 1 ≡ z → AllSix b p x c y w → LastFive b p x c z w
+moved : (b : Bool) (p : Samples) (x c y z : ℕ) (w : Window) → y + 1 ≡ z → AllSix b p (rows_at x c y) w → LastFive b p (rows_at x c z) w
 moved b p x c y z w e h = record {
   f = held_from b p x c y z 1 0 w.f (omega arith) h.f;
   g = held_from b p x c y z 2 1 w.g (omega arith) h.g;
@@ -44,18 +44,18 @@ moved b p x c y z w e h = record {
 }
 
 -- the windows of a row before the next one
-pub both_moved : (b : Bool) (width : ℕ) (p : Samples) (x c y z : ℕ) (w : Windows) → y + 1 ≡ z → AllSixOfBoth b width p x c y w → LastFiveOfBoth b width p x c z w
+pub both_moved : (b : Bool) (width : ℕ) (p : Samples) (x c y z : ℕ) (w : Windows) → y + 1 ≡ z → AllSixOfBoth b width p (rows_at x c y) w → LastFiveOfBoth b width p (rows_at x c z) w
 both_moved b width p x c y z w e h = record {
   left = moved b p x c y z w.left e h.left;
   right = λ more. moved b p (x + 8) c y z w.right e (h.right more);
 }
 
 -- the same windows by another number of their row
-pub both_at : (b : Bool) (width : ℕ) (p : Samples) (x c y z : ℕ) (w : Windows) → y ≡ z → LastFiveOfBoth b width p x c y w → LastFiveOfBoth b width p x c z w
+pub both_at : (b : Bool) (width : ℕ) (p : Samples) (x c y z : ℕ) (w : Windows) → y ≡ z → LastFiveOfBoth b width p (rows_at x c y) w → LastFiveOfBoth b width p (rows_at x c z) w
 both_at b width p x c y z w e h = rw (← e) h
 
 -- how large the numbers of a window are
-pub values_up_to : (p : Samples) (x c y : ℕ) (w : Window) → AllSix true p x c y w → AreUpTo 13260 w
+pub values_up_to : (p : Samples) (x c y : ℕ) (w : Window) → AllSix true p (rows_at x c y) w → AreUpTo 13260 w
 values_up_to p x c y w s = record {
   e = s.e.small;
   f = s.f.small;
@@ -65,7 +65,7 @@ values_up_to p x c y w s = record {
   j = s.j.small;
 }
 
-pub sums_up_to : (p : Samples) (x c y : ℕ) (w : Window) → AllSix false p x c y w → AreUpTo 510 w
+pub sums_up_to : (p : Samples) (x c y : ℕ) (w : Window) → AllSix false p (rows_at x c y) w → AreUpTo 510 w
 sums_up_to p x c y w s = record {
   e = s.e.small;
   f = s.f.small;
@@ -89,7 +89,7 @@ pairs_from width p x y z r s l e h = record {
 }
 
 -- a sample between two rows, from sums of two
-pub below_is : (p : Samples) (x c y u : ℕ) (w : Window) → AllSix false p x c y w → u < 8 →
+pub below_is : (p : Samples) (x c y u : ℕ) (w : Window) → AllSix false p (rows_at x c y) w → u < 8 →
     clip1 (int_shr (pos (get_or w.e u 0 + get_or w.i u 0 + 16) -ℤ pos (6 * (get_or w.f u 0 + get_or w.g u 0 + get_or w.h u 0))) 5 +ℤ pos (get_or w.g u 0))
     ≡ half (six (λ i. pos (at p (x + u + c) (y + i))))
 below_is p x c y u w s q =
@@ -98,7 +98,7 @@ below_is p x c y u w s q =
     )
 
 -- j, from values across
-pub middle_is : (p : Samples) (x c y u : ℕ) (w : Window) → AllSix true p x c y w → u < 8 →
+pub middle_is : (p : Samples) (x c y u : ℕ) (w : Window) → AllSix true p (rows_at x c y) w → u < 8 →
     central (taps (pos (get_or w.e u 0) -ℤ pos 2550) (pos (get_or w.f u 0) -ℤ pos 2550) (pos (get_or w.g u 0) -ℤ pos 2550)
     (pos (get_or w.h u 0) -ℤ pos 2550) (pos (get_or w.i u 0) -ℤ pos 2550) (pos (get_or w.j u 0) -ℤ pos 2550))
     ≡ central (middle (λ i j. at p (x + u + i) (y + j)))

@@ -23,41 +23,50 @@ pub record AreSums (p : Samples) (x c y r : ℕ) (lanes : List ℕ) : Type 0 whe
   pub each : (u : ℕ) → u < 8 → get_or lanes u 0 ≡ at p (x + u + c) (y + r) + at p (x + u + c) (y + (r + 1))
   pub small : (u : ℕ) → u < 8 → get_or lanes u 0 ≤ 510
 
--- a row that is read, of values across or of samples
-abbrev pub IsRow : Bool → Samples → ℕ → ℕ → ℕ → ℕ → List ℕ → Type 0
-IsRow true p x c y r lanes = AreRaised p x y r lanes
-IsRow false p x c y r lanes = AreSamples p x c y r lanes
+-- where rows are read: values across from column x on, samples from column x + c on, and the first row is row y
+pub record RowPlace : Type 0 where
+  pub x : ℕ
+  pub c : ℕ
+  pub y : ℕ
+
+abbrev pub rows_at : ℕ → ℕ → ℕ → RowPlace
+rows_at x c y = record { x = x; c = c; y = y }
+
+-- row r that is read there, of values across or of samples
+abbrev pub IsRow : Bool → Samples → RowPlace → ℕ → List ℕ → Type 0
+IsRow true p s r lanes = AreRaised p s.x s.y r lanes
+IsRow false p s r lanes = AreSamples p s.x s.c s.y r lanes
 
 -- a row that a window holds above its last: values across as they are, samples added to those below
-abbrev pub IsHeld : Bool → Samples → ℕ → ℕ → ℕ → ℕ → List ℕ → Type 0
-IsHeld true p x c y r lanes = AreRaised p x y r lanes
-IsHeld false p x c y r lanes = AreSums p x c y r lanes
+abbrev pub IsHeld : Bool → Samples → RowPlace → ℕ → List ℕ → Type 0
+IsHeld true p s r lanes = AreRaised p s.x s.y r lanes
+IsHeld false p s r lanes = AreSums p s.x s.c s.y r lanes
 
--- the last five rows of a window are those from row y on
-pub record LastFive (across : Bool) (p : Samples) (x c y : ℕ) (w : Window) : Type 0 where
-  pub f : IsHeld across p x c y 0 w.f
-  pub g : IsHeld across p x c y 1 w.g
-  pub h : IsHeld across p x c y 2 w.h
-  pub i : IsHeld across p x c y 3 w.i
-  pub j : IsRow across p x c y 4 w.j
+-- the last five rows of a window are those from this place on
+pub record LastFive (across : Bool) (p : Samples) (s : RowPlace) (w : Window) : Type 0 where
+  pub f : IsHeld across p s 0 w.f
+  pub g : IsHeld across p s 1 w.g
+  pub h : IsHeld across p s 2 w.h
+  pub i : IsHeld across p s 3 w.i
+  pub j : IsRow across p s 4 w.j
 
--- its six rows are those from row y on
-pub record AllSix (across : Bool) (p : Samples) (x c y : ℕ) (w : Window) : Type 0 where
-  pub e : IsHeld across p x c y 0 w.e
-  pub f : IsHeld across p x c y 1 w.f
-  pub g : IsHeld across p x c y 2 w.g
-  pub h : IsHeld across p x c y 3 w.h
-  pub i : IsHeld across p x c y 4 w.i
-  pub j : IsRow across p x c y 5 w.j
+-- its six rows are those from this place on
+pub record AllSix (across : Bool) (p : Samples) (s : RowPlace) (w : Window) : Type 0 where
+  pub e : IsHeld across p s 0 w.e
+  pub f : IsHeld across p s 1 w.f
+  pub g : IsHeld across p s 2 w.g
+  pub h : IsHeld across p s 3 w.h
+  pub i : IsHeld across p s 4 w.i
+  pub j : IsRow across p s 5 w.j
 
 -- the same of the windows of a block of `width` columns
-pub record LastFiveOfBoth (across : Bool) (width : ℕ) (p : Samples) (x c y : ℕ) (w : Windows) : Type 0 where
-  pub left : LastFive across p x c y w.left
-  pub right : 8 < width → LastFive across p (x + 8) c y w.right
+pub record LastFiveOfBoth (across : Bool) (width : ℕ) (p : Samples) (s : RowPlace) (w : Windows) : Type 0 where
+  pub left : LastFive across p s w.left
+  pub right : 8 < width → LastFive across p (rows_at (s.x + 8) s.c s.y) w.right
 
-pub record AllSixOfBoth (across : Bool) (width : ℕ) (p : Samples) (x c y : ℕ) (w : Windows) : Type 0 where
-  pub left : AllSix across p x c y w.left
-  pub right : 8 < width → AllSix across p (x + 8) c y w.right
+pub record AllSixOfBoth (across : Bool) (width : ℕ) (p : Samples) (s : RowPlace) (w : Windows) : Type 0 where
+  pub left : AllSix across p s w.left
+  pub right : 8 < width → AllSix across p (rows_at (s.x + 8) s.c s.y) w.right
 
 -- no number of a window is above this
 pub record AreUpTo (most : ℕ) (w : Window) : Type 0 where

@@ -2,7 +2,7 @@ ghost use Rattle.std.specs.Prelude.{◌≡◌, ◌≢◌, ◌⊎◌, ℕ, ◌+�
 ghost use Rattle.h264_plane.specs.Samples.{Samples, at};
 ghost use Rattle.h264_inter.specs.Reference.{HasBlock};
 ghost use Rattle.h264_inter.specs.Luma.{six, half as half_of, central as central_of, middle, quarter};
-ghost use Rattle.h264_inter.specs.Rows.{AllSix, AreSixTaps, LastFiveOfBoth, AllSixOfBoth, AreUpTo, partner as partner_of};
+ghost use Rattle.h264_inter.specs.Rows.{AllSix, AreSixTaps, LastFiveOfBoth, AllSixOfBoth, AreUpTo, partner as partner_of, rows_at};
 
 use crate::lanes::{
     beside, between8, bytes, central8, half8, joined, load, load16, mean8, mean16, plus, raised,
@@ -96,7 +96,7 @@ fn partner<const X: usize>() -> usize
 #[inline(always)]
 fn h8(w: Window) -> u16x8
     requires sums { AreUpTo 510 w }
-    ensures each { (p : Samples) (x c y : ℕ) → AllSix false p x c y w → (k : ℕ) → k < 8 →
+    ensures each { (p : Samples) (x c y : ℕ) → AllSix false p (rows_at x c y) w → (k : ℕ) → k < 8 →
         get_or result k 0 ≡ half_of (six (λ i. pos (at p (x + k + c) (y + i)))) }
     ensures small { (k : ℕ) → k < 8 → get_or result k 0 < 256 }
 {
@@ -109,7 +109,7 @@ fn h8(w: Window) -> u16x8
 #[inline(always)]
 fn j8(w: Window) -> u16x8
     requires across { AreUpTo 13260 w }
-    ensures each { (p : Samples) (x c y : ℕ) → AllSix true p x c y w → (k : ℕ) → k < 8 →
+    ensures each { (p : Samples) (x c y : ℕ) → AllSix true p (rows_at x c y) w → (k : ℕ) → k < 8 →
         get_or result k 0 ≡ central_of (middle (λ i j. at p (x + k + i) (y + j))) }
     ensures small { (k : ℕ) → k < 8 → get_or result k 0 < 256 }
 {
@@ -195,7 +195,7 @@ fn down_row<const W: usize>(w: Windows) -> [u8; 16]
     requires size { W ≤ 16 }
     requires left { AreUpTo 510 w.left }
     requires right { 8 < W → AreUpTo 510 w.right }
-    ensures { (p : Samples) (x c y : ℕ) → AllSixOfBoth false W p x c y w → (u : ℕ) → u < W →
+    ensures { (p : Samples) (x c y : ℕ) → AllSixOfBoth false W p (rows_at x c y) w → (u : ℕ) → u < W →
         slice_index result u ≡ half_of (six (λ i. pos (at p (x + u + c) (y + i)))) }
 {
     let lo = h8(w.left);
@@ -244,7 +244,7 @@ fn side_row<const W: usize, const X: usize, const Y: usize>(
     requires no_j { (X ≢ 2) ⊎ (Y ≡ 0) }
     requires nor_j { (Y ≢ 2) ⊎ (X ≡ 0) }
     requires column { c ≡ partner_of X }
-    requires windows { AllSixOfBoth false W p.now x c y w }
+    requires windows { AllSixOfBoth false W p.now (rows_at x c y) w }
     ensures { (u : ℕ) → u < W → slice_index result u ≡ quarter X Y (λ i j. at p.now (x + u + i) (y + j)) }
 {
     if Y == 0 {
@@ -307,9 +307,9 @@ fn side_line<const W: usize, const H: usize, const X: usize, const Y: usize>(
     requires parts { (X < 4) × (Y < 4) }
     requires no_j { (X ≢ 2) ⊎ (Y ≡ 0) }
     requires nor_j { (Y ≢ 2) ⊎ (X ≡ 0) }
-    requires windows { LastFiveOfBoth false W p.now corner.x (partner_of X) (corner.y + v) windows }
+    requires windows { LastFiveOfBoth false W p.now (rows_at corner.x (partner_of X) (corner.y + v)) windows }
     requires above { HasBlock W v out.old (λ u v. quarter X Y (λ i j. at p.now (corner.x + u + i) (corner.y + v + j))) }
-    ensures windows { LastFiveOfBoth false W p.now corner.x (partner_of X) (corner.y + (v + 1)) result }
+    ensures windows { LastFiveOfBoth false W p.now (rows_at corner.x (partner_of X) (corner.y + (v + 1))) result }
     ensures rows { HasBlock W (v + 1) out.new (λ u v. quarter X Y (λ i j. at p.now (corner.x + u + i) (corner.y + v + j))) }
 {
     let Corner { x, y } = corner;
@@ -361,7 +361,7 @@ fn middle8<const X: usize, const Y: usize>(across: Window, samples: Window) -> [
     requires not_at_0 { (0 < X) × (0 < Y) }
     requires across { AreUpTo 13260 across }
     requires samples { AreUpTo 510 samples }
-    ensures { (p : Samples) (x c y : ℕ) → c ≡ partner_of X → AllSix true p x c y across → AllSix false p x c y samples → (k : ℕ) → k < 8 →
+    ensures { (p : Samples) (x c y : ℕ) → c ≡ partner_of X → AllSix true p (rows_at x c y) across → AllSix false p (rows_at x c y) samples → (k : ℕ) → k < 8 →
         slice_index result k ≡ quarter X Y (λ i j. at p (x + k + i) (y + j)) }
 {
     let j = j8(across);
@@ -390,8 +390,8 @@ fn middle_row<const W: usize, const X: usize, const Y: usize>(
     requires not_at_0 { (0 < X) × (0 < Y) }
     requires left { AreUpTo 13260 across.left × AreUpTo 510 samples.left }
     requires right { 8 < W → AreUpTo 13260 across.right × AreUpTo 510 samples.right }
-    ensures { (p : Samples) (x c y : ℕ) → c ≡ partner_of X → AllSixOfBoth true W p x c y across → AllSixOfBoth false W p x c y samples → (u : ℕ) →
-        u < W → slice_index result u ≡ quarter X Y (λ i j. at p (x + u + i) (y + j)) }
+    ensures { (p : Samples) (x c y : ℕ) → c ≡ partner_of X → AllSixOfBoth true W p (rows_at x c y) across →
+        AllSixOfBoth false W p (rows_at x c y) samples → (u : ℕ) → u < W → slice_index result u ≡ quarter X Y (λ i j. at p (x + u + i) (y + j)) }
 {
     let lo = middle8::<X, Y>(across.left, samples.left);
     if W > 8 {
@@ -421,11 +421,11 @@ fn middle_line<const W: usize, const H: usize, const X: usize, const Y: usize>(
     requires parts { (X < 4) × (Y < 4) }
     requires with_j { (X ≡ 2) ⊎ (Y ≡ 2) }
     requires not_at_0 { (0 < X) × (0 < Y) }
-    requires across { LastFiveOfBoth true W p.now corner.x (partner_of X) (corner.y + v) across }
-    requires samples { LastFiveOfBoth false W p.now corner.x (partner_of X) (corner.y + v) samples }
+    requires across { LastFiveOfBoth true W p.now (rows_at corner.x (partner_of X) (corner.y + v)) across }
+    requires samples { LastFiveOfBoth false W p.now (rows_at corner.x (partner_of X) (corner.y + v)) samples }
     requires above { HasBlock W v out.old (λ u v. quarter X Y (λ i j. at p.now (corner.x + u + i) (corner.y + v + j))) }
-    ensures across { LastFiveOfBoth true W p.now corner.x (partner_of X) (corner.y + (v + 1)) result.0 }
-    ensures samples { LastFiveOfBoth false W p.now corner.x (partner_of X) (corner.y + (v + 1)) result.1 }
+    ensures across { LastFiveOfBoth true W p.now (rows_at corner.x (partner_of X) (corner.y + (v + 1))) result.0 }
+    ensures samples { LastFiveOfBoth false W p.now (rows_at corner.x (partner_of X) (corner.y + (v + 1))) result.1 }
     ensures rows { HasBlock W (v + 1) out.new (λ u v. quarter X Y (λ i j. at p.now (corner.x + u + i) (corner.y + v + j))) }
 {
     let Corner { x, y } = corner;

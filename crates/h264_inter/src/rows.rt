@@ -1,7 +1,7 @@
 ghost use Rattle.std.specs.Prelude.{◌≡◌, ℕ, ◌+◌, ◌<◌, ◌≤◌, length, get_or, ℤ, pos, ◌+ℤ◌};
 ghost use Rattle.h264_inter.specs.Luma.{six};
 ghost use Rattle.h264_plane.specs.Samples.{Samples, at};
-ghost use Rattle.h264_inter.specs.Rows.{IsRow, IsHeld, LastFive, AllSix, LastFiveOfBoth, AllSixOfBoth};
+ghost use Rattle.h264_inter.specs.Rows.{IsRow, IsHeld, LastFive, AllSix, LastFiveOfBoth, AllSixOfBoth, rows_at};
 
 use crate::lanes::{load, plus, taps8};
 use crate::lines::Lines;
@@ -33,7 +33,7 @@ fn row8<const ACROSS: bool>(p: &Lines<'_>, x: usize, c: usize, y: usize, r: usiz
     requires small { (x ≤ 16392) × (y ≤ 16400) × (c ≤ 5) × (r ≤ 32) }
     requires columns { x + 13 ≤ p.now.width }
     requires row { y + r < p.now.height }
-    ensures { IsRow ACROSS p.now x c y r result }
+    ensures { IsRow ACROSS p.now (rows_at x c y) r result }
 {
     if ACROSS {
         across8(p, x, y, r)
@@ -45,7 +45,8 @@ fn row8<const ACROSS: bool>(p: &Lines<'_>, x: usize, c: usize, y: usize, r: usiz
 /// A row as a window holds it: values across as they are, samples added to those of the row below.
 #[inline(always)]
 fn held<const ACROSS: bool>(row: u16x8, below: u16x8) -> u16x8
-    ensures { (p : Samples) (x c y r : ℕ) → IsRow ACROSS p x c y r row → IsRow ACROSS p x c y (r + 1) below → IsHeld ACROSS p x c y r result }
+    ensures { (p : Samples) (x c y r : ℕ) → IsRow ACROSS p (rows_at x c y) r row → IsRow ACROSS p (rows_at x c y) (r + 1) below →
+        IsHeld ACROSS p (rows_at x c y) r result }
 {
     if ACROSS { row } else { plus(row, below) }
 }
@@ -56,7 +57,7 @@ fn first_rows<const ACROSS: bool>(p: &Lines<'_>, x: usize, c: usize, y: usize) -
     requires small { (x ≤ 16392) × (y ≤ 16400) × (c ≤ 5) }
     requires columns { x + 13 ≤ p.now.width }
     requires rows { y + 5 ≤ p.now.height }
-    ensures { LastFive ACROSS p.now x c y result }
+    ensures { LastFive ACROSS p.now (rows_at x c y) result }
 {
     let f = row8::<ACROSS>(p, x, c, y, 0);
     let g = row8::<ACROSS>(p, x, c, y, 1);
@@ -79,8 +80,8 @@ fn next_row<const ACROSS: bool>(w: Window, p: &Lines<'_>, x: usize, c: usize, y:
     requires small { (x ≤ 16392) × (y ≤ 16400) × (c ≤ 5) }
     requires columns { x + 13 ≤ p.now.width }
     requires rows { y + 6 ≤ p.now.height }
-    requires above { LastFive ACROSS p.now x c y w }
-    ensures { AllSix ACROSS p.now x c y result }
+    requires above { LastFive ACROSS p.now (rows_at x c y) w }
+    ensures { AllSix ACROSS p.now (rows_at x c y) result }
 {
     let j = row8::<ACROSS>(p, x, c, y, 5);
     Window {
@@ -105,7 +106,7 @@ pub fn first_windows<const ACROSS: bool, const W: usize>(
     requires columns { x + 13 ≤ p.now.width }
     requires more_columns { 8 < W → x + 21 ≤ p.now.width }
     requires rows { y + 5 ≤ p.now.height }
-    ensures { LastFiveOfBoth ACROSS W p.now x c y result }
+    ensures { LastFiveOfBoth ACROSS W p.now (rows_at x c y) result }
 {
     let left = first_rows::<ACROSS>(p, x, c, y);
     if W > 8 {
@@ -129,8 +130,8 @@ pub fn next_windows<const ACROSS: bool, const W: usize>(
     requires columns { x + 13 ≤ p.now.width }
     requires more_columns { 8 < W → x + 21 ≤ p.now.width }
     requires rows { y + 6 ≤ p.now.height }
-    requires above { LastFiveOfBoth ACROSS W p.now x c y w }
-    ensures { AllSixOfBoth ACROSS W p.now x c y result }
+    requires above { LastFiveOfBoth ACROSS W p.now (rows_at x c y) w }
+    ensures { AllSixOfBoth ACROSS W p.now (rows_at x c y) result }
 {
     let left = next_row::<ACROSS>(w.left, p, x, c, y);
     if W > 8 {

@@ -5,6 +5,7 @@ use Rattle.h264_intra.specs.Sides.{beside, with_corner}
 use Rattle.h264_intra.specs.Slope.{plane, plane_sample, slope}
 use Rattle.h264_intra.specs.Luma16.{sides16, around16, chosen16, predicted16, dc16}
 use Rattle.h264_intra.specs.Chroma.{sides_chroma, around_chroma, chosen_chroma, predicted_chroma, block_dc}
+use Rattle.h264_intra.specs.declared.slope.Plane.{Plane as Slopes}
 use Rattle.h264_intra.specs.declared.luma16.Neighbours16.{Neighbours16}
 use Rattle.h264_intra.specs.declared.luma16.Intra16x16PredMode.TheVariants as luma
 use Rattle.h264_intra.specs.declared.chroma.NeighboursChroma.{NeighboursChroma}
@@ -43,57 +44,57 @@ plane8 (Some l) None c left above z corner m r s x y p q t i j k e f g = absurd 
 plane8 (Some l) (Some a) None left above z corner m r s x y p q t i j k e f g = absurd (false≢true t)
 
 -- what the code chose is the prediction: luma
-pub vertical16 : (n : Neighbours16) (left above z out : List ℕ) (flat : ℕ) (a b c : ℤ) → IsTrue (is_some n.above) → above ≡ unwrap_or n.above z →
-    HasSamples 16 out (chosen16 0 left above flat a b c) → HasSamples 16 out (predicted16 luma.Vertical (sides16 n) (around16 n))
+pub vertical16 : (n : Neighbours16) (left above z out : List ℕ) (flat : ℕ) (t : Slopes) → IsTrue (is_some n.above) → above ≡ unwrap_or n.above z →
+    HasSamples 16 out (chosen16 0 left above flat t) → HasSamples 16 out (predicted16 luma.Vertical (sides16 n) (around16 n))
 unfolding predicted16
-vertical16 n left above z out flat a b c p e has = record {
+vertical16 n left above z out flat t p e has = record {
   each = λ x y i j. has.each x y i j ∙ row_is n.left n.above n.corner above z p e x;
 }
 
-pub horizontal16 : (n : Neighbours16) (left above z out : List ℕ) (flat : ℕ) (a b c : ℤ) → IsTrue (is_some n.left) → left ≡ unwrap_or n.left z →
-    HasSamples 16 out (chosen16 1 left above flat a b c) → HasSamples 16 out (predicted16 luma.Horizontal (sides16 n) (around16 n))
+pub horizontal16 : (n : Neighbours16) (left above z out : List ℕ) (flat : ℕ) (t : Slopes) → IsTrue (is_some n.left) → left ≡ unwrap_or n.left z →
+    HasSamples 16 out (chosen16 1 left above flat t) → HasSamples 16 out (predicted16 luma.Horizontal (sides16 n) (around16 n))
 unfolding predicted16
-horizontal16 n left above z out flat a b c p e has = record {
+horizontal16 n left above z out flat t p e has = record {
   each = λ x y i j. has.each x y i j ∙ column_is n.left n.above n.corner left z p e y;
 }
 
-pub plane_whole16 : (n : Neighbours16) (left above z out : List ℕ) (corner : ℕ) (flat : ℕ) (a b c : ℤ) →
+pub plane_whole16 : (n : Neighbours16) (left above z out : List ℕ) (corner : ℕ) (flat : ℕ) (t : Slopes) →
     IsTrue (is_some n.above) → IsTrue (is_some n.left) → IsTrue (is_some n.corner) → left ≡ unwrap_or n.left z → above ≡ unwrap_or n.above z → corner ≡ unwrap_or n.corner 0 →
-    a ≡ pos (16 * (slice_index left 15 + slice_index above 15)) → b ≡ slope 8 (pos 5) (with_corner corner above) → c ≡ slope 8 (pos 5) (with_corner corner left) →
-    HasSamples 16 out (chosen16 3 left above flat a b c) → HasSamples 16 out (predicted16 luma.Plane (sides16 n) (around16 n))
+    t.a ≡ pos (16 * (slice_index left 15 + slice_index above 15)) → t.b ≡ slope 8 (pos 5) (with_corner corner above) → t.c ≡ slope 8 (pos 5) (with_corner corner left) →
+    HasSamples 16 out (chosen16 3 left above flat t) → HasSamples 16 out (predicted16 luma.Plane (sides16 n) (around16 n))
 unfolding predicted16
-plane_whole16 n left above z out corner flat a b c p q r e f g h i j has = record {
-  each = λ x y k l. has.each x y k l ∙ plane16 n.left n.above n.corner left above z corner a b c x y q p r e f g h i j;
+plane_whole16 n left above z out corner flat t p q r e f g h i j has = record {
+  each = λ x y k l. has.each x y k l ∙ plane16 n.left n.above n.corner left above z corner t.a t.b t.c x y q p r e f g h i j;
 }
 
 -- what the code chose is the prediction: chroma
-pub vertical_chroma : (n : NeighboursChroma) (left above z out : List ℕ) (flat : List ℕ) (a b c : ℤ) → IsTrue (is_some n.above) → above ≡ unwrap_or n.above z →
-    HasSamples 8 out (chosen_chroma 2 left above flat a b c) → HasSamples 8 out (predicted_chroma chroma.Vertical (sides_chroma n) (around_chroma n))
+pub vertical_chroma : (n : NeighboursChroma) (left above z out : List ℕ) (flat : List ℕ) (t : Slopes) → IsTrue (is_some n.above) → above ≡ unwrap_or n.above z →
+    HasSamples 8 out (chosen_chroma 2 left above flat t) → HasSamples 8 out (predicted_chroma chroma.Vertical (sides_chroma n) (around_chroma n))
 unfolding predicted_chroma
-vertical_chroma n left above z out flat a b c p e has = record {
+vertical_chroma n left above z out flat t p e has = record {
   each = λ x y i j. has.each x y i j ∙ row_is n.left n.above n.corner above z p e x;
 }
 
-pub horizontal_chroma : (n : NeighboursChroma) (left above z out : List ℕ) (flat : List ℕ) (a b c : ℤ) → IsTrue (is_some n.left) → left ≡ unwrap_or n.left z →
-    HasSamples 8 out (chosen_chroma 1 left above flat a b c) → HasSamples 8 out (predicted_chroma chroma.Horizontal (sides_chroma n) (around_chroma n))
+pub horizontal_chroma : (n : NeighboursChroma) (left above z out : List ℕ) (flat : List ℕ) (t : Slopes) → IsTrue (is_some n.left) → left ≡ unwrap_or n.left z →
+    HasSamples 8 out (chosen_chroma 1 left above flat t) → HasSamples 8 out (predicted_chroma chroma.Horizontal (sides_chroma n) (around_chroma n))
 unfolding predicted_chroma
-horizontal_chroma n left above z out flat a b c p e has = record {
+horizontal_chroma n left above z out flat t p e has = record {
   each = λ x y i j. has.each x y i j ∙ column_is n.left n.above n.corner left z p e y;
 }
 
-pub plane_whole_chroma : (n : NeighboursChroma) (left above z out : List ℕ) (corner : ℕ) (flat : List ℕ) (a b c : ℤ) →
+pub plane_whole_chroma : (n : NeighboursChroma) (left above z out : List ℕ) (corner : ℕ) (flat : List ℕ) (t : Slopes) →
     IsTrue (is_some n.above) → IsTrue (is_some n.left) → IsTrue (is_some n.corner) → left ≡ unwrap_or n.left z → above ≡ unwrap_or n.above z → corner ≡ unwrap_or n.corner 0 →
-    a ≡ pos (16 * (slice_index left 7 + slice_index above 7)) → b ≡ slope 4 (pos 34) (with_corner corner above) → c ≡ slope 4 (pos 34) (with_corner corner left) →
-    HasSamples 8 out (chosen_chroma 3 left above flat a b c) → HasSamples 8 out (predicted_chroma chroma.Plane (sides_chroma n) (around_chroma n))
+    t.a ≡ pos (16 * (slice_index left 7 + slice_index above 7)) → t.b ≡ slope 4 (pos 34) (with_corner corner above) → t.c ≡ slope 4 (pos 34) (with_corner corner left) →
+    HasSamples 8 out (chosen_chroma 3 left above flat t) → HasSamples 8 out (predicted_chroma chroma.Plane (sides_chroma n) (around_chroma n))
 unfolding predicted_chroma
-plane_whole_chroma n left above z out corner flat a b c p q r e f g h i j has = record {
-  each = λ x y k l. has.each x y k l ∙ plane8 n.left n.above n.corner left above z corner a b c x y q p r e f g h i j;
+plane_whole_chroma n left above z out corner flat t p q r e f g h i j has = record {
+  each = λ x y k l. has.each x y k l ∙ plane8 n.left n.above n.corner left above z corner t.a t.b t.c x y q p r e f g h i j;
 }
 
-pub flat16 : (n : Neighbours16) (left above out : List ℕ) (flat : ℕ) (a b c : ℤ) → flat ≡ dc16 (sides16 n) (around16 n) →
-    HasSamples 16 out (chosen16 2 left above flat a b c) → HasSamples 16 out (predicted16 luma.Dc (sides16 n) (around16 n))
+pub flat16 : (n : Neighbours16) (left above out : List ℕ) (flat : ℕ) (t : Slopes) → flat ≡ dc16 (sides16 n) (around16 n) →
+    HasSamples 16 out (chosen16 2 left above flat t) → HasSamples 16 out (predicted16 luma.Dc (sides16 n) (around16 n))
 unfolding predicted16
-flat16 n left above out flat a b c e has = record { each = λ x y i j. has.each x y i j ∙ e }
+flat16 n left above out flat t e has = record { each = λ x y i j. has.each x y i j ∙ e }
 
 -- the four blocks of a chroma plane
 by_two : (P : ℕ → Type 0) → P 0 → P 1 → (k : ℕ) → k < 2 → P k
@@ -110,11 +111,11 @@ block_is f a b c d p q r s i j k l =
     (by_two (λ u. slice_index xs (2 * 1 + u) ≡ f u 1) r s i k)
     j l
 
-pub flat_chroma : (n : NeighboursChroma) (left above out : List ℕ) (d e f g : ℕ) (a b c : ℤ) →
+pub flat_chroma : (n : NeighboursChroma) (left above out : List ℕ) (d e f g : ℕ) (t : Slopes) →
     d ≡ block_dc (sides_chroma n) (around_chroma n) 0 0 → e ≡ block_dc (sides_chroma n) (around_chroma n) 1 0 →
     f ≡ block_dc (sides_chroma n) (around_chroma n) 0 1 → g ≡ block_dc (sides_chroma n) (around_chroma n) 1 1 →
-    HasSamples 8 out (chosen_chroma 0 left above (d ∷ e ∷ f ∷ g ∷ []) a b c) → HasSamples 8 out (predicted_chroma chroma.Dc (sides_chroma n) (around_chroma n))
+    HasSamples 8 out (chosen_chroma 0 left above (d ∷ e ∷ f ∷ g ∷ []) t) → HasSamples 8 out (predicted_chroma chroma.Dc (sides_chroma n) (around_chroma n))
 unfolding predicted_chroma
-flat_chroma n left above out d e f g a b c p q r s has = record {
+flat_chroma n left above out d e f g t p q r s has = record {
   each = λ x y i j. has.each x y i j ∙ block_is (block_dc (sides_chroma n) (around_chroma n)) d e f g p q r s (x / 4) (y / 4) (omega arith) (omega arith);
 }

@@ -1,8 +1,10 @@
 -- Prediction of the 16x16 luma samples of a macroblock (8.3.3). To be read beside the standard.
-use Rattle.std.specs.Prelude.{ℕ, ◌+◌, Bool, true, ◌==◌, ◌&&◌, if◌then◌else◌, List, slice_index, is_some, ℤ, pos}
+use Rattle.std.specs.Prelude.{ℕ, ◌+◌, Bool, true, ◌==◌, ◌&&◌, if◌then◌else◌, List, slice_index, is_some, pos}
+use Rattle.h264_plane.specs.Places.{Grid}
 use Rattle.h264_intra.specs.Filters.{total, mean}
 use Rattle.h264_intra.specs.Sides.{Sides, beside}
 use Rattle.h264_intra.specs.Slope.{plane, plane_sample}
+use Rattle.h264_intra.specs.declared.slope.Plane.{Plane as Slopes}
 use Rattle.h264_intra.specs.declared.luma16.Neighbours16.{Neighbours16}
 use Rattle.h264_intra.specs.declared.luma16.Intra16x16PredMode.{Intra16x16PredMode}
 use Rattle.h264_intra.specs.declared.luma16.Intra16x16PredMode.TheVariants.{Vertical, Horizontal, Dc, Plane}
@@ -29,11 +31,11 @@ is_possible16 Dc s = true
 is_possible16 Plane s = s.above && s.left && s.corner
 
 -- the value of DC (8.3.3.3)
-abbrev pub dc16 : Sides → (ℕ → ℕ → ℕ) → ℕ
+abbrev pub dc16 : Sides → Grid → ℕ
 dc16 s p = mean 16 s.left s.above (total 16 (λ k. p 0 (k + 1))) (total 16 (λ k. p (k + 1) 0))
 
 -- the predicted sample at column x of row y
-unfoldable pub predicted16 : Intra16x16PredMode → Sides → (ℕ → ℕ → ℕ) → ℕ → ℕ → ℕ
+unfoldable pub predicted16 : Intra16x16PredMode → Sides → Grid → Grid
 predicted16 Vertical s p x y = p (x + 1) 0
 predicted16 Horizontal s p x y = p 0 (y + 1)
 predicted16 Dc s p x y = dc16 s p
@@ -47,10 +49,10 @@ sides16 n = record { left = is_some n.left; above = is_some n.above; corner = is
 abbrev pub around16 : Neighbours16 → ℕ → ℕ → ℕ
 around16 n = beside n.left n.above n.corner
 
--- what the code chooses by the mode's number (table 8-4)
-abbrev pub chosen16 : ℕ → List ℕ → List ℕ → ℕ → ℤ → ℤ → ℤ → ℕ → ℕ → ℕ
-chosen16 m left above flat a b c x y =
+-- what the code chooses by the mode's number (table 8-4); s are a, b and c of plane prediction
+abbrev pub chosen16 : ℕ → List ℕ → List ℕ → ℕ → Slopes → Grid
+chosen16 m left above flat s x y =
     if m == 0 then slice_index above x
     else if m == 1 then slice_index left y
     else if m == 2 then flat
-    else plane_sample 8 a b c x y
+    else plane_sample 8 s.a s.b s.c x y

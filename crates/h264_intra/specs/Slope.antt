@@ -1,6 +1,7 @@
 -- Plane prediction (8.3.3.4, 8.3.4.4), of a block of twice `half` rows and columns. To be read beside the standard.
 use Rattle.std.specs.Prelude.{ℕ, zero, suc, ◌+◌, ◌-◌, ◌*◌, ℤ, pos, ◌+ℤ◌, ◌-ℤ◌, ◌*ℤ◌}
 use Rattle.std.specs.Int.{int_shr}
+use Rattle.h264_plane.specs.Places.{Grid}
 use Rattle.h264_plane.specs.Clip.{clip1}
 
 -- the sum of f 0 to f (n - 1)
@@ -24,6 +25,6 @@ abbrev pub plane_sample : ℕ → ℤ → ℤ → ℤ → ℕ → ℕ → ℕ
 plane_sample half a b c x y =
     clip1 (int_shr (a +ℤ b *ℤ (pos x -ℤ pos (half - 1)) +ℤ c *ℤ (pos y -ℤ pos (half - 1)) +ℤ pos 16) 5)
 
-unfoldable pub plane : ℕ → ℤ → (ℕ → ℕ → ℕ) → ℕ → ℕ → ℕ
+unfoldable pub plane : ℕ → ℤ → Grid → Grid
 plane half weight p x y =
     plane_sample half (pos (16 * (p 0 (2 * half) + p (2 * half) 0))) (slope half weight (λ k. p k 0)) (slope half weight (λ k. p 0 k)) x y

@@ -113,7 +113,7 @@ fn sample<const MODE: u8>(
 ) -> u8
     requires place { (x < 8) × (y < 8) }
     requires gentle { IsGentle plane.a plane.b plane.c }
-    ensures { result ≡ chosen_chroma MODE left.now above.now flats.now plane.a plane.b plane.c x y }
+    ensures { result ≡ chosen_chroma MODE left.now above.now flats.now plane x y }
 {
     if MODE == 0 {
         flats[2 * (y / 4) + x / 4]
@@ -130,7 +130,7 @@ fn sample<const MODE: u8>(
 #[inline(always)]
 fn fill<const MODE: u8>(left: &[u8; 8], above: &[u8; 8], flats: &[u8; 4], plane: Plane) -> [u8; 64]
     requires { IsGentle plane.a plane.b plane.c }
-    ensures { HasSamples 8 result (chosen_chroma MODE left.now above.now flats.now plane.a plane.b plane.c) }
+    ensures { HasSamples 8 result (chosen_chroma MODE left.now above.now flats.now plane) }
 {
     let mut out = [0; 64];
     for y in 0..8 {

@@ -99,7 +99,7 @@ fn sample<const MODE: u8>(
 ) -> u8
     requires place { (x < 16) × (y < 16) }
     requires gentle { IsGentle plane.a plane.b plane.c }
-    ensures { result ≡ chosen16 MODE left.now above.now flat plane.a plane.b plane.c x y }
+    ensures { result ≡ chosen16 MODE left.now above.now flat plane x y }
 {
     if MODE == 0 {
         above[x]
@@ -116,7 +116,7 @@ fn sample<const MODE: u8>(
 #[inline(always)]
 fn fill<const MODE: u8>(left: &[u8; 16], above: &[u8; 16], flat: u8, plane: Plane) -> [u8; 256]
     requires { IsGentle plane.a plane.b plane.c }
-    ensures { HasSamples 16 result (chosen16 MODE left.now above.now flat plane.a plane.b plane.c) }
+    ensures { HasSamples 16 result (chosen16 MODE left.now above.now flat plane) }
 {
     let mut out = [0; 256];
     for y in 0..16 {

@@ -8,7 +8,7 @@ use Rattle.h264_marking.specs.declared.frame.Numbering.{Numbering}
 use Rattle.h264_lists.specs.declared.slot.RefSlot.{RefSlot}
 use Rattle.h264_lists.specs.declared.slot.RefSlot.TheVariants.{NoPicture, Held}
 use Rattle.h264_lists.specs.Initial.{comes_before, put_in_order, in_order, list_places, initial}
-use Rattle.h264_lists.specs.Modified.{pred_after, is_named, is_in, without_first, put_at, go_on, modified}
+use Rattle.h264_lists.specs.Modified.{pred_after, is_named, is_in, without_first, put_at, go_on, modified, source}
 use Rattle.h264_lists.specs.Built.{AreOf, built}
 
 module _ (P : ReferenceFrame → Type 0) where
@@ -88,7 +88,7 @@ module _ (P : ReferenceFrame → Type 0) where
   went-on None bit rest h = tt
   went-on (Some f) bit rest h = h f (λ i. Some f)
 
-  of-modified : (c : Numbering) (places : ℕ) (fs : List ReferenceFrame) (k : ℕ) (pred : ℤ) (ms : List PicNumModification) (slots : List RefSlot) → AllByRecursion P fs → AreOf P slots → IfOk (modified c places fs k pred ms slots) (AreOf P)
+  of-modified : (c : Numbering) (places : ℕ) (fs : List ReferenceFrame) (k : ℕ) (pred : ℤ) (ms : List PicNumModification) (slots : List RefSlot) → AllByRecursion P fs → AreOf P slots → IfOk (modified (source c places fs) k pred ms slots) (AreOf P)
   unfolding modified
   of-modified c places fs k pred [] slots h s = s
   of-modified c places fs k pred (m ∷ ms) slots h s = went-on _ m.bit _ (λ f e. of-modified c places fs (k + 1) (pred_after c pred m.modification) ms _ h (of-put places k (is_named c (pred_after c pred m.modification) m.modification) f slots (found (is_named c (pred_after c pred m.modification) m.modification) fs f h e) s))

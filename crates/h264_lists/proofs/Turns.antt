@@ -9,7 +9,7 @@ use Rattle.h264_marking.specs.declared.frame.ReferenceFrame.{ReferenceFrame}
 use Rattle.h264_marking.specs.declared.frame.Numbering.{Numbering}
 use Rattle.h264_lists.specs.declared.slot.RefSlot.{RefSlot}
 use Rattle.h264_lists.specs.declared.slot.RefSlot.TheVariants.{Held}
-use Rattle.h264_lists.specs.Modified.{IsWithin, pred_after, is_named, is_in, without_first, put_at, go_on, modified}
+use Rattle.h264_lists.specs.Modified.{IsWithin, pred_after, is_named, is_in, without_first, put_at, go_on, modified, source}
 use Rattle.h264_lists.proofs.Order.{prefix-short}
 
 pub within-more : (m n : ℕ) (z : ℤ) → m ≤ n → IsWithin m z → IsWithin n z
@@ -93,34 +93,34 @@ put-after named f slots k h =
 -- the list after one more modification
 abbrev pub turned : Numbering → ℕ → List ReferenceFrame → ℕ → ℤ → PicNumModification → List PicNumModification → List RefSlot → Result (List RefSlot) ℕ
 turned current places frames k now m ms slots =
-    go_on (find (is_named current now m.modification) frames) m.bit (λ f. modified current places frames (k + 1) now ms (put_at places k (is_named current now m.modification) f slots))
+    go_on (find (is_named current now m.modification) frames) m.bit (λ f. modified (source current places frames) (k + 1) now ms (put_at places k (is_named current now m.modification) f slots))
 
-turn-of : (current : Numbering) (places k : ℕ) (frames : List ReferenceFrame) (pred : ℤ) (m : PicNumModification) (ms : List PicNumModification) (slots : List RefSlot) → modified current places frames k pred (m ∷ ms) slots ≡ turned current places frames k (pred_after current pred m.modification) m ms slots
+turn-of : (current : Numbering) (places k : ℕ) (frames : List ReferenceFrame) (pred : ℤ) (m : PicNumModification) (ms : List PicNumModification) (slots : List RefSlot) → modified (source current places frames) k pred (m ∷ ms) slots ≡ turned current places frames k (pred_after current pred m.modification) m ms slots
 unfolding modified
 turn-of current places k frames pred m ms slots = refl
 
-turn-at : (current : Numbering) (places k : ℕ) (frames : List ReferenceFrame) (pred : ℤ) (ms : List PicNumModification) (d : PicNumModification) (slots : List RefSlot) → k < length ms → modified current places frames k pred (drop k ms) slots ≡ turned current places frames k (pred_after current pred (get_or ms k d).modification) (get_or ms k d) (drop (k + 1) ms) slots
+turn-at : (current : Numbering) (places k : ℕ) (frames : List ReferenceFrame) (pred : ℤ) (ms : List PicNumModification) (d : PicNumModification) (slots : List RefSlot) → k < length ms → modified (source current places frames) k pred (drop k ms) slots ≡ turned current places frames k (pred_after current pred (get_or ms k d).modification) (get_or ms k d) (drop (k + 1) ms) slots
 turn-at current places k frames pred ms d slots h =
-    ap (λ (l : List PicNumModification). modified current places frames k pred l slots) (drop_more ms k d h) ∙ turn-of current places k frames pred (get_or ms k d) (drop (k + 1) ms) slots
+    ap (λ (l : List PicNumModification). modified (source current places frames) k pred l slots) (drop_more ms k d h) ∙ turn-of current places k frames pred (get_or ms k d) (drop (k + 1) ms) slots
 
-pub turns-end : (current : Numbering) (places k : ℕ) (frames : List ReferenceFrame) (pred : ℤ) (ms : List PicNumModification) (slots : List RefSlot) → length ms ≤ k → modified current places frames k pred (drop k ms) slots ≡ Ok slots
+pub turns-end : (current : Numbering) (places k : ℕ) (frames : List ReferenceFrame) (pred : ℤ) (ms : List PicNumModification) (slots : List RefSlot) → length ms ≤ k → modified (source current places frames) k pred (drop k ms) slots ≡ Ok slots
 unfolding modified
 turns-end current places k frames pred ms slots h = rw (drop_all k ms h) refl
 
 turned-none : (current : Numbering) (places k : ℕ) (frames : List ReferenceFrame) (now : ℤ) (m : PicNumModification) (ms : List PicNumModification) (slots : List RefSlot) → None ≡ find (is_named current now m.modification) frames → Err m.bit ≡ turned current places frames k now m ms slots
-turned-none current places k frames now m ms slots e = ap (λ (o : Option ReferenceFrame). go_on o m.bit (λ f. modified current places frames (k + 1) now ms (put_at places k (is_named current now m.modification) f slots))) e
+turned-none current places k frames now m ms slots e = ap (λ (o : Option ReferenceFrame). go_on o m.bit (λ f. modified (source current places frames) (k + 1) now ms (put_at places k (is_named current now m.modification) f slots))) e
 
-turned-some : (current : Numbering) (places k : ℕ) (frames : List ReferenceFrame) (now : ℤ) (m : PicNumModification) (ms : List PicNumModification) (f : ReferenceFrame) (slots : List RefSlot) → Some f ≡ find (is_named current now m.modification) frames → modified current places frames (k + 1) now ms (put_at places k (is_named current now m.modification) f slots) ≡ turned current places frames k now m ms slots
-turned-some current places k frames now m ms f slots e = ap (λ (o : Option ReferenceFrame). go_on o m.bit (λ f. modified current places frames (k + 1) now ms (put_at places k (is_named current now m.modification) f slots))) e
+turned-some : (current : Numbering) (places k : ℕ) (frames : List ReferenceFrame) (now : ℤ) (m : PicNumModification) (ms : List PicNumModification) (f : ReferenceFrame) (slots : List RefSlot) → Some f ≡ find (is_named current now m.modification) frames → modified (source current places frames) (k + 1) now ms (put_at places k (is_named current now m.modification) f slots) ≡ turned current places frames k now m ms slots
+turned-some current places k frames now m ms f slots e = ap (λ (o : Option ReferenceFrame). go_on o m.bit (λ f. modified (source current places frames) (k + 1) now ms (put_at places k (is_named current now m.modification) f slots))) e
 
 -- the modification at k names no held frame; sent is what a function is given for now
-pub refused-at : (current : Numbering) (places k : ℕ) (frames : List ReferenceFrame) (pred now sent : ℤ) (ms : List PicNumModification) (d : PicNumModification) (slots : List RefSlot) (whole : Result (List RefSlot) ℕ) → k < length ms → modified current places frames k pred (drop k ms) slots ≡ whole → now ≡ pred_after current pred (get_or ms k d).modification → sent ≡ now → None ≡ find (is_named current sent (get_or ms k d).modification) frames → Err (get_or ms k d).bit ≡ whole
+pub refused-at : (current : Numbering) (places k : ℕ) (frames : List ReferenceFrame) (pred now sent : ℤ) (ms : List PicNumModification) (d : PicNumModification) (slots : List RefSlot) (whole : Result (List RefSlot) ℕ) → k < length ms → modified (source current places frames) k pred (drop k ms) slots ≡ whole → now ≡ pred_after current pred (get_or ms k d).modification → sent ≡ now → None ≡ find (is_named current sent (get_or ms k d).modification) frames → Err (get_or ms k d).bit ≡ whole
 refused-at current places k frames pred now sent ms d slots whole h so_far after same none =
     let named = rw (same ∙ after) at none in
     turned-none current places k frames (pred_after current pred (get_or ms k d).modification) (get_or ms k d) (drop (k + 1) ms) slots named ∙ sym (turn-at current places k frames pred ms d slots h) ∙ so_far
 
 -- it names one, which is put at k
-pub goes-on-at : (current : Numbering) (places k : ℕ) (frames : List ReferenceFrame) (pred now sent : ℤ) (ms : List PicNumModification) (d : PicNumModification) (slots new : List RefSlot) (f : ReferenceFrame) (whole : Result (List RefSlot) ℕ) → k < length ms → modified current places frames k pred (drop k ms) slots ≡ whole → now ≡ pred_after current pred (get_or ms k d).modification → sent ≡ now → Some f ≡ find (is_named current sent (get_or ms k d).modification) frames → length slots ≡ places → new ≡ put_at (length slots) k (is_named current sent (get_or ms k d).modification) f slots → modified current places frames (k + 1) sent (drop (k + 1) ms) new ≡ whole
+pub goes-on-at : (current : Numbering) (places k : ℕ) (frames : List ReferenceFrame) (pred now sent : ℤ) (ms : List PicNumModification) (d : PicNumModification) (slots new : List RefSlot) (f : ReferenceFrame) (whole : Result (List RefSlot) ℕ) → k < length ms → modified (source current places frames) k pred (drop k ms) slots ≡ whole → now ≡ pred_after current pred (get_or ms k d).modification → sent ≡ now → Some f ≡ find (is_named current sent (get_or ms k d).modification) frames → length slots ≡ places → new ≡ put_at (length slots) k (is_named current sent (get_or ms k d).modification) f slots → modified (source current places frames) (k + 1) sent (drop (k + 1) ms) new ≡ whole
 goes-on-at current places k frames pred now sent ms d slots new f whole h so_far after same some len put =
     let named = rw (same ∙ after) at some in
     rw (put, len, same ∙ after) (turned-some current places k frames (pred_after current pred (get_or ms k d).modification) (get_or ms k d) (drop (k + 1) ms) f slots named ∙ sym (turn-at current places k frames pred ms d slots h) ∙ so_far)

@@ -10,13 +10,13 @@ use Rattle.h264_marking.specs.declared.frame.Numbering.{Numbering}
 use Rattle.h264_lists.specs.declared.slot.RefSlot.{RefSlot}
 use Rattle.h264_lists.specs.declared.slot.RefSlot.TheVariants.{NoPicture, Held}
 use Rattle.h264_lists.specs.Initial.{list_places, initial}
-use Rattle.h264_lists.specs.Modified.{modified}
+use Rattle.h264_lists.specs.Modified.{modified, source}
 
 -- The list, or the bit of the first modification that names a frame that is not held.
 unfoldable pub built : Numbering → RefPicList0 → List ReferenceFrame → Result (List RefSlot) ℕ
 built current list frames =
     let places : ℕ = list_places list.num_ref_idx_l0_active in
-    modified current places frames 0 (pos current.frame_num) list.modifications.items (initial current places frames)
+    modified (source current places frames) 0 (pos current.frame_num) list.modifications.items (initial current places frames)
 
 -- this holds of each frame in these places
 abbrev pub AreOf : (ReferenceFrame → Type 0) → List RefSlot → Type 0

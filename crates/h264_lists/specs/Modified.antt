@@ -61,10 +61,19 @@ abbrev pub go_on : Option ReferenceFrame → ℕ → (ReferenceFrame → Result 
 go_on None bit rest = Err bit
 go_on (Some f) bit rest = rest f
 
+-- what a picture's reference list is made of: its numbering, the places of the list, and the frames that are held
+pub record ListSource : Type 0 where
+  pub current : Numbering
+  pub places : ℕ
+  pub frames : List ReferenceFrame
+
+abbrev pub source : Numbering → ℕ → List ReferenceFrame → ListSource
+source current places frames = record { current = current; places = places; frames = frames }
+
 -- The modifications in turn, the next one at index k, or the bit of the first that names a frame that is not held.
-unfoldable pub modified : Numbering → ℕ → List ReferenceFrame → ℕ → ℤ → List PicNumModification → List RefSlot → Result (List RefSlot) ℕ
-modified current places frames k pred [] slots = Ok slots
-modified current places frames k pred (m ∷ ms) slots =
-    go_on (find (is_named current (pred_after current pred m.modification) m.modification) frames) m.bit
-    (λ f. modified current places frames (k + 1) (pred_after current pred m.modification) ms
-    (put_at places k (is_named current (pred_after current pred m.modification) m.modification) f slots))
+unfoldable pub modified : ListSource → ℕ → ℤ → List PicNumModification → List RefSlot → Result (List RefSlot) ℕ
+modified s k pred [] slots = Ok slots
+modified s k pred (m ∷ ms) slots =
+    let now = pred_after s.current pred m.modification in
+    let named = is_named s.current now m.modification in
+    go_on (find named s.frames) m.bit (λ f. modified s (k + 1) now ms (put_at s.places k named f slots))

@@ -4,7 +4,7 @@
 ghost use Rattle.std.specs.Prelude.{◌≡◌, ℕ, ◌+◌, ◌-◌, ◌<◌, ◌≤◌, ◌++◌, pos, length, take, drop, remove, position};
 ghost use Rattle.std.specs.List.{find};
 ghost use Rattle.std.specs.Result.{result_map_both};
-ghost use Rattle.h264_lists.specs.Modified.{IsWithin, lowered, raised, pred_after, pic_num_of, is_named, is_in, without_first, put_at, modified};
+ghost use Rattle.h264_lists.specs.Modified.{IsWithin, lowered, raised, pred_after, pic_num_of, is_named, is_in, without_first, put_at, modified, source};
 ghost use Rattle.h264_lists.specs.Built.{list_answer};
 
 use crate::slot::RefSlot;
@@ -179,7 +179,7 @@ pub(crate) fn modify(
 ) -> Result<(), Stop>
     requires { length modifications.now ≤ 16 }
     ensures { result_map_both (λ _. slots.new) (λ stop. stop) result ≡ list_answer
-        (modified current.now (length slots.old.items) frames.now 0 (pos current.now.frame_num) modifications.now slots.old.items) }
+        (modified (source current.now (length slots.old.items) frames.now) 0 (pos current.now.frame_num) modifications.now slots.old.items) }
 {
     let mut no_wrap = current.frame_num as i64;
     for (k, command) in modifications.iter().enumerate() {

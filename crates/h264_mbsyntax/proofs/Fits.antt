@@ -10,7 +10,8 @@ use Rattle.h264_near.specs.Coded.{CodedMacroblock, column_of, row_of}
 use Rattle.h264_vectors.specs.declared.slice.SliceContext.{SliceContext}
 use Rattle.h264_vectors.specs.declared.part.Part.{Part}
 use Rattle.h264_vectors.specs.declared.part.Direction.TheVariants as direction
-use Rattle.h264_vectors.specs.Derived.{part, motion_of, in_part, is_inside, with_part, with_vector, derive, Derived, none_yet, sub_parts_of, vector_fits}
+use Rattle.h264_vectors.specs.Vectors.{part}
+use Rattle.h264_vectors.specs.Derived.{motion_of, in_part, is_inside, with_part, with_vector, derive, Derived, none_yet, sub_parts_of, vector_fits}
 use Rattle.h264_vectors.specs.Agrees.{places_with, places_after}
 use Rattle.h264_vectors.specs.Inter.{part_motion, part_motions, one_part, two_parts, quarters, split_parts, motions_by, motions, is_inferred}
 use Rattle.h264_vectors.proofs.Parts.{places-with, quarter0, quarter1, quarter2, quarter3}
@@ -141,7 +142,7 @@ module _ (width : ℕ) (slice : SliceContext) (picture : List CodedMacroblock) w
   good-at : (a b : List Bool) (d : Derived) → a ≡ b → Good a d → Good b d
   good-at a b d e g = (g.0 ∙ e, g.1)
 
-  gives-quarters : (t0 t1 t2 t3 i0 i1 i2 i3 : ℕ) → Gives (quarters width slice picture t0 t1 t2 t3 i0 i1 i2 i3) Same
+  gives-quarters : (t0 t1 t2 t3 i0 i1 i2 i3 : ℕ) → Gives (quarters width slice picture (t0 ∷ t1 ∷ t2 ∷ t3 ∷ []) (i0 ∷ i1 ∷ i2 ∷ i3 ∷ [])) Same
   unfolding quarters
   gives-quarters t0 t1 t2 t3 i0 i1 i2 i3 =
       gives-bind _ Same _ _ (gives-parts (replicate 16 false) i0 (sub_parts_of 0 0 t0) none_yet (apart0 t0) none-good) (λ d0 g0.

@@ -153,7 +153,7 @@ module _ (fits : CodedMacroblock → Bool) (width : ℕ) (slice : SliceContext) 
   unfolding unskipped
   gives-unskipped left picture s = gives-bind _ GoesOn _ _ (gives-any _) (λ a x. gives-bind _ GoesOn _ _ (gives-any _) (λ b y. gives-bind _ GoesOn _ _ (gives-macroblock width slice picture) (λ m n. gives-bind _ GoesOn _ _ (gives-any _) (λ c z. gives-done GoesOn _ (tt, one-more width slice before picture _ s n)))))
 
-  gives-after : (left : ℕ) (picture : List CodedMacroblock) (bit n : ℕ) → IsTrue (n == 0 || has_picture slice 0) → Slices picture → Gives (after_run fits width slice left picture bit n) GoesOn
+  gives-after : (left : ℕ) (picture : List CodedMacroblock) (bit n : ℕ) → IsTrue (n == 0 || has_picture slice 0) → Slices picture → Gives (after_run fits width slice left picture (Skipping bit n)) GoesOn
   unfolding after_run
   gives-after left picture bit zero h s = gives-unskipped left picture s
   gives-after left picture bit (suc k) h s = let z : (suc k == 0) ≡ false = grind (arith, nat_tests) in gives-skip picture bit k (rw z at h) s

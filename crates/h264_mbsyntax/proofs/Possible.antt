@@ -9,7 +9,7 @@ use Rattle.h264_base.specs.declared.mode.SliceType.{SliceType}
 use Rattle.h264_base.specs.declared.mode.SliceType.TheVariants as slice_type
 use Rattle.h264_base.specs.declared.stop.Stop.{Stop}
 use Rattle.h264_base.specs.declared.stop.Stop.TheVariants.{No, Outside, Memory, Read as ReadFailed, Write}
-use Rattle.h264_base.specs.Call.{Call}
+use Rattle.h264_base.specs.Call.{Call, span}
 use Rattle.h264_base.specs.Grammar.{Grammar}
 use Rattle.h264_base.specs.Meets.{Reader, Meets}
 use Rattle.h264_cavlc.proofs.Gives.{Gives, gives-done, gives-any, gives-bind, gives-check, gives-if}
@@ -31,7 +31,7 @@ use Rattle.h264_mbsyntax.specs.Possible.{HaveSides, HasChromaSides, Refers, IsPo
 
 -- ---- a property of what was read
 
-met-by : {X A S : Type 0} (took : S → List Call → Type 0) (failures : S → ℕ) (R R' : X → A → Type 0) (P : A → Type 0) (g : Grammar A) (old new : Reader) (s s' : S) (r : Result X Stop) → Gives g P → ((x : X) (v : A) → R x v → P v → R' x v) → Meets took failures R g old new s s' r → Meets took failures R' g old new s s' r
+met-by : {X A S : Type 0} (took : S → List Call → Type 0) (failures : S → ℕ) (R R' : X → A → Type 0) (P : A → Type 0) (g : Grammar A) (old new : Reader) (s s' : S) (r : Result X Stop) → Gives g P → ((x : X) (v : A) → R x v → P v → R' x v) → Meets (span took failures s s') R g old new r → Meets (span took failures s s') R' g old new r
 met-by took failures R R' P g old new s s' (Ok x) h k m = record { meets = (m.meets.0, k x m.meets.0 m.meets.1 (h.gives old.body old.at m.meets.0 new.at m.meets.2), m.meets.2, m.meets.3, m.meets.4); same = m.same }
 met-by took failures R R' P g old new s s' (Err (No bit rule)) h k m = record { meets = m.meets; same = m.same }
 met-by took failures R R' P g old new s s' (Err (Outside bit feature)) h k m = record { meets = m.meets; same = m.same }
@@ -117,7 +117,7 @@ module _ (width : ℕ) (slice : SliceContext) (picture : List CodedMacroblock) w
       go [] = tt
       go (n ∷ ns) = (refers-pick (is_inside p n) m (get_or motions n None) h (refers-at motions n a), go ns)
 
-  refers-derived : (d : Derived) (p : Part) (i : ℕ) (across down : _) → IsTrue (has_picture slice i) → Refer d → Refer (derive width slice picture d p i across down)
+  refers-derived : (d : Derived) (p : Part) (i : ℕ) (across down : _) → IsTrue (has_picture slice i) → Refer d → Refer (derive width slice picture d (record { place = p; ref_idx = i }) (record { across = across; down = down }))
   unfolding derive with_vector motion_of
   refers-derived d p i across down h a = refers-with d.motions p _ (named slice i (picture_of slice i) refl h) a
 
@@ -150,7 +150,7 @@ module _ (width : ℕ) (slice : SliceContext) (picture : List CodedMacroblock) w
   unfolding two_parts
   gives-two inferred p q h = gives-bind _ _ _ _ (gives-index inferred h) (λ i k. gives-bind _ _ _ _ (gives-index inferred h) (λ j l. gives-bind Refer Refer _ _ (gives-part p i none_yet k none-refers) (λ d a. gives-part q j d l a)))
 
-  gives-quarters : (t0 t1 t2 t3 i0 i1 i2 i3 : ℕ) → IsTrue (has_picture slice i0) → IsTrue (has_picture slice i1) → IsTrue (has_picture slice i2) → IsTrue (has_picture slice i3) → Gives (quarters width slice picture t0 t1 t2 t3 i0 i1 i2 i3) Refer
+  gives-quarters : (t0 t1 t2 t3 i0 i1 i2 i3 : ℕ) → IsTrue (has_picture slice i0) → IsTrue (has_picture slice i1) → IsTrue (has_picture slice i2) → IsTrue (has_picture slice i3) → Gives (quarters width slice picture (t0 ∷ t1 ∷ t2 ∷ t3 ∷ []) (i0 ∷ i1 ∷ i2 ∷ i3 ∷ [])) Refer
   unfolding quarters
   gives-quarters t0 t1 t2 t3 i0 i1 i2 i3 h0 h1 h2 h3 = gives-bind Refer Refer _ _ (gives-parts i0 (sub_parts_of 0 0 t0) none_yet h0 none-refers) (λ d0 a0. gives-bind Refer Refer _ _ (gives-parts i1 (sub_parts_of 2 0 t1) d0 h1 a0) (λ d1 a1. gives-bind Refer Refer _ _ (gives-parts i2 (sub_parts_of 0 2 t2) d1 h2 a1) (λ d2 a2. gives-parts i3 (sub_parts_of 2 2 t3) d2 h3 a2)))
 
@@ -180,5 +180,5 @@ module _ (width : ℕ) (slice : SliceContext) (picture : List CodedMacroblock) w
   unfolding macroblock
   possible = gives-bind _ _ _ _ (gives-any _) (λ kind k. gives-bind Possible _ _ _ (gives-type slice.slice_type _ _) (λ m h. gives-done _ _ h))
 
-pub met-read : {S : Type 0} {took : S → List Call → Type 0} {failures : S → ℕ} {old new : Reader} {s s' : S} {r : Result ℕ Stop} (width : ℕ) (slice : SliceContext) (picture : List CodedMacroblock) (mb : Macroblock) → Meets took failures (IsPlaced mb) (macroblock width slice picture) old new s s' r → Meets took failures (IsRead width slice picture mb) (macroblock width slice picture) old new s s' r
+pub met-read : {S : Type 0} {took : S → List Call → Type 0} {failures : S → ℕ} {old new : Reader} {s s' : S} {r : Result ℕ Stop} (width : ℕ) (slice : SliceContext) (picture : List CodedMacroblock) (mb : Macroblock) → Meets (span took failures s s') (IsPlaced mb) (macroblock width slice picture) old new r → Meets (span took failures s s') (IsRead width slice picture mb) (macroblock width slice picture) old new r
 met-read {took = took} {failures = failures} {old = old} {new = new} {s = s} {s' = s'} {r = r} width slice picture mb m = met-by took failures (IsPlaced mb) (IsRead width slice picture mb) _ (macroblock width slice picture) old new s s' r (possible width slice picture) (λ x v a p. record { placed = a.0; holds = a.1; possible = p }) m

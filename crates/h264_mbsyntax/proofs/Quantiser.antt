@@ -3,7 +3,7 @@ use Rattle.std.proofs.Common.{◌≡◌, ◌≢◌, ℕ, zero, suc, ◌-◌, Boo
 use Rattle.std.specs.List.{slice_get}
 use Rattle.h264_base.specs.declared.mode.SliceType.{SliceType}
 use Rattle.h264_base.specs.declared.stop.Stop.{Stop}
-use Rattle.h264_base.specs.Call.{Call}
+use Rattle.h264_base.specs.Call.{Call, span}
 use Rattle.h264_base.specs.Meets.{Reader, Meets}
 use Rattle.h264_near.specs.Coded.{CodedMacroblock}
 use Rattle.h264_near.proofs.Places.{seam}
@@ -20,11 +20,11 @@ predicted-next slice picture m e =
     let last : slice_get (picture ++ m ∷ []) (length (picture ++ m ∷ []) - 1) ≡ Some m = seam picture m [] _ (omega arith) in
     rw (some, last, eq-eqb m.slice slice.number e) refl
 
-pub next-typed : {X S : Type 0} {took : S → List Call → Type 0} {failures : S → ℕ} {R : X → Step → Type 0} {old new : Reader} {s s' : S} {r : Result X Stop} (t want : SliceType) (fits : CodedMacroblock → Bool) (width : ℕ) (slice : SliceContext) (left : ℕ) (picture : List CodedMacroblock) → t ≡ want → Meets took failures R (by_slice_type want fits width slice left picture) old new s s' r → Meets took failures R (by_slice_type t fits width slice left picture) old new s s' r
+pub next-typed : {X S : Type 0} {took : S → List Call → Type 0} {failures : S → ℕ} {R : X → Step → Type 0} {old new : Reader} {s s' : S} {r : Result X Stop} (t want : SliceType) (fits : CodedMacroblock → Bool) (width : ℕ) (slice : SliceContext) (left : ℕ) (picture : List CodedMacroblock) → t ≡ want → Meets (span took failures s s') R (by_slice_type want fits width slice left picture) old new r → Meets (span took failures s s') R (by_slice_type t fits width slice left picture) old new r
 next-typed t want fits width slice left picture e m = rw e m
 
 -- a run that has some macroblocks left
-pub after-some : (fits : CodedMacroblock → Bool) (width : ℕ) (slice : SliceContext) (left : ℕ) (picture : List CodedMacroblock) (bit n : ℕ) → n ≢ 0 → after_run fits width slice left picture bit n ≡ skip width slice picture bit (n - 1)
+pub after-some : (fits : CodedMacroblock → Bool) (width : ℕ) (slice : SliceContext) (left : ℕ) (picture : List CodedMacroblock) (bit n : ℕ) → n ≢ 0 → after_run fits width slice left picture (Skipping bit n) ≡ skip width slice picture bit (n - 1)
 unfolding after_run
 after-some fits width slice left picture bit zero h = absurd (h refl)
 after-some fits width slice left picture bit (suc n) h = let e : n ≡ suc n - 1 = omega arith in ap (λ k. skip width slice picture bit k) e

@@ -16,16 +16,14 @@ pub record HasCoefficients (mb : Macroblock) (v : Coefficients) : Type 0 where
   pub qp : mb.contexts.qp ≡ mb.qp
   pub sized : length mb.contexts.totals ≡ 16
   pub chroma_sized : length mb.contexts.chroma_totals ≡ 8
-  pub stored : StoredCoefficients mb.qp mb.contexts.totals mb.residual.luma mb.contexts.chroma_totals
-      mb.residual.chroma_ac mb.residual.chroma_dc_totals mb.residual.chroma_dc v
+  pub stored : StoredCoefficients mb v
 
 -- the same of an Intra 16x16 macroblock
 pub record HasCoefficients16 (mb : Macroblock) (v : Coefficients) : Type 0 where
   pub qp : mb.contexts.qp ≡ mb.qp
   pub sized : length mb.contexts.totals ≡ 16
   pub chroma_sized : length mb.contexts.chroma_totals ≡ 8
-  pub stored : StoredCoefficients16 mb.qp mb.residual.luma_dc_total mb.residual.luma_dc mb.contexts.totals mb.residual.luma_ac
-      mb.contexts.chroma_totals mb.residual.chroma_ac mb.residual.chroma_dc_totals mb.residual.chroma_dc v
+  pub stored : StoredCoefficients16 mb v
 
 -- what a macroblock says of its prediction stays
 pub record IsSame (old new : Macroblock) : Type 0 where

@@ -41,16 +41,17 @@ unskipped fits width slice left picture = do
   Done (Some (Next, picture ++ m.macroblock ∷ []))
 
 -- what follows mb_skip_run
-unfoldable pub after_run : (CodedMacroblock → Bool) → ℕ → SliceContext → ℕ → List CodedMacroblock → ℕ → ℕ → Grammar Step
-after_run fits width slice left picture bit zero = unskipped fits width slice left picture
-after_run fits width slice left picture bit (suc k) = skip width slice picture bit k
+unfoldable pub after_run : (CodedMacroblock → Bool) → ℕ → SliceContext → ℕ → List CodedMacroblock → Standing → Grammar Step
+after_run fits width slice left picture Next = unskipped fits width slice left picture
+after_run fits width slice left picture (Skipping bit zero) = unskipped fits width slice left picture
+after_run fits width slice left picture (Skipping bit (suc k)) = skip width slice picture bit k
 
 unfoldable pub run_of_skips : (CodedMacroblock → Bool) → ℕ → SliceContext → ℕ → List CodedMacroblock → Grammar Step
 run_of_skips fits width slice left picture = do
   run ← element MbSkipRun Unsigned
   _ ← check Range run.bit (nat_le (natural run.value) left)
   _ ← check NoReference run.bit (natural run.value == 0 || has_picture slice 0)
-  after_run fits width slice left picture run.bit (natural run.value)
+  after_run fits width slice left picture (Skipping run.bit (natural run.value))
 
 -- where more data follow
 unfoldable pub by_slice_type : SliceType → (CodedMacroblock → Bool) → ℕ → SliceContext → ℕ → List CodedMacroblock → Grammar Step

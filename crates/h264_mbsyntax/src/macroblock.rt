@@ -2,7 +2,7 @@
 #![tactic(auto)]
 
 ghost use Rattle.std.specs.Prelude.{◌≡◌, ℕ, ◌+◌, ◌-◌, ◌*◌, ◌/◌, ◌%◌, ◌<◌, ◌≤◌, ◌^◌, List, [], replicate, None, true, false, OnOk};
-ghost use Rattle.h264_base.specs.Call.{HasRoom, IsQuiet};
+ghost use Rattle.h264_base.specs.Call.{HasRoom, IsQuiet, span};
 ghost use Rattle.h264_base.specs.Meets.{Meets, Is, Answers};
 ghost use Rattle.h264_intra.specs.declared.luma4.Intra4x4PredMode.TheVariants.{Dc};
 ghost use Rattle.h264_near.specs.Coded.{CodedMacroblock};
@@ -176,8 +176,8 @@ fn read_intra4x4<S: Elements>(
     requires room { HasRoom S.failures sink.old }
     ensures meets { (width : ℕ) (picture : List CodedMacroblock) → Keeps width picture around.entry.near.now →
         qp ≡ syntax.predicted_qp around.entry.slice.now picture →
-        Meets S.took S.failures (λ _ m. HoldsMacroblock mb.new m) (syntax.intra4x4 width around.entry.slice.now picture)
-        bits.old bits.new sink.old sink.new result }
+        Meets (span S.took S.failures sink.old sink.new) (λ _ m. HoldsMacroblock mb.new m) (syntax.intra4x4 width around.entry.slice.now picture)
+        bits.old bits.new result }
     ensures quiet { OnOk result (IsQuiet S.failures sink.old sink.new) }
     ensures within { OnOk result (mb.new.qp ≤ 51) }
     ensures same { OnOk result (mb.new.contexts.slice ≡ around.entry.slice.now.number) }
@@ -201,7 +201,7 @@ fn read_pcm<S: Elements>(
 ) -> Result<(), Stop>
     requires { qp ≤ 51 }
     ensures meets { (picture : List CodedMacroblock) → qp ≡ syntax.predicted_qp slice.now picture →
-        Meets S.took S.failures (λ _ m. HoldsMacroblock mb.new m) (syntax.pcm slice.now picture) bits.old bits.new sink.old sink.new result }
+        Meets (span S.took S.failures sink.old sink.new) (λ _ m. HoldsMacroblock mb.new m) (syntax.pcm slice.now picture) bits.old bits.new result }
     ensures within { OnOk result (mb.new.qp ≤ 51) }
     ensures quiet { OnOk result (IsQuiet S.failures sink.old sink.new) }
     ensures same { OnOk result (mb.new.contexts.slice ≡ slice.now.number) }
@@ -245,8 +245,8 @@ fn read_intra16x16<S: Elements>(
     requires room { HasRoom S.failures sink.old }
     ensures meets { (width : ℕ) (picture : List CodedMacroblock) → Keeps width picture around.entry.near.now →
         qp ≡ syntax.predicted_qp around.entry.slice.now picture →
-        Meets S.took S.failures (λ _ m. HoldsMacroblock mb.new m) (syntax.intra16x16 width around.entry.slice.now picture mb_type.bit mb_type.value)
-        bits.old bits.new sink.old sink.new result }
+        Meets (span S.took S.failures sink.old sink.new) (λ _ m. HoldsMacroblock mb.new m)
+        (syntax.intra16x16 width around.entry.slice.now picture mb_type.bit mb_type.value) bits.old bits.new result }
     ensures quiet { OnOk result (IsQuiet S.failures sink.old sink.new) }
     ensures within { OnOk result (mb.new.qp ≤ 51) }
     ensures same { OnOk result (mb.new.contexts.slice ≡ around.entry.slice.now.number) }
@@ -281,8 +281,8 @@ fn read_inter<S: Elements>(
     requires room { HasRoom S.failures sink.old }
     ensures meets { (width : ℕ) (picture : List CodedMacroblock) → Keeps width picture around.entry.near.now →
         qp ≡ syntax.predicted_qp around.entry.slice.now picture →
-        Meets S.took S.failures (λ _ m. HoldsMacroblock mb.new m) (syntax.inter width around.entry.slice.now picture mb_type.bit mb_type.value)
-        bits.old bits.new sink.old sink.new result }
+        Meets (span S.took S.failures sink.old sink.new) (λ _ m. HoldsMacroblock mb.new m)
+        (syntax.inter width around.entry.slice.now picture mb_type.bit mb_type.value) bits.old bits.new result }
     ensures quiet { OnOk result (IsQuiet S.failures sink.old sink.new) }
     ensures within { OnOk result (mb.new.qp ≤ 51) }
     ensures same { OnOk result (mb.new.contexts.slice ≡ around.entry.slice.now.number) }
@@ -310,9 +310,8 @@ fn read_of_i<S: Elements>(
     requires room { HasRoom S.failures sink.old }
     ensures meets { (width : ℕ) (picture : List CodedMacroblock) → Keeps width picture around.entry.near.now →
         qp ≡ syntax.predicted_qp around.entry.slice.now picture →
-        Meets S.took S.failures (λ _ m. HoldsMacroblock mb.new m)
-        (syntax.by_type slice_type.I width around.entry.slice.now picture mb_type.bit mb_type.value)
-        bits.old bits.new sink.old sink.new result }
+        Meets (span S.took S.failures sink.old sink.new) (λ _ m. HoldsMacroblock mb.new m)
+        (syntax.by_type slice_type.I width around.entry.slice.now picture mb_type.bit mb_type.value) bits.old bits.new result }
     ensures quiet { OnOk result (IsQuiet S.failures sink.old sink.new) }
     ensures within { OnOk result (mb.new.qp ≤ 51) }
     ensures same { OnOk result (mb.new.contexts.slice ≡ around.entry.slice.now.number) }
@@ -341,9 +340,8 @@ fn read_by_type<S: Elements>(
     requires room { HasRoom S.failures sink.old }
     ensures meets { (width : ℕ) (picture : List CodedMacroblock) → Keeps width picture around.entry.near.now →
         qp ≡ syntax.predicted_qp around.entry.slice.now picture →
-        Meets S.took S.failures (λ _ m. HoldsMacroblock mb.new m)
-        (syntax.by_type around.entry.slice.now.slice_type width around.entry.slice.now picture mb_type.bit mb_type.value)
-        bits.old bits.new sink.old sink.new result }
+        Meets (span S.took S.failures sink.old sink.new) (λ _ m. HoldsMacroblock mb.new m)
+        (syntax.by_type around.entry.slice.now.slice_type width around.entry.slice.now picture mb_type.bit mb_type.value) bits.old bits.new result }
     ensures quiet { OnOk result (IsQuiet S.failures sink.old sink.new) }
     ensures within { OnOk result (mb.new.qp ≤ 51) }
     ensures same { OnOk result (mb.new.contexts.slice ≡ around.entry.slice.now.number) }
@@ -381,11 +379,11 @@ pub fn read_macroblock<S: Elements>(
     requires usable { Usable slice.now }
     requires room { HasRoom S.failures sink.old }
     ensures answers { (width : ℕ) (picture : List CodedMacroblock) → Keeps width picture near.now → qp ≡ syntax.predicted_qp slice.now picture →
-        Answers S.took S.failures (IsRead width slice.now picture mb.new)
-        (syntax.macroblock width slice.now picture) bits.old bits.new sink.old sink.new result }
+        Answers (span S.took S.failures sink.old sink.new) (IsRead width slice.now picture mb.new) (syntax.macroblock width slice.now picture)
+        bits.old bits.new result }
     ensures meets { (width : ℕ) (picture : List CodedMacroblock) → Keeps width picture near.now → qp ≡ syntax.predicted_qp slice.now picture →
-        Meets S.took S.failures (IsRead width slice.now picture mb.new)
-        (syntax.macroblock width slice.now picture) bits.old bits.new sink.old sink.new result }
+        Meets (span S.took S.failures sink.old sink.new) (IsRead width slice.now picture mb.new) (syntax.macroblock width slice.now picture)
+        bits.old bits.new result }
     ensures quiet { OnOk result (IsQuiet S.failures sink.old sink.new) }
     ensures within { OnOk result (mb.new.qp ≤ 51) }
     ensures same { OnOk result (mb.new.contexts.slice ≡ slice.now.number) }

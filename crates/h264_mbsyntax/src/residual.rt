@@ -2,7 +2,7 @@
 #![tactic(auto)]
 
 ghost use Rattle.std.specs.Prelude.{◌≡◌, ℕ, ℤ, pos, neg_ℤ, ◌≤ℤ◌, ◌+ℤ◌, ◌+◌, ◌-◌, ◌*◌, ◌/◌, ◌<◌, ◌≤◌, ◌^◌, List, [], OnOk, IfOk, get_or, take, length};
-ghost use Rattle.h264_base.specs.Call.{HasRoom, IsQuiet};
+ghost use Rattle.h264_base.specs.Call.{HasRoom, IsQuiet, span};
 ghost use Rattle.h264_base.specs.Meets.{Meets, Is};
 ghost use Rattle.h264_bits.specs.Forms.{natural};
 ghost use Rattle.h264_cavlc.specs.Block.{Block};
@@ -69,7 +69,7 @@ pub(crate) fn read_qp_delta<S: Elements>(
 ) -> Result<u8, Stop>
     requires predicted { predicted ≤ 51 }
     requires room { HasRoom S.failures sink.old }
-    ensures meets { Meets S.took S.failures (Is (λ x. x)) (syntax.qp_delta predicted) bits.old bits.new sink.old sink.new result }
+    ensures meets { Meets (span S.took S.failures sink.old sink.new) (Is (λ x. x)) (syntax.qp_delta predicted) bits.old bits.new result }
     ensures within { IfOk result (λ q. q ≤ 51) }
 {
     let delta = read_se(bits, ElementName::MbQpDelta, sink)?;
@@ -100,8 +100,8 @@ pub(crate) fn read_luma<const N: usize, S: Elements>(
     requires size { N ≤ 16 }
     requires room { HasRoom S.failures sink.old }
     ensures meets { (width : ℕ) (picture : List CodedMacroblock) → Keeps width picture around.entry.near.now →
-        Meets S.took S.failures (λ _ blocks. stored.Stored N 16 totals.new levels.new blocks)
-        (syntax.luma_blocks width picture around.entry.slice.now.number N pattern) bits.old bits.new sink.old sink.new result }
+        Meets (span S.took S.failures sink.old sink.new) (λ _ blocks. stored.Stored N 16 totals.new levels.new blocks)
+        (syntax.luma_blocks width picture around.entry.slice.now.number N pattern) bits.old bits.new result }
     ensures sized { length totals.new ≡ 16 }
     ensures quiet { OnOk result (IsQuiet S.failures sink.old sink.new) }
 {
@@ -127,8 +127,8 @@ fn read_chroma_dc<S: Elements>(
     sink: &mut S,
 ) -> Result<(), Stop>
     requires { HasRoom S.failures sink.old }
-    ensures { Meets S.took S.failures (λ _ blocks. stored.Stored 4 2 totals.new levels.new blocks)
-        (syntax.chroma_dc_if coded) bits.old bits.new sink.old sink.new result }
+    ensures { Meets (span S.took S.failures sink.old sink.new) (λ _ blocks. stored.Stored 4 2 totals.new levels.new blocks) (syntax.chroma_dc_if coded)
+        bits.old bits.new result }
 {
     if !coded {
         *totals = [0; 2];
@@ -151,8 +151,8 @@ fn read_all_ac<S: Elements>(
 ) -> Result<(), Stop>
     requires { HasRoom S.failures sink.old }
     ensures meets { (width : ℕ) (picture : List CodedMacroblock) → Keeps width picture around.entry.near.now →
-        Meets S.took S.failures (λ _ blocks. stored.Stored 15 8 totals.new levels.new blocks)
-        (syntax.chroma_blocks width picture around.entry.slice.now.number) bits.old bits.new sink.old sink.new result }
+        Meets (span S.took S.failures sink.old sink.new) (λ _ blocks. stored.Stored 15 8 totals.new levels.new blocks)
+        (syntax.chroma_blocks width picture around.entry.slice.now.number) bits.old bits.new result }
     ensures quiet { OnOk result (IsQuiet S.failures sink.old sink.new) }
 {
     let mut own = bits.again();
@@ -175,8 +175,8 @@ fn read_chroma<S: Elements>(
 ) -> Result<(), Stop>
     requires { HasRoom S.failures sink.old }
     ensures meets { (width : ℕ) (picture : List CodedMacroblock) → Keeps width picture around.entry.near.now →
-        Meets S.took S.failures (λ _ v. stored.StoredChroma totals.new residual.new.chroma_ac residual.new.chroma_dc_totals residual.new.chroma_dc v)
-        (syntax.chroma width picture around.entry.slice.now.number pattern) bits.old bits.new sink.old sink.new result }
+        Meets (span S.took S.failures sink.old sink.new) (λ _ v. stored.StoredChroma totals.new residual.new.chroma_ac residual.new.chroma_dc_totals
+        residual.new.chroma_dc v) (syntax.chroma width picture around.entry.slice.now.number pattern) bits.old bits.new result }
     ensures sized { length totals.new ≡ 8 }
     ensures luma { residual.new.luma ≡ residual.old.luma }
     ensures luma_ac { residual.new.luma_ac ≡ residual.old.luma_ac }
@@ -225,8 +225,8 @@ pub(crate) fn read_coefficients<S: Elements>(
     requires predicted { predicted_qp ≤ 51 }
     requires room { HasRoom S.failures sink.old }
     ensures meets { (width : ℕ) (picture : List CodedMacroblock) → Keeps width picture around.entry.near.now →
-        Meets S.took S.failures (λ _ v. HasCoefficients mb.new v)
-        (patterned table width picture around.entry.slice.now.number predicted_qp) bits.old bits.new sink.old sink.new result }
+        Meets (span S.took S.failures sink.old sink.new) (λ _ v. HasCoefficients mb.new v)
+        (patterned table width picture around.entry.slice.now.number predicted_qp) bits.old bits.new result }
     ensures within { OnOk result (mb.new.qp ≤ 51) }
     ensures quiet { OnOk result (IsQuiet S.failures sink.old sink.new) }
     ensures same { IsSame mb.old mb.new }
@@ -276,8 +276,8 @@ pub(crate) fn read_coefficients16<S: Elements>(
     requires predicted { predicted_qp ≤ 51 }
     requires room { HasRoom S.failures sink.old }
     ensures meets { (width : ℕ) (picture : List CodedMacroblock) → Keeps width picture around.entry.near.now →
-        Meets S.took S.failures (λ _ v. HasCoefficients16 mb.new v)
-        (syntax.coefficients16 width picture around.entry.slice.now.number predicted_qp pattern) bits.old bits.new sink.old sink.new result }
+        Meets (span S.took S.failures sink.old sink.new) (λ _ v. HasCoefficients16 mb.new v)
+        (syntax.coefficients16 width picture around.entry.slice.now.number predicted_qp pattern) bits.old bits.new result }
     ensures within { OnOk result (mb.new.qp ≤ 51) }
     ensures quiet { OnOk result (IsQuiet S.failures sink.old sink.new) }
     ensures same { IsSame mb.old mb.new }

@@ -11,7 +11,7 @@ use Rattle.h264_plane.specs.Places.{Agree}
 use Rattle.h264_plane.proofs.Raster.{raster, or_in, wrap_before}
 use Rattle.h264_plane.proofs.Raster.{side_least}
 use Rattle.h264_recon.proofs.Unique.{made_by_same, sides_before}
-use Rattle.h264_deblock.specs.Filtering.{PlaneEdges, edges_done, filtered_by}
+use Rattle.h264_deblock.specs.Filtering.{PlaneEdges, edges_done, filtered_by, unfiltered}
 use Rattle.h264_deblock.specs.Filtering.{Fits}
 use Rattle.h264_deblock.proofs.Macroblocks.{fresh, local_step, first_macroblock, next_macroblock, next_row}
 
@@ -59,7 +59,7 @@ made-carries k c r m u v inside within possible agree mu = record {
 -- ---- the filter depends on the edges of the macroblocks so far
 
 pub record Same (w n : ℕ) (chroma : Bool) (e f : ℕ → PlaneEdges) (s : ℕ → ℕ → ℕ) (c r : ℕ) : Type 0 where
-  pub each : ((a : ℕ) → a < r * w + c → e a ≡ f a) → Agree n w c r (filtered_by (r * w + c) w n chroma e s) (filtered_by (r * w + c) w n chroma f s)
+  pub each : ((a : ℕ) → a < r * w + c → e a ≡ f a) → Agree n w c r (filtered_by (r * w + c) (unfiltered w n chroma e s)) (filtered_by (r * w + c) (unfiltered w n chroma f s))
 
 pub same-edges : (w h n : ℕ) (chroma : Bool) (e f : ℕ → PlaneEdges) (s : ℕ → ℕ → ℕ) → n ≡ lines_of chroma → 4 ≤ n → Fits w h e → Fits w h f → (c r : ℕ) → c ≤ w → r < h → Same w n chroma e f s c r
 same-edges w h n chroma e f s en four fe ff c r i j =
@@ -68,16 +68,16 @@ same-edges w h n chroma e f s en four fe ff c r i j =
     (λ c r k m d. record {
       each = λ q.
           let before = d.each (λ a l. q a (omega arith)) in
-          let joined : Agree n w (c + 1) r (filtered_by (r * w + c) w n chroma e s) (filtered_by (r * w + c) w n chroma f s) =
+          let joined : Agree n w (c + 1) r (filtered_by (r * w + c) (unfiltered w n chroma e s)) (filtered_by (r * w + c) (unfiltered w n chroma f s)) =
           record {
             each = λ x y i b. ⊎_elim
                 (λ z. before.each x y i z)
                 (λ (a, (a', (b', b''))). (fresh w h n chroma e s en four fe c r (omega arith) m).each x y (b', inr a) ∙ sym ((fresh w h n chroma f s en four ff c r (omega arith) m).each x y (b', inr a)))
                 (or_in n c r x y b);
           } in
-          local_step w n chroma (e (r * w + c)) (filtered_by (r * w + c) w n chroma e s) (filtered_by (r * w + c) w n chroma f s) _ _ c r en four k (fe.each c r k m) joined
+          local_step w n chroma (e (r * w + c)) (filtered_by (r * w + c) (unfiltered w n chroma e s)) (filtered_by (r * w + c) (unfiltered w n chroma f s)) _ _ c r en four k (fe.each c r k m) joined
           (λ x y. next_macroblock w n chroma e s c r k x y)
-          (λ x y. next_macroblock w n chroma f s c r k x y ∙ ap (λ es. edges_done n chroma es c r (filtered_by (r * w + c) w n chroma f s) x y) (sym (q (r * w + c) (omega arith))));
+          (λ x y. next_macroblock w n chroma f s c r k x y ∙ ap (λ es. edges_done n chroma es c r (filtered_by (r * w + c) (unfiltered w n chroma f s)) x y) (sym (q (r * w + c) (omega arith))));
     })
     (λ r k d. record {
       each = λ q.

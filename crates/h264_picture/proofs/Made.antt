@@ -10,7 +10,7 @@ use Rattle.h264_near.specs.Keeps.{Keeps, width_of}
 use Rattle.h264_vectors.specs.declared.slice.SliceContext.{SliceContext}
 use Rattle.h264_mbsyntax.specs.Possible as read
 use Rattle.h264_recon.specs.Constructed.{Coded, IsPossible}
-use Rattle.h264_recon.specs.Given.{given}
+use Rattle.h264_recon.specs.Given.{given, slice_settings}
 use Rattle.h264_base.specs.declared.weight.Weights.{Weights}
 use Rattle.h264_recon.specs.Placed.{PointsInto, weights_by}
 use Rattle.h264_recon.specs.Pool.{IsShown, AreShown}
@@ -78,7 +78,7 @@ begun-holds width size old new v k a s n = record {
 
 -- what is given by the slice's parameters
 pub given-by : (across width : ℕ) (picture : List CodedMacroblock) (making : Making) (slice : Slice) (m : CodedMacroblock) (g : Coded) → across ≡ width → MakesSlice making slice → m.slice ≡ slice.context.number →
-    g ≡ given width picture making.place (weights_by slice.weights) slice.context.constrained_intra slice.context.chroma_qp_index_offset m → g ≡ given_by across picture making.place (making.slices m.slice) m
+    g ≡ given width picture making.place (slice_settings (weights_by slice.weights) slice.context.constrained_intra slice.context.chroma_qp_index_offset) m → g ≡ given_by across picture making.place (making.slices m.slice) m
 given-by across width picture making slice m g w h e is =
     let parameters : making.slices m.slice ≡ record { constrained_intra = slice.context.constrained_intra; filter = slice.filter; weights = weights_by slice.weights } = ap making.slices e ∙ h.parameters in
     rw (parameters, h.offset, w) is
@@ -88,7 +88,7 @@ filter-by making slice m h e = ap (λ (p : Parameters). p.filter) (ap making.sli
 
 -- its modes refer to sides that there are
 pub possible : (width : ℕ) (slice : SliceContext) (picture : List CodedMacroblock) (place : ℕ → ℕ) (weights : List (Option Weights)) (offset : ℤ) (m : CodedMacroblock) (c r : ℕ) (g : Coded) → length picture ≡ r * width + c → c < width → m.slice ≡ slice.number → read.IsPossible width slice picture m.prediction →
-    g ≡ given width picture place weights slice.constrained_intra offset m → IsPossible g.prediction g.available
+    g ≡ given width picture place (slice_settings weights slice.constrained_intra offset) m → IsPossible g.prediction g.available
 possible width slice picture place weights offset m c r g n i e h is = subst (λ (x : Coded). IsPossible x.prediction x.available) (sym is) (given-allowed width slice picture place weights offset m c r n i e h).possible
 
 -- a whole picture is decoded

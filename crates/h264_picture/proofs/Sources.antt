@@ -20,7 +20,7 @@ use Rattle.h264_scale.specs.declared.levels.Levels.{Levels}
 use Rattle.h264_inter.proofs.Depends.{luma_depends, chroma_depends}
 use Rattle.h264_inter.specs.Luma.{predicted_luma}
 use Rattle.h264_inter.specs.Chroma.{predicted_chroma}
-use Rattle.h264_recon.specs.Inter.{Setting, predicted_from, no_motion}
+use Rattle.h264_recon.specs.Inter.{Setting, predicted_from, no_motion, position_at}
 use Rattle.h264_recon.specs.Constructed.{Coded, window, predicted_inter, made_by, made, Constructed}
 use Rattle.h264_base.specs.declared.weight.Weights.{Weights}
 use Rattle.h264_recon.specs.Given.{available, used_by, motion_of, motions_of, prediction_of, weights_of, given}
@@ -31,7 +31,7 @@ use Rattle.h264_recon.specs.declared.macroblock.Motion.{Motion}
 use Rattle.h264_recon.proofs.Pool.{motion_inside, inside_some}
 use Rattle.h264_recon.proofs.Tables.{table-at}
 use Rattle.h264_deblock.specs.declared.slice_filter.SliceFilter.{SliceFilter}
-use Rattle.h264_deblock.specs.Filtering.{filtered_by, is_chroma}
+use Rattle.h264_deblock.specs.Filtering.{filtered_by, is_chroma, unfiltered}
 use Rattle.h264_deblock.specs.CodedEdges.{plane_qp, edge_of, border, inner, edges_along, coded_edges}
 use Rattle.h264_deblock.proofs.Macroblocks.{side_lines}
 use Rattle.h264_picture.specs.Decoded.{Parameters, filters, nothing, macroblock_at, edges_if, edges_at}
@@ -62,7 +62,7 @@ module _ (across down : ℕ) (s t : Sources) where
   motion-shared p c r x y (Some m) a b h = from-shared p (side p * across) (side p * down) _ _ (motion_of s.place (Some m)) (motion_of t.place (Some m)) x y (inside_some p c across a) (inside_some p r down b) refl (λ i j. h p i j)
 
   inter-shared : (c r : ℕ) (motions : List (Option derived.Motion)) (p : Component) (x y : ℕ) → c < across → r < down → x < side p → y < side p → AreSharedBy across down s t (coded.Inter motions) →
-      predicted_inter (setting s) c r (motions_of s.place motions) p x y ≡ predicted_inter (setting t) c r (motions_of t.place motions) p x y
+      predicted_inter (setting s) (position_at c r) (motions_of s.place motions) p x y ≡ predicted_inter (setting t) (position_at c r) (motions_of t.place motions) p x y
   unfolding predicted_inter motions_of
   inter-shared c r motions p x y a b i j h =
       let k = 4 * (4 * y / side p) + 4 * x / side p in
@@ -77,7 +77,7 @@ module _ (across down : ℕ) (s t : Sources) where
   with_prediction z a l ws prediction = record { available = a; prediction = prediction_of z.place prediction; levels = l; weights = ws }
 
   prediction-shared : (prediction : coded.Prediction) (a : Available) (l : Levels) (ws : List (Option Weights)) (c r : ℕ) (p : Component) (w : ℕ → ℕ → ℕ) (x y : ℕ) → c < across → r < down → x < side p → y < side p → AreSharedBy across down s t prediction →
-      made_by (prediction_of s.place prediction) (setting s) c r (with_prediction s a l ws prediction) p w x y ≡ made_by (prediction_of t.place prediction) (setting t) c r (with_prediction t a l ws prediction) p w x y
+      made_by (prediction_of s.place prediction) (setting s) (position_at c r) (with_prediction s a l ws prediction) p w x y ≡ made_by (prediction_of t.place prediction) (setting t) (position_at c r) (with_prediction t a l ws prediction) p w x y
   unfolding made_by prediction_of
   prediction-shared (coded.Intra4x4 modes chroma) a l ws c r p w x y i j u v h = refl
   prediction-shared (coded.Intra16x16 mode chroma) a l ws c r p w x y i j u v h = refl
@@ -86,7 +86,7 @@ module _ (across down : ℕ) (s t : Sources) where
 
   module _ (picture : List CodedMacroblock) (shared : AreShared across down s t picture) where
     macroblock-shared : (a : ℕ) → a < length picture → (c r : ℕ) (p : Component) (w : ℕ → ℕ → ℕ) (x y : ℕ) → c < across → r < down → x < side p → y < side p →
-        made (setting s) c r (macroblock_at s.slices s.place across picture a) p w x y ≡ made (setting t) c r (macroblock_at t.slices t.place across picture a) p w x y
+        made (setting s) (position_at c r) (macroblock_at s.slices s.place across picture a) p w x y ≡ made (setting t) (position_at c r) (macroblock_at t.slices t.place across picture a) p w x y
     unfolding macroblock_at given
     macroblock-shared a long c r p w x y i j u v =
         let m = get_or picture a nothing in
@@ -192,7 +192,7 @@ module _ (slices others : ℕ → Parameters) (width : ℕ) (picture : List Code
           coded-alike (filters slices) (filters others) (take a picture) (first-alike (filters slices) (filters others) picture a (omega arith) filters-alike) width m p (filters-alike a m e)
 
 filtered-alike : (k : Setting) (slices others : ℕ → Parameters) (picture : List CodedMacroblock) → ((a : ℕ) (m : CodedMacroblock) → slice_get picture a ≡ Some m → slices m.slice ≡ others m.slice) → (p : Component) (u : ℕ → ℕ → ℕ) (x y : ℕ) → x < side p * k.across → y < side p * k.down →
-    filtered_by (k.down * k.across) k.across (side p) (is_chroma p) (edges_at slices k.across picture p) u x y ≡ filtered_by (k.down * k.across) k.across (side p) (is_chroma p) (edges_at others k.across picture p) u x y
+    filtered_by (k.down * k.across) (unfiltered k.across (side p) (is_chroma p) (edges_at slices k.across picture p) u) x y ≡ filtered_by (k.down * k.across) (unfiltered k.across (side p) (is_chroma p) (edges_at others k.across picture p) u) x y
 filtered-alike k slices others picture all p u x y i j =
     let e = k.down - 1 in
     let some : 0 < k.down = ⊎_elim (λ (q : 0 < k.down). q) (λ (q : k.down ≤ 0). let z : k.down ≡ 0 = omega arith in let n = ap (λ d. side p * d) z in absurd (omega arith)) (cases_lt 0 k.down) in
@@ -200,9 +200,9 @@ filtered-alike k slices others picture all p u x y i j =
     let tall : side p * k.down ≡ side p * e + side p = ap (λ d. side p * d) is ∙ (omega arith) in
     let count : k.down * k.across ≡ e * k.across + k.across = ap (λ d. d * k.across) is ∙ (omega arith) in
     let done = (same-edges k.across k.down (side p) (is_chroma p) (edges_at slices k.across picture p) (edges_at others k.across picture p) u (side_lines p) (side_least p) (fits k slices picture p) (fits k others picture p) k.across e (omega arith) (omega arith)).each (λ a l. edges-alike slices others k.across picture all p a) in
-    ap (λ n. filtered_by n k.across (side p) (is_chroma p) (edges_at slices k.across picture p) u x y) count
+    ap (λ n. filtered_by n (unfiltered k.across (side p) (is_chroma p) (edges_at slices k.across picture p) u) x y) count
     ∙ done.each x y i (inr (omega arith, i))
-    ∙ ap (λ n. filtered_by n k.across (side p) (is_chroma p) (edges_at others k.across picture p) u x y) (sym count)
+    ∙ ap (λ n. filtered_by n (unfiltered k.across (side p) (is_chroma p) (edges_at others k.across picture p) u) x y) (sym count)
 
 -- ---- the picture
 

@@ -9,7 +9,7 @@ use Rattle.h264_vectors.specs.declared.slice.SliceContext.{SliceContext}
 use Rattle.std.proofs.lemmas.Bool.{eqb-true}
 use Rattle.h264_base.specs.declared.stop.Stop.{Stop}
 use Rattle.h264_base.specs.declared.stop.Stop.TheVariants.{No, Outside, Memory, Read, Write}
-use Rattle.h264_base.specs.Call.{Call}
+use Rattle.h264_base.specs.Call.{Call, span}
 use Rattle.h264_base.specs.Grammar.{Grammar}
 use Rattle.h264_base.specs.Meets.{Reader, Answers, Meets, MeetsBy}
 use Rattle.h264_base.specs.Body.{Body}
@@ -72,7 +72,7 @@ qp-first slice picture n p = go (nat_lt 0 (length picture)) (slice_get picture (
     go true None e = refl
     go true (Some m) e = other m (m.slice == slice.number) refl (p m e)
 
-none : {X A S : Type 0} (took : S → List Call → Type 0) (failures : S → ℕ) (R : X → A → Type 0) (g : Grammar A) (old new : Reader) (s s' : S) (r : Result X Stop) → Answers took failures R g old new s s' r → IsErrOf r Memory → ⊥
+none : {X A S : Type 0} (took : S → List Call → Type 0) (failures : S → ℕ) (R : X → A → Type 0) (g : Grammar A) (old new : Reader) (s s' : S) (r : Result X Stop) → Answers (span took failures s s') R g old new r → IsErrOf r Memory → ⊥
 none took failures R g old new s s' (Ok x) a e = absurd (cc)
 none took failures R g old new s s' (Err (No bit rule)) a e = absurd (cc)
 none took failures R g old new s s' (Err (Outside bit feature)) a e = absurd (cc)
@@ -81,11 +81,11 @@ none took failures R g old new s s' (Err Read) a e = a
 none took failures R g old new s s' (Err Write) a e = absurd (cc)
 
 -- an answer is no want of memory
-pub no-memory : {X A S : Type 0} {took : S → List Call → Type 0} {failures : S → ℕ} {R : X → A → Type 0} {g : Grammar A} {old new : Reader} {s s' : S} {r : Result X Stop} → Meets took failures R g old new s s' r → IsErrOf r Memory → ⊥
+pub no-memory : {X A S : Type 0} {took : S → List Call → Type 0} {failures : S → ℕ} {R : X → A → Type 0} {g : Grammar A} {old new : Reader} {s s' : S} {r : Result X Stop} → Meets (span took failures s s') R g old new r → IsErrOf r Memory → ⊥
 no-memory {took = took} {failures = failures} {R = R} {g = g} {old = old} {new = new} {s = s} {s' = s'} {r = r} m e = none took failures R g old new s s' r (answers m) e
 
 -- so many macroblocks are left
-pub left-is : {X S : Type 0} {took : S → List Call → Type 0} {failures : S → ℕ} {R : X → List CodedMacroblock → Type 0} {old new : Reader} {s s' : S} {r : Result X Stop} (a b : ℕ) (fits : CodedMacroblock → Bool) (width : ℕ) (slice : SliceContext) (standing : Standing) (picture : List CodedMacroblock) → a ≡ b → Meets took failures R (macroblocks fits width slice b standing picture) old new s s' r → Meets took failures R (macroblocks fits width slice a standing picture) old new s s' r
+pub left-is : {X S : Type 0} {took : S → List Call → Type 0} {failures : S → ℕ} {R : X → List CodedMacroblock → Type 0} {old new : Reader} {s s' : S} {r : Result X Stop} (a b : ℕ) (fits : CodedMacroblock → Bool) (width : ℕ) (slice : SliceContext) (standing : Standing) (picture : List CodedMacroblock) → a ≡ b → Meets (span took failures s s') R (macroblocks fits width slice b standing picture) old new r → Meets (span took failures s s') R (macroblocks fits width slice a standing picture) old new r
 left-is a b fits width slice standing picture e m = rw e m
 
 -- the frames stand where they stood
@@ -116,7 +116,7 @@ makes-with (Some making) slice samples base old values f w h = record {
   };
 }
 
-weaker-by : {X A S : Type 0} (took : S → List Call → Type 0) (failures : S → ℕ) (R R' : X → A → Type 0) (g : Grammar A) (body : Body) (i j : ℕ) (s s' : S) (r : Result X Stop) → ((x : X) (v : A) → R x v → R' x v) → MeetsBy took failures R g body i j s s' r → MeetsBy took failures R' g body i j s s' r
+weaker-by : {X A S : Type 0} (took : S → List Call → Type 0) (failures : S → ℕ) (R R' : X → A → Type 0) (g : Grammar A) (body : Body) (i j : ℕ) (s s' : S) (r : Result X Stop) → ((x : X) (v : A) → R x v → R' x v) → MeetsBy (span took failures s s') R g (record { body = body; at = i }) j r → MeetsBy (span took failures s s') R' g (record { body = body; at = i }) j r
 weaker-by took failures R R' g body i j s s' (Ok x) f m = (m.0, f x m.0 m.1, m.2, m.3, m.4)
 weaker-by took failures R R' g body i j s s' (Err (No bit rule)) f m = m
 weaker-by took failures R R' g body i j s s' (Err (Outside bit feature)) f m = m
@@ -125,7 +125,7 @@ weaker-by took failures R R' g body i j s s' (Err Read) f m = m
 weaker-by took failures R R' g body i j s s' (Err Write) f m = m
 
 -- what is said of the value may be less
-pub weaker : {X A S : Type 0} {took : S → List Call → Type 0} {failures : S → ℕ} {R R' : X → A → Type 0} {g : Grammar A} {old new : Reader} {s s' : S} {r : Result X Stop} → ((x : X) (v : A) → R x v → R' x v) → Meets took failures R g old new s s' r → Meets took failures R' g old new s s' r
+pub weaker : {X A S : Type 0} {took : S → List Call → Type 0} {failures : S → ℕ} {R R' : X → A → Type 0} {g : Grammar A} {old new : Reader} {s s' : S} {r : Result X Stop} → ((x : X) (v : A) → R x v → R' x v) → Meets (span took failures s s') R g old new r → Meets (span took failures s s') R' g old new r
 weaker {took = took} {failures = failures} {R = R} {R' = R'} {g = g} {old = old} {new = new} {s = s} {s' = s'} {r = r} f m = record { meets = weaker-by took failures R R' g old.body old.at new.at s s' r f m.meets; same = m.same }
 
 -- ---- macroblocks that are left

@@ -11,7 +11,7 @@ use Rattle.h264_recon.specs.Constructed.{IsPossible}
 use Rattle.h264_recon.proofs.Existence.{some_picture}
 use Rattle.h264_recon.proofs.Unique.{unique}
 use Rattle.h264_plane.proofs.Raster.{side_least}
-use Rattle.h264_deblock.specs.Filtering.{filtered_by, is_chroma}
+use Rattle.h264_deblock.specs.Filtering.{filtered_by, is_chroma, unfiltered}
 use Rattle.h264_deblock.proofs.Macroblocks.{local}
 use Rattle.h264_deblock.proofs.Macroblocks.{side_lines}
 use Rattle.h264_picture.specs.Decoded.{Parameters, macroblock_at, edges_at, IsDecoded}
@@ -36,9 +36,9 @@ one_decoded k place slices picture f g possible a b p x y i j =
     } in
     let done = (local k.across k.down (side p) (is_chroma p) (edges_at slices k.across picture p) (a.u p) (b.u p) (side_lines p) (side_least p) (fits k slices picture p) k.across e (omega arith) (omega arith)).each before in
     a.filtered p x y i j
-    ∙ ap (λ n. filtered_by n k.across (side p) (is_chroma p) (edges_at slices k.across picture p) (a.u p) x y) count
+    ∙ ap (λ n. filtered_by n (unfiltered k.across (side p) (is_chroma p) (edges_at slices k.across picture p) (a.u p)) x y) count
     ∙ done.each x y i (inr (omega arith, i))
-    ∙ ap (λ n. filtered_by n k.across (side p) (is_chroma p) (edges_at slices k.across picture p) (b.u p) x y) (sym count)
+    ∙ ap (λ n. filtered_by n (unfiltered k.across (side p) (is_chroma p) (edges_at slices k.across picture p) (b.u p)) x y) (sym count)
     ∙ sym (b.filtered p x y i j)
 
 pub some_decoded : (k : Setting) (place : ℕ → ℕ) (slices : ℕ → Parameters) (picture : List CodedMacroblock) → length picture ≡ k.down * k.across →
@@ -50,6 +50,6 @@ some_decoded k place slices picture whole possible =
       within = within-at k slices place picture c r d (let m = mul-le (r + 1) k.across k.down k.across (omega arith) (omega arith) in omega arith);
       possible = possible c r d e;
     }) in (
-      (λ p x y. filtered_by (k.down * k.across) k.across (side p) (is_chroma p) (edges_at slices k.across picture p) (s.0 p) x y),
+      (λ p x y. filtered_by (k.down * k.across) (unfiltered k.across (side p) (is_chroma p) (edges_at slices k.across picture p) (s.0 p)) x y),
       record { whole = whole; u = s.0; constructed = s.1; filtered = λ p x y i j. refl },
     )

@@ -8,9 +8,9 @@ use Rattle.h264_near.specs.Coded as coded
 use Rattle.h264_near.specs.Coded.{CodedMacroblock, no_residual}
 use Rattle.h264_recon.specs.Inter.{Setting}
 use Rattle.h264_recon.specs.Constructed.{Coded, Constructed}
-use Rattle.h264_recon.specs.Given.{given}
+use Rattle.h264_recon.specs.Given.{given, slice_settings}
 use Rattle.h264_deblock.specs.declared.slice_filter.SliceFilter.{SliceFilter}
-use Rattle.h264_deblock.specs.Filtering.{PlaneEdges, filtered_by, is_chroma}
+use Rattle.h264_deblock.specs.Filtering.{PlaneEdges, filtered_by, is_chroma, unfiltered}
 use Rattle.h264_deblock.specs.CodedEdges.{coded_edges}
 
 -- what the samples of a slice's macroblocks depend on beside these: constrained_intra_pred_flag, its filter with chroma_qp_index_offset, and the weights
@@ -25,7 +25,7 @@ filters slices n = (slices n).filter
 
 -- the macroblock m of a slice with these parameters, after these macroblocks
 abbrev pub given_by : ℕ → List CodedMacroblock → (ℕ → ℕ) → Parameters → CodedMacroblock → Coded
-given_by width picture place s m = given width picture place s.weights s.constrained_intra s.filter.chroma_qp_index_offset m
+given_by width picture place s m = given width picture place (slice_settings s.weights s.constrained_intra s.filter.chroma_qp_index_offset) m
 
 -- what stands where no macroblock is
 abbrev pub nothing : CodedMacroblock
@@ -50,4 +50,4 @@ pub record IsDecoded (k : Setting) (place : ℕ → ℕ) (slices : ℕ → Param
   pub u : Component → ℕ → ℕ → ℕ
   pub constructed : Constructed k (macroblock_at slices place k.across picture) u
   pub filtered : (p : Component) (x y : ℕ) → x < side p * k.across → y < side p * k.down →
-      final p x y ≡ filtered_by (k.down * k.across) k.across (side p) (is_chroma p) (edges_at slices k.across picture p) (u p) x y
+      final p x y ≡ filtered_by (k.down * k.across) (unfiltered k.across (side p) (is_chroma p) (edges_at slices k.across picture p) (u p)) x y

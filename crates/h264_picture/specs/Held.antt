@@ -9,7 +9,7 @@ use Rattle.h264_recon.specs.Inter.{Setting}
 use Rattle.h264_recon.specs.Constructed.{Coded, IsMade, IsPossible}
 use Rattle.h264_recon.specs.Lines.{AreStored}
 use Rattle.h264_recon.specs.declared.store.Lines.{Lines}
-use Rattle.h264_deblock.specs.Filtering.{PlaneEdges, IsOf, IsReached, is_chroma}
+use Rattle.h264_deblock.specs.Filtering.{PlaneEdges, IsOf, IsReached, is_chroma, unfiltered}
 use Rattle.h264_picture.specs.Decoded.{Parameters, macroblock_at, edges_at}
 
 -- the macroblock meets its equations, and its modes refer to sides that there are
@@ -19,7 +19,7 @@ pub record IsSolved (k : Setting) (c r : ℕ) (m : Coded) (u : Component → ℕ
 
 -- the planes hold u, filtered by the macroblocks before the one at column c and row r, at the places of these
 abbrev pub AreReached : Setting → (Component → ℕ → PlaneEdges) → (Component → ℕ → ℕ → ℕ) → ℕ → ℕ → Frame → Type 0
-AreReached k all u c r f = (p : Component) → IsReached k.across (side p) (is_chroma p) (all p) (u p) c r (plane_of p f)
+AreReached k all u c r f = (p : Component) → IsReached (unfiltered k.across (side p) (is_chroma p) (all p) (u p)) c r (plane_of p f)
 
 -- After these macroblocks there are samples u that meet the equations so far. The lines hold u round the next macroblock, and the frame holds u,
 -- filtered by the edges so far, at the places of the macroblocks so far.

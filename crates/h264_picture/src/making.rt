@@ -9,7 +9,7 @@ ghost use Rattle.h264_deblock.specs.Steps.{MovesBy};
 ghost use Rattle.h264_mbsyntax.specs.Holds.{HoldsMacroblock};
 ghost use Rattle.h264_mbsyntax.specs.Possible.{IsPossible};
 ghost use Rattle.h264_recon.specs.Constructed.{coded as coded_as};
-ghost use Rattle.h264_recon.specs.Given.{given as given_of};
+ghost use Rattle.h264_recon.specs.Given.{given as given_of, slice_settings};
 ghost use Rattle.h264_recon.specs.Levels.{levels_of};
 ghost use Rattle.h264_recon.specs.Placed.{ArePlaced, PointsInto, weights_by};
 ghost use Rattle.h264_recon.specs.Predicted.{prediction_in};
@@ -63,7 +63,7 @@ fn given_within<'a>(
         HoldsMacroblock read.now coded → coded.slice ≡ slice.now.number → IsPossible width slice.now picture coded.prediction →
         length slice.now.references ≡ 16 → ArePlaced slice.now references.now.places.now place →
         coded_as result (levels_of slice.now.chroma_qp_index_offset coded) ≡ given_of width picture place
-        (weights_by references.now.weights.now) slice.now.constrained_intra slice.now.chroma_qp_index_offset coded }
+        (slice_settings (weights_by references.now.weights.now) slice.now.constrained_intra slice.now.chroma_qp_index_offset) coded }
 {
     let mut m = given(read, near, slice, references, position);
     m.available = within_row(m.available, across, position.column);

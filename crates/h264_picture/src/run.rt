@@ -9,7 +9,7 @@ use h264_mbsyntax::Standing;
 
 impl Sequence {
     ghost use Rattle.std.specs.Prelude.{◌≡◌, ℕ, ◌+◌, ◌-◌, ◌<◌, ◌≤◌, ◌^◌, Option, List, OnOk};
-    ghost use Rattle.h264_base.specs.Call.{HasRoom};
+    ghost use Rattle.h264_base.specs.Call.{HasRoom, span};
     ghost use Rattle.h264_base.specs.Meets.{Meets};
     ghost use Rattle.h264_near.specs.Coded.{CodedMacroblock};
     ghost use Rattle.h264_mbsyntax.specs.declared.slice.Standing.TheVariants as standings;
@@ -32,9 +32,9 @@ impl Sequence {
         requires places { ArePlaces self.old.frames slice.now.places }
         requires room { HasRoom S.failures sink.old }
         ensures meets { (width size : ℕ) (making : Option Making) (picture : List CodedMacroblock) →
-            Reads width size making slice.now picture self.old → Meets S.took S.failures (λ _ after. HoldsMade width size making after self.new)
-            (syntax.macroblocks (transform_fits slice.now.context) width slice.now.context left standings.Next picture)
-            bits.old bits.new sink.old sink.new result }
+            Reads width size making slice.now picture self.old → Meets (span S.took S.failures sink.old sink.new)
+            (λ _ after. HoldsMade width size making after self.new) (syntax.macroblocks (transform_fits slice.now.context) width slice.now.context left
+            standings.Next picture) bits.old bits.new result }
         ensures quiet { OnOk result (S.failures sink.new ≡ S.failures sink.old) }
         ensures same { KeepsPlace self.old self.new }
     {

@@ -2,7 +2,7 @@
 #![tactic(auto)]
 
 ghost use Rattle.std.specs.Prelude.{◌≤◌};
-ghost use Rattle.h264_base.specs.Call.{HasRoom, IsQuiet};
+ghost use Rattle.h264_base.specs.Call.{HasRoom, IsQuiet, span};
 ghost use Rattle.h264_picture.specs.Sound.{IsSound};
 
 use crate::buffer::buffer_size;
@@ -126,8 +126,8 @@ impl Sequence {
         requires room { HasRoom S.failures sink.old }
         ensures meets { (width size : ℕ) (making : Option Making) (picture : List CodedMacroblock) → HoldsMade width size making picture self.old →
             context.now.number ≡ length picture → MakesWith making context.now samples.now base self.old →
-            Meets S.took S.failures (λ _ after. HoldsMade width size making after self.new)
-            (slice_data (transform_fits context.now) width size context.now picture) bits.old bits.new sink.old sink.new result }
+            Meets (span S.took S.failures sink.old sink.new) (λ _ after. HoldsMade width size making after self.new)
+            (slice_data (transform_fits context.now) width size context.now picture) bits.old bits.new result }
         ensures quiet { OnOk result (IsQuiet S.failures sink.old sink.new) }
         ensures frames { self.old.frames.begun ≡ true → KeepsLent self.old.frames self.new.frames }
         ensures same { KeepsPlace self.old self.new }

@@ -2,7 +2,7 @@
 #![tactic(auto)]
 
 ghost use Rattle.std.specs.Prelude.{◌≡◌, ◌+◌, ◌*◌, ◌<◌, ◌≤◌, ◌==◌, ◌||◌};
-ghost use Rattle.h264_base.specs.Call.{HasRoom, IsQuiet};
+ghost use Rattle.h264_base.specs.Call.{HasRoom, IsQuiet, span};
 ghost use Rattle.h264_vectors.specs.Derived.{has_picture as has_picture_of};
 
 use crate::sequence::Sequence;
@@ -132,9 +132,9 @@ impl Sequence {
         requires places { ArePlaces self.old.frames slice.now.places }
         requires room { HasRoom S.failures sink.old }
         ensures meets { (width size : ℕ) (making : Option Making) (picture : List CodedMacroblock) →
-            Reads width size making slice.now picture self.old → Meets S.took S.failures
+            Reads width size making slice.now picture self.old → Meets (span S.took S.failures sink.old sink.new)
             (syntax.Goes (λ p. Reads width size making slice.now p self.new) picture)
-            (syntax.unskipped (transform_fits slice.now.context) width slice.now.context left picture) bits.old bits.new sink.old sink.new result }
+            (syntax.unskipped (transform_fits slice.now.context) width slice.now.context left picture) bits.old bits.new result }
         ensures quiet { OnOk result (IsQuiet S.failures sink.old sink.new) }
         ensures within { OnOk result (self.new.mb.qp ≤ 51) }
         ensures moves { IfOk result (Moves left self.old.picture.next self.new.picture.next) }
@@ -174,9 +174,9 @@ impl Sequence {
         requires left { self.old.picture.next + left ≤ self.old.size }
         requires places { ArePlaces self.old.frames slice.now.places }
         ensures meets { (width size : ℕ) (making : Option Making) (picture : List CodedMacroblock) →
-            Reads width size making slice.now picture self.old → Meets S.took S.failures
-            (syntax.Goes (λ p. Reads width size making slice.now p self.new) picture)
-            (syntax.skip width slice.now.context picture skips.bit skips.more) bits.now bits.now sink.now sink.now result }
+            Reads width size making slice.now picture self.old → Meets (span S.took S.failures sink.now sink.now)
+            (syntax.Goes (λ p. Reads width size making slice.now p self.new) picture) (syntax.skip width slice.now.context picture skips.bit skips.more)
+            bits.now bits.now result }
         ensures within { OnOk result (self.new.mb.qp ≤ 51) }
         ensures moves { IfOk result (Moves left self.old.picture.next self.new.picture.next) }
         ensures size { self.new.size ≡ self.old.size }
@@ -209,9 +209,9 @@ impl Sequence {
         requires places { ArePlaces self.old.frames slice.now.places }
         requires room { HasRoom S.failures sink.old }
         ensures meets { (width size : ℕ) (making : Option Making) (picture : List CodedMacroblock) →
-            Reads width size making slice.now picture self.old → Meets S.took S.failures
+            Reads width size making slice.now picture self.old → Meets (span S.took S.failures sink.old sink.new)
             (syntax.Goes (λ p. Reads width size making slice.now p self.new) picture)
-            (syntax.run_of_skips (transform_fits slice.now.context) width slice.now.context left picture) bits.old bits.new sink.old sink.new result }
+            (syntax.run_of_skips (transform_fits slice.now.context) width slice.now.context left picture) bits.old bits.new result }
         ensures quiet { OnOk result (IsQuiet S.failures sink.old sink.new) }
         ensures within { OnOk result (self.new.mb.qp ≤ 51) }
         ensures moves { IfOk result (Moves left self.old.picture.next self.new.picture.next) }
@@ -249,9 +249,9 @@ impl Sequence {
         requires places { ArePlaces self.old.frames slice.now.places }
         requires room { HasRoom S.failures sink.old }
         ensures meets { (width size : ℕ) (making : Option Making) (picture : List CodedMacroblock) →
-            Reads width size making slice.now picture self.old → Meets S.took S.failures
+            Reads width size making slice.now picture self.old → Meets (span S.took S.failures sink.old sink.new)
             (syntax.Goes (λ p. Reads width size making slice.now p self.new) picture)
-            (syntax.next (transform_fits slice.now.context) width slice.now.context left picture standings.Next) bits.old bits.new sink.old sink.new result }
+            (syntax.next (transform_fits slice.now.context) width slice.now.context left picture standings.Next) bits.old bits.new result }
         ensures quiet { OnOk result (IsQuiet S.failures sink.old sink.new) }
         ensures within { OnOk result (self.new.mb.qp ≤ 51) }
         ensures moves { IfOk result (Moves left self.old.picture.next self.new.picture.next) }
@@ -283,10 +283,9 @@ impl Sequence {
         requires places { ArePlaces self.old.frames slice.now.places }
         requires room { HasRoom S.failures sink.old }
         ensures meets { (width size : ℕ) (making : Option Making) (picture : List CodedMacroblock) →
-            Reads width size making slice.now picture self.old → Meets S.took S.failures
+            Reads width size making slice.now picture self.old → Meets (span S.took S.failures sink.old sink.new)
             (syntax.Goes (λ p. Reads width size making slice.now p self.new) picture)
-            (syntax.next (transform_fits slice.now.context) width slice.now.context left picture (standings.Skipping bit 0))
-            bits.old bits.new sink.old sink.new result }
+            (syntax.next (transform_fits slice.now.context) width slice.now.context left picture (standings.Skipping bit 0)) bits.old bits.new result }
         ensures quiet { OnOk result (IsQuiet S.failures sink.old sink.new) }
         ensures within { OnOk result (self.new.mb.qp ≤ 51) }
         ensures moves { IfOk result (Moves left self.old.picture.next self.new.picture.next) }
@@ -318,9 +317,9 @@ impl Sequence {
         requires places { ArePlaces self.old.frames slice.now.places }
         requires room { HasRoom S.failures sink.old }
         ensures meets { (width size : ℕ) (making : Option Making) (picture : List CodedMacroblock) →
-            Reads width size making slice.now picture self.old → Meets S.took S.failures
+            Reads width size making slice.now picture self.old → Meets (span S.took S.failures sink.old sink.new)
             (syntax.Goes (λ p. Reads width size making slice.now p self.new) picture)
-            (syntax.next (transform_fits slice.now.context) width slice.now.context left picture standing) bits.old bits.new sink.old sink.new result }
+            (syntax.next (transform_fits slice.now.context) width slice.now.context left picture standing) bits.old bits.new result }
         ensures quiet { OnOk result (IsQuiet S.failures sink.old sink.new) }
         ensures within { OnOk result (self.new.mb.qp ≤ 51) }
         ensures moves { IfOk result (Moves left self.old.picture.next self.new.picture.next) }

@@ -2,7 +2,7 @@
 #![tactic(auto)]
 
 ghost use Rattle.std.specs.Prelude.{◌≡◌, ◌%◌, ◌≤◌};
-ghost use Rattle.h264_base.specs.Call.{HasRoom, IsQuiet};
+ghost use Rattle.h264_base.specs.Call.{HasRoom, IsQuiet, span};
 ghost use Rattle.std.specs.Option.{option_map};
 ghost use Rattle.h264_picture.specs.declared.sequence.Sequence.{Sequence as SequenceModel};
 
@@ -198,15 +198,15 @@ impl Work {
         requires qp { slice.now.qp ≤ 51 }
         requires room { HasRoom S.failures sink.old }
         ensures answers { (width size : ℕ) (picture : List CodedMacroblock) → HoldsMacroblocks width size picture self.old → slice.now.number ≡ length picture →
-            Answers S.took S.failures (λ _ after. HoldsMacroblocks width size after self.new)
-            (slice_data (transform_fits slice.now) width size slice.now picture) bits.old bits.new sink.old sink.new result }
+            Answers (span S.took S.failures sink.old sink.new) (λ _ after. HoldsMacroblocks width size after self.new)
+            (slice_data (transform_fits slice.now) width size slice.now picture) bits.old bits.new result }
         ensures meets { (width size : ℕ) (picture : List CodedMacroblock) → HoldsMacroblocks width size picture self.old → slice.now.number ≡ length picture →
-            Meets S.took S.failures (λ _ after. HoldsMacroblocks width size after self.new)
-            (slice_data (transform_fits slice.now) width size slice.now picture) bits.old bits.new sink.old sink.new result }
+            Meets (span S.took S.failures sink.old sink.new) (λ _ after. HoldsMacroblocks width size after self.new)
+            (slice_data (transform_fits slice.now) width size slice.now picture) bits.old bits.new result }
         ensures samples { (width size : ℕ) (making : Making) (picture : List CodedMacroblock) → HoldsSamples width size making picture self.old →
             slice.now.number ≡ length picture → IsSliceOf making slice.now samples.now self.old →
-            Meets S.took S.failures (λ _ after. HoldsSamples width size making after self.new)
-            (slice_data (transform_fits slice.now) width size slice.now picture) bits.old bits.new sink.old sink.new result }
+            Meets (span S.took S.failures sink.old sink.new) (λ _ after. HoldsSamples width size making after self.new)
+            (slice_data (transform_fits slice.now) width size slice.now picture) bits.old bits.new result }
         ensures no_memory { (width size : ℕ) (picture : List CodedMacroblock) → HoldsMacroblocks width size picture self.old →
             slice.now.number ≡ length picture →
             IsErrOf result Stop.Memory → ⊥ }

@@ -1,6 +1,7 @@
 -- Frames by their three planes. A working form.
 use Rattle.std.specs.Prelude.{◌≡◌, ◌≢◌, ℕ, ◌/◌, ◌%◌, nat_lt, List, length, get_or, Option, Some, None, if◌then◌else◌}
 use Rattle.std.specs.Borrow.{Lends, MutBor, Fml}
+use Rattle.h264_plane.specs.Places.{Grid}
 use Rattle.h264_plane.specs.Samples.{Samples, ShowsSamples, IsSized, no_samples}
 use Rattle.h264_plane.specs.declared.frame.Component.{Component}
 use Rattle.h264_plane.specs.declared.frame.Component.TheVariants.{Y, Cb, Cr}
@@ -35,7 +36,7 @@ KeepsOtherPlanes Cb old new = (new.y ≡ old.y) × (new.cr ≡ old.cr)
 KeepsOtherPlanes Cr old new = (new.y ≡ old.y) × (new.cb ≡ old.cb)
 
 -- the plane of component c has these samples, and the other two planes are what they were
-pub record IsWritten (c : Component) (old new : Frame) (s : ℕ → ℕ → ℕ) : Type 0 where
+pub record IsWritten (c : Component) (old new : Frame) (s : Grid) : Type 0 where
   pub written : ShowsSamples (plane_of c old) (plane_of c new) s
   pub kept : KeepsOtherPlanes c old new
 

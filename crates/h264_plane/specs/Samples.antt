@@ -1,6 +1,7 @@
 -- Samples of a plane by column and row. To be read beside the standard.
 use Rattle.std.specs.Prelude.{◌≡◌, ◌≢◌, ◌⊎◌, ℕ, ◌+◌, ◌*◌, ◌<◌, ◌≤◌, ◌-◌, ◌==◌, ◌&&◌, nat_le, nat_lt, length, List, [], slice_index, Bool, true, false}
 use Rattle.std.specs.Prelude.{if◌then◌else◌}
+use Rattle.h264_plane.specs.Places.{Grid}
 use Rattle.h264_plane.specs.declared.plane.TheConstants.{MAX_SIDE}
 
 -- the samples of a plane, row by row
@@ -10,7 +11,7 @@ pub record Samples : Type 0 where
   pub list : List ℕ
 
 -- the sample at column x of row y
-abbrev pub at : Samples → ℕ → ℕ → ℕ
+abbrev pub at : Samples → Grid
 at p x y = slice_index p.list (y * p.width + x)
 
 -- the samples of a list, row by row
@@ -37,7 +38,7 @@ pub record IsBlank (p : Samples) : Type 0 where
   pub zero : (x y : ℕ) → x < p.width → y < p.height → at p x y ≡ 0
 
 -- the plane `new` is of old's shape and has these samples, by column and row
-pub record ShowsSamples (old new : Samples) (s : ℕ → ℕ → ℕ) : Type 0 where
+pub record ShowsSamples (old new : Samples) (s : Grid) : Type 0 where
   pub width : new.width ≡ old.width
   pub height : new.height ≡ old.height
   pub samples : (u v : ℕ) → u < old.width → v < old.height → at new u v ≡ s u v
@@ -73,11 +74,11 @@ pub record IsPut (vertical : Bool) (old new : Samples) (along across sample : �
       look vertical new a b ≡ look vertical old a b
 
 -- the samples s with those of a run from column x of row y
-unfoldable pub with_run : ℕ → ℕ → List ℕ → (ℕ → ℕ → ℕ) → ℕ → ℕ → ℕ
+unfoldable pub with_run : ℕ → ℕ → List ℕ → Grid → Grid
 with_run x y run s u v =
     if v == y && nat_le x u && nat_lt u (x + length run) then slice_index run (u - x) else s u v
 
 -- the samples s with those of a block of w columns and h rows, row by row, whose upper left one stands at (x, y)
-unfoldable pub with_block : ℕ → ℕ → ℕ → ℕ → List ℕ → (ℕ → ℕ → ℕ) → ℕ → ℕ → ℕ
+unfoldable pub with_block : ℕ → ℕ → ℕ → ℕ → List ℕ → Grid → Grid
 with_block w h x y block s u v =
     if nat_le x u && nat_lt u (x + w) && nat_le y v && nat_lt v (y + h) then slice_index block (w * (v - y) + (u - x)) else s u v

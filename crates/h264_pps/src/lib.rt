@@ -7,7 +7,7 @@
 #![tactic(auto)]
 
 ghost use Rattle.std.specs.Prelude.{◌≡◌, ℕ, ◌-◌, ◌<◌, ◌≤◌, ◌^◌, IfOk};
-ghost use Rattle.h264_base.specs.Call.{HasRoom};
+ghost use Rattle.h264_base.specs.Call.{HasRoom, span};
 ghost use Rattle.h264_base.specs.Meets.{Meets, Is, Answers};
 ghost use Rattle.h264_pps.specs.Pps.{is_weighting_judged, weighted_pred, weighted_bipred, pps};
 
@@ -58,7 +58,7 @@ fn read_weighted_pred<S: Elements>(
     sink: &mut S,
 ) -> Result<bool, Stop>
     requires { HasRoom S.failures sink.old }
-    ensures { Meets S.took S.failures (Is (λ x. x)) (weighted_pred target) bits.old bits.new sink.old sink.new result }
+    ensures { Meets (span S.took S.failures sink.old sink.new) (Is (λ x. x)) (weighted_pred target) bits.old bits.new result }
 {
     let flag = read_u::<1, S>(bits, ElementName::WeightedPredFlag, sink)?;
     let judged = is_weighting_judged(target, flag.value);
@@ -73,7 +73,7 @@ fn read_weighted_bipred<S: Elements>(
     sink: &mut S,
 ) -> Result<u32, Stop>
     requires { HasRoom S.failures sink.old }
-    ensures { Meets S.took S.failures (Is (λ x. x)) (weighted_bipred target) bits.old bits.new sink.old sink.new result }
+    ensures { Meets (span S.took S.failures sink.old sink.new) (Is (λ x. x)) (weighted_bipred target) bits.old bits.new result }
 {
     let idc = read_u::<2, S>(bits, ElementName::WeightedBipredIdc, sink)?;
     let judged = is_weighting_judged(target, idc.value);
@@ -85,7 +85,7 @@ fn read_weighted_bipred<S: Elements>(
 /// The set, element by element.
 fn pps_steps<S: Elements>(target: Target, bits: &mut Bits, sink: &mut S) -> Result<Pps, Stop>
     requires { HasRoom S.failures sink.old }
-    ensures meets { Meets S.took S.failures (Is (λ x. x)) (pps target) bits.old bits.new sink.old sink.new result }
+    ensures meets { Meets (span S.took S.failures sink.old sink.new) (Is (λ x. x)) (pps target) bits.old bits.new result }
     ensures id { IfOk result (λ s. s.pic_parameter_set_id ≤ 255) }
     ensures names { IfOk result (λ s. s.seq_parameter_set_id ≤ 31) }
 {
@@ -131,8 +131,8 @@ fn pps_steps<S: Elements>(target: Target, bits: &mut Bits, sink: &mut S) -> Resu
 /// No: the first rule that it breaks, at its stream bit. Write: the sink failed. After an Err the reader may have moved.
 pub fn read_pps<S: Elements>(target: Target, bits: &mut Bits, sink: &mut S) -> Result<Pps, Stop>
     requires { HasRoom S.failures sink.old }
-    ensures answers { Answers S.took S.failures (Is (λ x. x)) (pps target) bits.old bits.new sink.old sink.new result }
-    ensures meets { Meets S.took S.failures (Is (λ x. x)) (pps target) bits.old bits.new sink.old sink.new result }
+    ensures answers { Answers (span S.took S.failures sink.old sink.new) (Is (λ x. x)) (pps target) bits.old bits.new result }
+    ensures meets { Meets (span S.took S.failures sink.old sink.new) (Is (λ x. x)) (pps target) bits.old bits.new result }
     ensures id { IfOk result (λ s. s.pic_parameter_set_id ≤ 255) }
     ensures names { IfOk result (λ s. s.seq_parameter_set_id ≤ 31) }
 {

@@ -12,7 +12,7 @@ use Rattle.h264_recon.specs.Constructed.{mode_at}
 use Rattle.h264_recon.specs.Around.{SidesAgree, BlocksAgree}
 use Rattle.h264_recon.specs.Lines.{local}
 use Rattle.h264_recon.specs.Residuals.{IsBlockAdded}
-use Rattle.h264_recon.specs.Blocks4.{sample4, AreMade4, IsPut4}
+use Rattle.h264_recon.specs.Blocks4.{sample4, AreMade4, IsPut4, intra4}
 use Rattle.h264_recon.specs.declared.macroblock.Available.{Available}
 use Rattle.h264_recon.specs.declared.store.Store.{Store}
 use Rattle.h264_recon.proofs.Local.{local_own, local_sides}
@@ -25,7 +25,7 @@ index_other : (x y u v : ℕ) → index_of x y < index_of u v → (x ≢ u) ⊎ 
 index_other x y u v less = ⊎_elim (λ (same : x ≡ u). inr (λ (same' : y ≡ v). absurd (omega arith))) (λ n. inl n) (cases_eq x u)
 
 sample4_same : (modes : List Intra4x4PredMode) (a : Available) (residual : ℕ → ℕ → ℕ → ℕ → ℤ) (s t : ℕ → ℕ → ℕ) (x y i j : ℕ) → x < 4 → y < 4 → i < 4 → j < 4 →
-    IsTrue (is_possible4 (mode_at modes x y) (sides4_of a x y)) → SidesAgree 16 a s t → BlocksAgree 16 (index_of x y) s t → sample4 modes a residual s x y i j ≡ sample4 modes a residual t x y i j
+    IsTrue (is_possible4 (mode_at modes x y) (sides4_of a x y)) → SidesAgree 16 a s t → BlocksAgree 16 (index_of x y) s t → sample4 (intra4 modes a residual) s x y i j ≡ sample4 (intra4 modes a residual) t x y i j
 sample4_same modes a residual s t x y i j p q d e ok sides blocks =
     ap (λ n. clip1 (pos n +ℤ residual x y j i))
     (predicted4_same (mode_at modes x y) (sides4_of a x y) _ _ i j ok d e (block_sides a s t x y p q sides blocks))
@@ -41,8 +41,8 @@ others_agree l c x y old new f b most put = record {
 
 pub block_more : (x y : ℕ) (modes : List Intra4x4PredMode) (a : Available) (residual : ℕ → ℕ → ℕ → ℕ → ℤ) (l : Store) (c : ℕ) (old new : List ℕ) (f : ℕ → ℕ → ℕ) → x < 4 → y < 4 →
     ((x y : ℕ) → x < 4 → y < 4 → IsTrue (is_possible4 (mode_at modes x y) (sides4_of a x y))) →
-    AreMade4 (index_of x y) modes a residual l c old → IsPut4 old new x y f →
-    ((i j : ℕ) → i < 4 → j < 4 → f i j ≡ sample4 modes a residual (local 16 l c old) x y i j) → AreMade4 (index_of x y + 1) modes a residual l c new
+    AreMade4 (index_of x y) (intra4 modes a residual) l c old → IsPut4 old new x y f →
+    ((i j : ℕ) → i < 4 → j < 4 → f i j ≡ sample4 (intra4 modes a residual) (local 16 l c old) x y i j) → AreMade4 (index_of x y + 1) (intra4 modes a residual) l c new
 block_more x y modes a residual l c old new f p q ok done put is = record {
   each = λ u v i j p' q' d e less. ⊎_elim
       (λ (earlier : index_of u v < index_of x y).
@@ -61,11 +61,11 @@ block_more x y modes a residual l c old new f p q ok done put is = record {
 -- at block number b
 pub block_next : (b : ℕ) (modes : List Intra4x4PredMode) (a : Available) (residual : ℕ → ℕ → ℕ → ℕ → ℤ) (l : Store) (c : ℕ) (old new : List ℕ) (f : ℕ → ℕ → ℕ) → b < 16 →
     ((x y : ℕ) → x < 4 → y < 4 → IsTrue (is_possible4 (mode_at modes x y) (sides4_of a x y))) →
-    AreMade4 b modes a residual l c old → IsPut4 old new (column_of b) (row_of b) f →
-    ((i j : ℕ) → i < 4 → j < 4 → f i j ≡ sample4 modes a residual (local 16 l c old) (column_of b) (row_of b) i j) → AreMade4 (b + 1) modes a residual l c new
+    AreMade4 b (intra4 modes a residual) l c old → IsPut4 old new (column_of b) (row_of b) f →
+    ((i j : ℕ) → i < 4 → j < 4 → f i j ≡ sample4 (intra4 modes a residual) (local 16 l c old) (column_of b) (row_of b) i j) → AreMade4 (b + 1) (intra4 modes a residual) l c new
 block_next b modes a residual l c old new f p ok done put is =
     let back = index_back b p in
-    let before : AreMade4 (index_of (column_of b) (row_of b)) modes a residual l c old = rw back done in
+    let before : AreMade4 (index_of (column_of b) (row_of b)) (intra4 modes a residual) l c old = rw back done in
     rw back at (block_more (column_of b) (row_of b) modes a residual l c old new f (omega arith) (omega arith) ok before put is)
 
 -- a block that is predicted, and then has its residual added

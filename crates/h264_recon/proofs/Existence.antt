@@ -8,7 +8,7 @@ use Rattle.h264_plane.specs.Places.{side, Before, Agree, with_own, index_of}
 use Rattle.h264_plane.specs.declared.frame.Component.{Component}
 use Rattle.h264_plane.proofs.Own.{moved, own_in, own_out}
 use Rattle.h264_plane.proofs.Raster.{rows, side_least}
-use Rattle.h264_recon.specs.Inter.{Setting}
+use Rattle.h264_recon.specs.Inter.{Setting, position_at}
 use Rattle.h264_recon.specs.Around.{SidesAgree, BlocksAgree}
 use Rattle.h264_recon.specs.Constructed.{Coded, window, made, IsMade, Constructed, IsPossible, IsAllowed}
 use Rattle.h264_recon.specs.declared.macroblock.Available.{Available}
@@ -23,7 +23,7 @@ test b x y = nat_lt 0 x && nat_lt 0 y && nat_eq (index_of ((x - 1) / 4) ((y - 1)
 -- its blocks before number b are constructed
 abbrev built : ℕ → Setting → ℕ → ℕ → Coded → Component → (ℕ → ℕ → ℕ) → ℕ → ℕ → ℕ
 built zero k c r m p s x y = s x y
-built (suc b) k c r m p s x y = cond (test b x y) (made k c r m p (built b k c r m p s) (x - 1) (y - 1)) (built b k c r m p s x y)
+built (suc b) k c r m p s x y = cond (test b x y) (made k (position_at c r) m p (built b k c r m p s) (x - 1) (y - 1)) (built b k c r m p s x y)
 
 test_outer : (b x y : ℕ) → (x ≡ 0) ⊎ (y ≡ 0) → test b x y ≡ false
 test_outer b x y (inl e) = rw e refl
@@ -48,7 +48,7 @@ test_other b x y n =
 
 -- a block stays as it was constructed from those before it
 stays : (n : ℕ) (k : Setting) (c r : ℕ) (m : Coded) (p : Component) (s : ℕ → ℕ → ℕ) (x y : ℕ) → index_of (x / 4) (y / 4) < n →
-    built n k c r m p s (x + 1) (y + 1) ≡ made k c r m p (built (index_of (x / 4) (y / 4)) k c r m p s) x y
+    built n k c r m p s (x + 1) (y + 1) ≡ made k (position_at c r) m p (built (index_of (x / 4) (y / 4)) k c r m p s) x y
 stays zero k c r m p s x y less = absurd (omega arith)
 stays (suc n) k c r m p s x y less = ⊎_elim
     (λ (earlier : index_of (x / 4) (y / 4) < n). cond-false _ _ _ (test_other n x y (λ e. absurd (omega (arith, e)))) ∙ stays n k c r m p s x y earlier)
@@ -56,8 +56,8 @@ stays (suc n) k c r m p s x y less = ⊎_elim
     let e : index_of (x / 4) (y / 4) ≡ n = omega arith in
     let column : x + 1 - 1 ≡ x = omega arith in
     let row : y + 1 - 1 ≡ y = omega arith in
-    cond-true _ _ _ (test_own n x y e) ∙ ap (λ z. made k c r m p (built n k c r m p s) z (y + 1 - 1)) column ∙ ap (λ z. made k c r m p (built n k c r m p s) x z) row
-    ∙ ap (λ z. made k c r m p (built z k c r m p s) x y) (sym e))
+    cond-true _ _ _ (test_own n x y e) ∙ ap (λ z. made k (position_at c r) m p (built n k c r m p s) z (y + 1 - 1)) column ∙ ap (λ z. made k (position_at c r) m p (built n k c r m p s) x z) row
+    ∙ ap (λ z. made k (position_at c r) m p (built z k c r m p s) x y) (sym e))
     (cases_lt (index_of (x / 4) (y / 4)) n)
 
 sides_stay : (a b : ℕ) (k : Setting) (c r : ℕ) (m : Coded) (p : Component) (s : ℕ → ℕ → ℕ) → SidesAgree (side p) m.available (built a k c r m p s) (built b k c r m p s)

@@ -20,7 +20,7 @@ use Rattle.h264_scale.specs.declared.levels.ChromaLevels.TheVariants as chroma
 use Rattle.h264_scale.specs.declared.levels.Levels.{Levels}
 use Rattle.h264_recon.specs.Constructed.{Coded}
 use Rattle.h264_base.specs.declared.weight.Weights.{Weights}
-use Rattle.h264_recon.specs.Given.{available, used_by, prediction_of, weights_of, given}
+use Rattle.h264_recon.specs.Given.{available, used_by, prediction_of, weights_of, given, slice_settings}
 use Rattle.h264_recon.specs.Table.{table}
 use Rattle.h264_recon.specs.declared.macroblock.Available.{Available}
 use Rattle.h264_recon.specs.Predicted.{Prediction}
@@ -97,7 +97,7 @@ abbrev assembled : Available → Prediction → Levels → List (Option Weights)
 assembled a p l ws = record { available = a; prediction = p; levels = l; weights = ws }
 
 pub given-is : (w : ℕ) (xs : List CodedMacroblock) (place : ℕ → ℕ) (weights : List (Option Weights)) (constrained : Bool) (offset : ℤ) (m : CodedMacroblock) (a : Available) (p : Prediction) (ws : List (Option Weights)) →
-    a ≡ used_by m.prediction (available w xs m.slice constrained) → p ≡ prediction_of place m.prediction → ws ≡ weights_of weights m.prediction → assembled a p (levels_of offset m) ws ≡ given w xs place weights constrained offset m
+    a ≡ used_by m.prediction (available w xs m.slice constrained) → p ≡ prediction_of place m.prediction → ws ≡ weights_of weights m.prediction → assembled a p (levels_of offset m) ws ≡ given w xs place (slice_settings weights constrained offset) m
 unfolding given
 given-is w xs place weights constrained offset m a p ws e f g =
     let sides = used_by m.prediction (available w xs m.slice constrained) in

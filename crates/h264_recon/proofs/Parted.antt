@@ -8,7 +8,6 @@ use Rattle.h264_near.specs.declared.partition.Partition.TheVariants.{P16x16, P16
 use Rattle.h264_near.specs.Coded.{number_of}
 use Rattle.h264_near.specs.Partition.{first_in_sub, first_of}
 use Rattle.h264_plane.specs.declared.frame.Frame.{Frame}
-use Rattle.h264_recon.specs.Inter.{no_motion}
 use Rattle.h264_recon.specs.Pool.{HasRoom, HaveRoom}
 use Rattle.h264_recon.specs.Predicted.{placed_motion, parted_motions}
 use Rattle.h264_recon.specs.declared.macroblock.Motion.{Motion}

@@ -14,9 +14,9 @@ use Rattle.h264_plane.specs.declared.frame.Frame.{Frame}
 use Rattle.h264_inter.specs.Reference.{HasBlock}
 use Rattle.h264_inter.specs.Luma.{predicted_luma}
 use Rattle.h264_inter.specs.Chroma.{predicted_chroma}
-use Rattle.h264_recon.specs.Inter.{predicted_from, motion_at, no_motion}
+use Rattle.h264_recon.specs.Inter.{predicted_from, motion_at, no_motion, position_at}
 use Rattle.h264_recon.specs.Lines.{chroma_plane}
-use Rattle.h264_recon.specs.Parts.{HasPart, IsPart, AreMade, ArePredicted}
+use Rattle.h264_recon.specs.Parts.{HasPart, IsPart, AreMade, ArePredicted, part_from}
 use Rattle.h264_recon.specs.Pool.{of_frames, from_pool}
 use Rattle.h264_recon.specs.declared.store.Samples.{Samples}
 use Rattle.h264_recon.specs.declared.macroblock.Motion.{Motion}
@@ -39,7 +39,7 @@ chroma_one false m i j a b = sym (get_or-replicate 16 (4 * (4 * (0 + j) / 8) + 4
 -- ---- a part from the pool
 
 from_frame : (p : Component) (frames : List Frame) (motion : List Motion) (c r x y a b : ℕ) (m : Motion) (q : plane.Samples) → a ≡ side p * c + x → b ≡ side p * r + y →
-    q ≡ plane_of p (frame_at frames m.picture) → m ≡ motion_at motion p x y → predicted_from p q.width q.height (at q) m a b ≡ from_pool frames motion c r p x y
+    q ≡ plane_of p (frame_at frames m.picture) → m ≡ motion_at motion p x y → predicted_from p q.width q.height (at q) m a b ≡ from_pool frames motion (position_at c r) p x y
 from_frame p frames motion c r x y a b m q ea eb eq em =
     rw (ea, eb, eq) (ap (λ (z : Motion). predicted_from p (plane_of p (frame_at frames z.picture)).width (plane_of p (frame_at frames z.picture)).height (at (plane_of p (frame_at frames z.picture))) z (side p * c + x) (side p * r + y)) em)
 
@@ -58,7 +58,7 @@ side_chroma false = refl
 
 pub luma_part : (n : ℕ) (frames : List Frame) (motion : List Motion) (c r x y a b : ℕ) (m : Motion) (f : Frame) (part : List ℕ) → a ≡ 16 * c + x → b ≡ 16 * r + y → f ≡ frame_at frames m.picture →
     ((i j : ℕ) → i < n → j < n → m ≡ motion_at motion Y (x + i) (y + j)) → HasBlock n n part (λ u v. predicted_luma f.y.width f.y.height (at f.y) m.vector (a + u) (b + v)) →
-    HasPart n part x y (from_pool frames motion c r Y)
+    HasPart n part x y (from_pool frames motion (position_at c r) Y)
 luma_part n frames motion c r x y a b m f part ea eb ef same block = record {
   each = λ i j p q. block.each i j p q ∙ luma_is f.y.width f.y.height (at f.y) m (a + i) (b + j)
       ∙ from_frame Y frames motion c r (x + i) (y + j) (a + i) (b + j) m f.y (omega arith) (omega arith) (ap (λ (z : Frame). z.y) ef) (same i j p q);
@@ -66,7 +66,7 @@ luma_part n frames motion c r x y a b m f part ea eb ef same block = record {
 
 pub chroma_part : (t : Bool) (n : ℕ) (frames : List Frame) (motion : List Motion) (c r x y a b : ℕ) (m : Motion) (f : Frame) (q : plane.Samples) (part : List ℕ) → a ≡ 8 * c + x → b ≡ 8 * r + y → f ≡ frame_at frames m.picture →
     q ≡ plane_of (chroma_plane t) f → ((i j : ℕ) → i < n → j < n → m ≡ motion_at motion (chroma_plane t) (x + i) (y + j)) →
-    HasBlock n n part (λ u v. predicted_chroma q.width q.height (at q) m.vector (a + u) (b + v)) → HasPart n part x y (from_pool frames motion c r (chroma_plane t))
+    HasBlock n n part (λ u v. predicted_chroma q.width q.height (at q) m.vector (a + u) (b + v)) → HasPart n part x y (from_pool frames motion (position_at c r) (chroma_plane t))
 chroma_part t n frames motion c r x y a b m f q part ea eb ef eq same block = record {
   each = λ i j d e.
       let column : a + i ≡ side (chroma_plane t) * c + (x + i) = rw (side_chroma t) (omega arith) in
@@ -90,7 +90,7 @@ out_test x y w h u v out = go (nat_le x u && nat_lt u (x + w) && nat_le y v && n
 -- a block that is put among the samples of a macroblock
 pub part_of : (s x y w h : ℕ) (f g : ℕ → ℕ → ℕ) (block old new : List ℕ) → x + w ≤ s → y + h ≤ s →
     ShowsSamples (rows_of s s old) (rows_of s s new) (with_block w h x y block (at (rows_of s s old))) → HasBlock w h block g → ((i j : ℕ) → i < w → j < h → g i j ≡ f (x + i) (y + j)) →
-    IsPart s x y w h f old new
+    IsPart s (part_from x y w h) f old new
 unfolding with_block
 part_of s x y w h f g block old new wide high shows has same = record {
   here = λ u v a b c d.
@@ -106,7 +106,7 @@ part_of s x y w h f g block old new wide high shows has same = record {
 
 -- one more part of the samples that are wanted, f, over those of the places before it
 made_more : (s d : ℕ) (index : ℕ → ℕ → ℕ) (k n x y w h : ℕ) (f g : ℕ → ℕ → ℕ) (old new : List ℕ) →
-    ((u v : ℕ) → u < s → v < s → index (u / d) (v / d) < k → slice_index old (s * v + u) ≡ f u v) → IsPart s x y w h g old new →
+    ((u v : ℕ) → u < s → v < s → index (u / d) (v / d) < k → slice_index old (s * v + u) ≡ f u v) → IsPart s (part_from x y w h) g old new →
     ((u v : ℕ) → u < s → v < s → x ≤ u → u < x + w → y ≤ v → v < y + h → g u v ≡ f u v) →
     ((u v : ℕ) → u < s → v < s → index (u / d) (v / d) < k + n → (u < x) ⊎ ((x + w ≤ u) ⊎ ((v < y) ⊎ (y + h ≤ v))) → index (u / d) (v / d) < k) →
     (u v : ℕ) → u < s → v < s → index (u / d) (v / d) < k + n → slice_index new (s * v + u) ≡ f u v
@@ -147,57 +147,57 @@ out_chroma a0 b0 wa hb u v (inr (inr (inl o))) = inr (inr (inl (omega arith)))
 out_chroma a0 b0 wa hb u v (inr (inr (inr o))) = inr (inr (inr (omega arith)))
 
 pub part_more : (index : ℕ → ℕ → ℕ) (k n a0 b0 wa hb : ℕ) (frames : List Frame) (motion : List Motion) (m : Motion) (c r : ℕ) (old new : Samples) →
-    AreMade index k frames motion c r old → IsNext index k n a0 b0 wa hb → Moves motion m a0 b0 wa hb →
-    IsPart 16 (4 * a0) (4 * b0) (4 * wa) (4 * hb) (λ u v. of_frames Y frames m (16 * c + u) (16 * r + v)) old.y new.y →
-    IsPart 8 (2 * a0) (2 * b0) (2 * wa) (2 * hb) (λ u v. of_frames Cb frames m (8 * c + u) (8 * r + v)) old.cb new.cb →
-    IsPart 8 (2 * a0) (2 * b0) (2 * wa) (2 * hb) (λ u v. of_frames Cr frames m (8 * c + u) (8 * r + v)) old.cr new.cr →
-    AreMade index (k + n) frames motion c r new
+    AreMade index k frames motion (position_at c r) old → IsNext index k n a0 b0 wa hb → Moves motion m a0 b0 wa hb →
+    IsPart 16 (part_from (4 * a0) (4 * b0) (4 * wa) (4 * hb)) (λ u v. of_frames Y frames m (16 * c + u) (16 * r + v)) old.y new.y →
+    IsPart 8 (part_from (2 * a0) (2 * b0) (2 * wa) (2 * hb)) (λ u v. of_frames Cb frames m (8 * c + u) (8 * r + v)) old.cb new.cb →
+    IsPart 8 (part_from (2 * a0) (2 * b0) (2 * wa) (2 * hb)) (λ u v. of_frames Cr frames m (8 * c + u) (8 * r + v)) old.cr new.cr →
+    AreMade index (k + n) frames motion (position_at c r) new
 part_more index k n a0 b0 wa hb frames motion m c r old new made next moves y cb cr = record {
-  y = made_more 16 4 index k n _ _ _ _ (from_pool frames motion c r Y) _ old.y new.y made.y y
+  y = made_more 16 4 index k n _ _ _ _ (from_pool frames motion (position_at c r) Y) _ old.y new.y made.y y
       (λ u v a b e f g h.
       let place : 4 * (v / 4) + u / 4 ≡ 4 * (4 * v / 16) + 4 * u / 16 = omega arith in
       ap (λ z. of_frames Y frames z (16 * c + u) (16 * r + v)) (moves.each (u / 4) (v / 4) (omega arith) (omega arith) (omega arith) (omega arith) (omega arith) (omega arith) ∙ ap (λ z. get_or motion z no_motion) place))
       (λ u v a b less out. next.earlier (u / 4) (v / 4) (omega arith) (omega arith) less (out_luma a0 b0 wa hb u v out));
-  cb = made_more 8 2 index k n _ _ _ _ (from_pool frames motion c r Cb) _ old.cb new.cb made.cb cb
+  cb = made_more 8 2 index k n _ _ _ _ (from_pool frames motion (position_at c r) Cb) _ old.cb new.cb made.cb cb
       (λ u v a b e f g h.
       let place : 4 * (v / 2) + u / 2 ≡ 4 * (4 * v / 8) + 4 * u / 8 = omega arith in
       ap (λ z. of_frames Cb frames z (8 * c + u) (8 * r + v)) (moves.each (u / 2) (v / 2) (omega arith) (omega arith) (omega arith) (omega arith) (omega arith) (omega arith) ∙ ap (λ z. get_or motion z no_motion) place))
       (λ u v a b less out. next.earlier (u / 2) (v / 2) (omega arith) (omega arith) less (out_chroma a0 b0 wa hb u v out));
-  cr = made_more 8 2 index k n _ _ _ _ (from_pool frames motion c r Cr) _ old.cr new.cr made.cr cr
+  cr = made_more 8 2 index k n _ _ _ _ (from_pool frames motion (position_at c r) Cr) _ old.cr new.cr made.cr cr
       (λ u v a b e f g h.
       let place : 4 * (v / 2) + u / 2 ≡ 4 * (4 * v / 8) + 4 * u / 8 = omega arith in
       ap (λ z. of_frames Cr frames z (8 * c + u) (8 * r + v)) (moves.each (u / 2) (v / 2) (omega arith) (omega arith) (omega arith) (omega arith) (omega arith) (omega arith) ∙ ap (λ z. get_or motion z no_motion) place))
       (λ u v a b less out. next.earlier (u / 2) (v / 2) (omega arith) (omega arith) less (out_chroma a0 b0 wa hb u v out));
 }
 
-pub all_made : (index : ℕ → ℕ → ℕ) (k : ℕ) (frames : List Frame) (motion : List Motion) (c r : ℕ) (own : Samples) → ((a b : ℕ) → a < 4 → b < 4 → index a b < k) → AreMade index k frames motion c r own → ArePredicted frames motion c r own
+pub all_made : (index : ℕ → ℕ → ℕ) (k : ℕ) (frames : List Frame) (motion : List Motion) (c r : ℕ) (own : Samples) → ((a b : ℕ) → a < 4 → b < 4 → index a b < k) → AreMade index k frames motion (position_at c r) own → ArePredicted frames motion (position_at c r) own
 all_made index k frames motion c r own all made = record {
   y = record { each = λ u v a b. made.y u v a b (all (u / 4) (v / 4) (omega arith) (omega arith)) };
   cb = record { each = λ u v a b. made.cb u v a b (all (u / 2) (v / 2) (omega arith) (omega arith)) };
   cr = record { each = λ u v a b. made.cr u v a b (all (u / 2) (v / 2) (omega arith) (omega arith)) };
 }
 
-pub none_made : (index : ℕ → ℕ → ℕ) (frames : List Frame) (motion : List Motion) (c r : ℕ) (own : Samples) → AreMade index 0 frames motion c r own
+pub none_made : (index : ℕ → ℕ → ℕ) (frames : List Frame) (motion : List Motion) (c r : ℕ) (own : Samples) → AreMade index 0 frames motion (position_at c r) own
 none_made index frames motion c r own = record { y = λ u v a b less. absurd (omega arith); cb = λ u v a b less. absurd (omega arith); cr = λ u v a b less. absurd (omega arith) }
 
 -- ---- from the frame that a motion names
 
 pub luma_from : (x y w h a b : ℕ) (frames : List Frame) (m : Motion) (f : Frame) (old new : List ℕ) → f ≡ frame_at frames m.picture →
-    IsPart 16 x y w h (λ u v. predicted_luma f.y.width f.y.height (at f.y) m.vector (a + u) (b + v)) old new → IsPart 16 x y w h (λ u v. of_frames Y frames m (a + u) (b + v)) old new
+    IsPart 16 (part_from x y w h) (λ u v. predicted_luma f.y.width f.y.height (at f.y) m.vector (a + u) (b + v)) old new → IsPart 16 (part_from x y w h) (λ u v. of_frames Y frames m (a + u) (b + v)) old new
 luma_from x y w h a b frames m f old new ef part = record {
   here = λ u v i j k l. part.here u v i j k l ∙ luma_is f.y.width f.y.height (at f.y) m (a + u) (b + v) ∙ ap (λ (z : Frame). predicted_from Y z.y.width z.y.height (at z.y) m (a + u) (b + v)) ef;
   kept = part.kept;
 }
 
 pub cb_from : (x y w h a b : ℕ) (frames : List Frame) (m : Motion) (f : Frame) (old new : List ℕ) → f ≡ frame_at frames m.picture →
-    IsPart 8 x y w h (λ u v. predicted_chroma f.cb.width f.cb.height (at f.cb) m.vector (a + u) (b + v)) old new → IsPart 8 x y w h (λ u v. of_frames Cb frames m (a + u) (b + v)) old new
+    IsPart 8 (part_from x y w h) (λ u v. predicted_chroma f.cb.width f.cb.height (at f.cb) m.vector (a + u) (b + v)) old new → IsPart 8 (part_from x y w h) (λ u v. of_frames Cb frames m (a + u) (b + v)) old new
 cb_from x y w h a b frames m f old new ef part = record {
   here = λ u v i j k l. part.here u v i j k l ∙ chroma_is false f.cb.width f.cb.height (at f.cb) m (a + u) (b + v) ∙ ap (λ (z : Frame). predicted_from Cb z.cb.width z.cb.height (at z.cb) m (a + u) (b + v)) ef;
   kept = part.kept;
 }
 
 pub cr_from : (x y w h a b : ℕ) (frames : List Frame) (m : Motion) (f : Frame) (old new : List ℕ) → f ≡ frame_at frames m.picture →
-    IsPart 8 x y w h (λ u v. predicted_chroma f.cr.width f.cr.height (at f.cr) m.vector (a + u) (b + v)) old new → IsPart 8 x y w h (λ u v. of_frames Cr frames m (a + u) (b + v)) old new
+    IsPart 8 (part_from x y w h) (λ u v. predicted_chroma f.cr.width f.cr.height (at f.cr) m.vector (a + u) (b + v)) old new → IsPart 8 (part_from x y w h) (λ u v. of_frames Cr frames m (a + u) (b + v)) old new
 cr_from x y w h a b frames m f old new ef part = record {
   here = λ u v i j k l. part.here u v i j k l ∙ chroma_is true f.cr.width f.cr.height (at f.cr) m (a + u) (b + v) ∙ ap (λ (z : Frame). predicted_from Cr z.cr.width z.cr.height (at z.cr) m (a + u) (b + v)) ef;
   kept = part.kept;

@@ -1,8 +1,6 @@
 -- Prediction from the frames of a pool.
-use Rattle.std.proofs.Common.{Bool, true, false, ◌≡◌, ℕ, ◌+◌, ◌*◌, ◌/◌, ◌<◌, ◌≤◌, List, slice_index, get_or, None, pos, ◌+ℤ◌, arith, refl, sym, ap, ◌∙◌}
+use Rattle.std.proofs.Common.{Bool, true, false, ◌≡◌, ℕ, ◌+◌, ◌*◌, ◌/◌, ◌<◌, List, slice_index, get_or, None, pos, ◌+ℤ◌, arith, refl, sym, ap, ◌∙◌}
 use Rattle.std.proofs.lemmas.Nat.{mul-le}
-use Rattle.h264_plane.specs.Samples.{Samples}
-use Rattle.h264_plane.specs.Frames.{plane_of, frame_at}
 use Rattle.h264_plane.specs.declared.frame.Component.{Component}
 use Rattle.h264_plane.specs.declared.frame.Component.TheVariants.{Y, Cb, Cr}
 use Rattle.h264_plane.specs.declared.frame.Frame.{Frame}
@@ -11,7 +9,7 @@ use Rattle.h264_inter.proofs.Depends.{luma_depends, chroma_depends}
 use Rattle.h264_plane.specs.Places.{side}
 use Rattle.h264_scale.specs.Macroblock.{residual}
 use Rattle.h264_recon.specs.Residuals.{IsAdded}
-use Rattle.h264_recon.specs.Inter.{Setting, predicted_from, predicted_at, motion_at, no_motion}
+use Rattle.h264_recon.specs.Inter.{Setting, predicted_from, predicted_at, motion_at, no_motion, position_at}
 use Rattle.h264_recon.specs.Constructed.{predicted_inter, weighted_inter, made_by, made, Coded}
 use Rattle.h264_recon.specs.Weighing.{ArePlacesWeighted}
 use Rattle.h264_recon.specs.Weights.{weights_at, weighted_if}
@@ -40,7 +38,7 @@ motion_room frames c r motion n m i room less em ei = rw (ei, em) (room n less)
 -- ---- the samples
 
 made_inter : (k : Setting) (c r : ℕ) (m : Coded) (p : Component) (s : ℕ → ℕ → ℕ) (x y : ℕ) (motion : List Motion) → m.prediction ≡ Inter motion →
-    made k c r m p s x y ≡ clip1 (pos (weighted_inter k c r motion m.weights p x y) +ℤ residual m.levels p x y)
+    made k (position_at c r) m p s x y ≡ clip1 (pos (weighted_inter k (position_at c r) motion m.weights p x y) +ℤ residual m.levels p x y)
 unfolding made_by
 made_inter k c r m p s x y motion e = rw e refl
 
@@ -60,7 +58,7 @@ inside_some p c w a = let least = mul-le 1 1 (side p) w (side_some p) (omega ari
 
 -- a prediction from the pool is that of the equations
 pub inter_is : (k : Setting) (frames : List Frame) (c r : ℕ) (motion : List Motion) (p : Component) (x y : ℕ) → c < k.across → r < k.down → ((n : ℕ) → n < 16 → IsShown k frames (get_or motion n no_motion).picture) →
-    x < side p → y < side p → from_pool frames motion c r p x y ≡ predicted_inter k c r motion p x y
+    x < side p → y < side p → from_pool frames motion (position_at c r) p x y ≡ predicted_inter k (position_at c r) motion p x y
 unfolding predicted_inter
 inter_is k frames c r motion p x y a b shown i j =
     shown_at p k frames (motion_at motion p x y) (side p * c + x) (side p * r + y) (shown _ (motion_inside p x y i j))
@@ -68,9 +66,9 @@ inter_is k frames c r motion p x y a b shown i j =
 
 pub inter_made : (k : Setting) (frames : List Frame) (c r : ℕ) (m : Coded) (p : Component) (l : Store) (motion : List Motion) (predicted weighted own : List ℕ) → c < k.across → r < k.down →
     m.prediction ≡ Inter motion → AreShown k frames m.prediction →
-    ((x y : ℕ) → x < side p → y < side p → slice_index predicted (side p * y + x) ≡ from_pool frames motion c r p x y) →
+    ((x y : ℕ) → x < side p → y < side p → slice_index predicted (side p * y + x) ≡ from_pool frames motion (position_at c r) p x y) →
     ((x y : ℕ) → x < side p → y < side p → slice_index weighted (side p * y + x) ≡ weighted_if p (weights_at m.weights p x y) (slice_index predicted (side p * y + x))) →
-    IsAdded m.levels p weighted own → IsMadeFrom k c r m p l own
+    IsAdded m.levels p weighted own → IsMadeFrom k (position_at c r) m p l own
 inter_made k frames c r m p l motion predicted weighted own a b e shown has weighs sum =
     let there : AreShown k frames (Inter motion) = rw e at shown in
     record {
@@ -81,8 +79,8 @@ inter_made k frames c r m p l motion predicted weighted own a b e shown has weig
 
 pub chroma_inter : (t : Bool) (k : Setting) (frames : List Frame) (c r : ℕ) (m : Coded) (l : Store) (motion : List Motion) (predicted weighted own : List ℕ) → c < k.across → r < k.down →
     m.prediction ≡ Inter motion → AreShown k frames m.prediction →
-    ((x y : ℕ) → x < 8 → y < 8 → slice_index predicted (8 * y + x) ≡ from_pool frames motion c r (chroma_plane t) x y) →
-    ArePlacesWeighted 8 (chroma_plane t) (λ n. get_or m.weights n None) predicted weighted → IsAdded m.levels (chroma_plane t) weighted own → IsMadeFrom k c r m (chroma_plane t) l own
+    ((x y : ℕ) → x < 8 → y < 8 → slice_index predicted (8 * y + x) ≡ from_pool frames motion (position_at c r) (chroma_plane t) x y) →
+    ArePlacesWeighted 8 (chroma_plane t) (λ n. get_or m.weights n None) predicted weighted → IsAdded m.levels (chroma_plane t) weighted own → IsMadeFrom k (position_at c r) m (chroma_plane t) l own
 chroma_inter true k frames c r m l motion predicted weighted own a b e shown has weighs sum =
     inter_made k frames c r m Cr l motion predicted weighted own a b e shown has weighs.each sum
 chroma_inter false k frames c r m l motion predicted weighted own a b e shown has weighs sum =

@@ -28,7 +28,7 @@ use Rattle.h264_mbsyntax.specs.Possible as read
 use Rattle.h264_recon.specs.Blocks.{sides_of, sides4_of, left_there, above_there, corner_there}
 use Rattle.h264_recon.specs.Constructed.{IsPossible, IsPossibleLuma, IsAllowed, mode_at}
 use Rattle.h264_base.specs.declared.weight.Weights.{Weights}
-use Rattle.h264_recon.specs.Given.{available, used_by, prediction_of, given}
+use Rattle.h264_recon.specs.Given.{available, used_by, prediction_of, given, slice_settings}
 use Rattle.h264_recon.specs.declared.macroblock.IntraLuma.TheVariants.{Blocks}
 use Rattle.h264_recon.proofs.Within.{within, used-within}
 
@@ -183,7 +183,7 @@ possible-as-read w slice picture place (coded.Inter motions) some h = tt
 -- ---- what is given is allowed
 
 pub given-allowed : (w : ℕ) (slice : SliceContext) (picture : List CodedMacroblock) (place : ℕ → ℕ) (weights : List (Option Weights)) (offset : ℤ) (m : CodedMacroblock) (c r : ℕ) → length picture ≡ r * w + c → c < w → m.slice ≡ slice.number → read.IsPossible w slice picture m.prediction →
-    IsAllowed (given w picture place weights slice.constrained_intra offset m) w c r
+    IsAllowed (given w picture place (slice_settings weights slice.constrained_intra offset) m) w c r
 unfolding given
 given-allowed w slice picture place weights offset m c r e k n h = record {
   within = used-within m.prediction (available w picture m.slice slice.constrained_intra) w c r (within w picture m.slice slice.constrained_intra c r e k);

@@ -6,7 +6,7 @@ use Rattle.h264_plane.specs.declared.frame.Component.{Component}
 use Rattle.h264_plane.specs.declared.frame.Component.TheVariants.{Y, Cb, Cr}
 use Rattle.h264_scale.specs.Macroblock.{residual}
 use Rattle.h264_inter.proofs.Depends.{luma_depends, chroma_depends}
-use Rattle.h264_recon.specs.Inter.{Setting, predicted_from, motion_at}
+use Rattle.h264_recon.specs.Inter.{Setting, predicted_from, motion_at, position_at}
 use Rattle.h264_recon.specs.Constructed.{Coded, window, predicted_inter, made_by, made, Constructed, SameReferences}
 use Rattle.h264_recon.specs.declared.macroblock.Motion.{Motion}
 use Rattle.h264_recon.specs.Predicted.{Prediction, Intra, Inter, Pcm}
@@ -23,14 +23,14 @@ from_same Cb w h s t m x y a b same = chroma_depends w h s t m.vector x y a b sa
 from_same Cr w h s t m x y a b same = chroma_depends w h s t m.vector x y a b same
 
 inter_same : (across down : ℕ) (f g : ℕ → Component → ℕ → ℕ → ℕ) (c r : ℕ) (motion : List Motion) (p : Component) (x y : ℕ) → c < across → r < down → x < side p → y < side p →
-    SameReferences across down f g (Inter motion) → predicted_inter (setting across down f) c r motion p x y ≡ predicted_inter (setting across down g) c r motion p x y
+    SameReferences across down f g (Inter motion) → predicted_inter (setting across down f) (position_at c r) motion p x y ≡ predicted_inter (setting across down g) (position_at c r) motion p x y
 unfolding predicted_inter
 inter_same across down f g c r motion p x y a b i j same =
     from_same p (side p * across) (side p * down) _ _ (motion_at motion p x y) (side p * c + x) (side p * r + y) (inside_some p c across a) (inside_some p r down b)
     (λ u v d e. same (4 * (4 * y / side p) + 4 * x / side p) (motion_inside p x y i j) p u v d e)
 
 made_same : (d : Prediction) (across down : ℕ) (f g : ℕ → Component → ℕ → ℕ → ℕ) (c r : ℕ) (m : Coded) (p : Component) (s : ℕ → ℕ → ℕ) (x y : ℕ) → c < across → r < down → x < side p → y < side p →
-    SameReferences across down f g d → made_by d (setting across down f) c r m p s x y ≡ made_by d (setting across down g) c r m p s x y
+    SameReferences across down f g d → made_by d (setting across down f) (position_at c r) m p s x y ≡ made_by d (setting across down g) (position_at c r) m p s x y
 unfolding made_by
 made_same (Intra modes) across down f g c r m p s x y a b i j same = refl
 made_same (Inter motion) across down f g c r m p s x y a b i j same =

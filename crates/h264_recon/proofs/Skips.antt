@@ -13,7 +13,7 @@ use Rattle.h264_near.proofs.Skips.{contexts_of, skipped-contexts}
 use Rattle.h264_vectors.specs.declared.slice.SliceContext.{SliceContext}
 use Rattle.h264_mbsyntax.specs.Possible.{IsPossible}
 use Rattle.h264_recon.specs.Constructed.{IsWithin}
-use Rattle.h264_recon.specs.Given.{available, no_sides, used_by, given}
+use Rattle.h264_recon.specs.Given.{available, no_sides, used_by, given, slice_settings}
 use Rattle.h264_recon.specs.Levels.{levels_of}
 use Rattle.h264_recon.specs.Placed.{ArePlaced, PointsInto}
 use Rattle.h264_recon.specs.Predicted.{placed_motion, placed_at, placed_motions}
@@ -47,7 +47,7 @@ unfolding used_by
 no-sides p motions w xs slice constrained e = rw e refl
 
 pub skip-given : (slice : SliceContext) (places : List ℕ) (place : ℕ → ℕ) (w : ℕ) (xs : List CodedMacroblock) (weights : List (Option Weights)) (constrained : Bool) (offset : ℤ) (s : Skipped) (m : CodedMacroblock) → IsSkipped s m → length slice.references ≡ 16 →
-    ArePlaced slice places place → IsPossible w slice xs m.prediction → skipped s places weights (levels_of offset m) ≡ given w xs place weights constrained offset m
+    ArePlaced slice places place → IsPossible w slice xs m.prediction → skipped s places weights (levels_of offset m) ≡ given w xs place (slice_settings weights constrained offset) m
 skip-given slice places place w xs weights constrained offset s m i l a t =
     let c = contexts_of s in
     let known = skipped-contexts s m i in

@@ -9,7 +9,7 @@ use Rattle.h264_plane.specs.declared.frame.Component.{Component}
 use Rattle.h264_plane.specs.declared.frame.Component.TheVariants.{Y, Cb, Cr}
 use Rattle.h264_plane.specs.declared.frame.Frame.{Frame}
 use Rattle.h264_plane.specs.Places.{side, Agree}
-use Rattle.h264_recon.specs.Inter.{Setting}
+use Rattle.h264_recon.specs.Inter.{Setting, position_at}
 use Rattle.h264_recon.specs.Constructed.{window, made, IsMade, IsWithin, IsPossible, Coded}
 use Rattle.h264_recon.specs.Around.{SidesAgree}
 use Rattle.h264_recon.specs.Lines.{local, IsMadeFrom, AreMadeFrom, IsSaved, Stored, samples_of, store_of, AreStored, right_column, with_left}
@@ -42,12 +42,12 @@ sides_are n w c r u a l own f k within held =
       corner = λ t. local_corner n l c own ∙ held.corner ((within.corner t).0) ((within.corner t).1) ∙ moved u (n * c - 1) (n * r - 1) (n * c + 0 - 1) (n * r + 0 - 1) (omega arith) (omega arith);
     }
 
-made_local : (k : Setting) (c r : ℕ) (m : Coded) (p : Component) (l : Store) (own : List ℕ) → IsMadeFrom k c r m p l own → IsMadeIn k c r m p (local (side p) l c own)
+made_local : (k : Setting) (c r : ℕ) (m : Coded) (p : Component) (l : Store) (own : List ℕ) → IsMadeFrom k (position_at c r) m p l own → IsMadeIn k c r m p (local (side p) l c own)
 made_local k c r m p l own made = record { each = λ x y i j. local_own (side p) l c own x y ∙ made.each x y i j }
 
 -- what is constructed from the stores is u
 pub own_is : (k : Setting) (c r : ℕ) (m : Coded) (p : Component) (u : Component → ℕ → ℕ → ℕ) (l : Store) (own : List ℕ) → c < k.across → IsWithin m.available k.across c r →
-    IsPossible m.prediction m.available → IsMade k c r m u → Stored (side p) k.across c r (u p) l → IsMadeFrom k c r m p l own →
+    IsPossible m.prediction m.available → IsMade k c r m u → Stored (side p) k.across c r (u p) l → IsMadeFrom k (position_at c r) m p l own →
     (x y : ℕ) → x < side p → y < side p → slice_index own (side p * y + x) ≡ u p (side p * c + x) (side p * r + y)
 own_is k c r m p u l own inside within ok mu held made x y i j =
     sym (local_own (side p) l c own x y)
@@ -117,7 +117,7 @@ stored_moves n w c r u v l f k agree held =
 -- ---- the step
 
 pub shows : (k : Setting) (c r : ℕ) (m : Coded) (u : Component → ℕ → ℕ → ℕ) (lines : Lines) (own : Component → List ℕ) (old new : Frame) → c < k.across → IsWithin m.available k.across c r →
-    IsPossible m.prediction m.available → IsMade k c r m u → AreStored k.across c r u lines → ((p : Component) → IsMadeFrom k c r m p (store_of p lines) (own p)) →
+    IsPossible m.prediction m.available → IsMade k c r m u → AreStored k.across c r u lines → ((p : Component) → IsMadeFrom k (position_at c r) m p (store_of p lines) (own p)) →
     ArePlaced c r own old new → HasMacroblock c r u old new
 shows k c r m u lines own old new inside within ok mu held made placed = λ p. record {
   width = (placed p).width;
@@ -150,7 +150,7 @@ pub saved_from : (c : ℕ) (first old new : Lines) → ((p : Component) → (sto
 saved_from c first old new same saved p = kept_above (side p) c (store_of p first) (store_of p old) (store_of p new) (samples_of old.last p) (same p) (saved.borders p)
 
 pub stored_next : (k : Setting) (c r : ℕ) (m : Coded) (u : Component → ℕ → ℕ → ℕ) (first old new : Lines) → c < k.across → IsWithin m.available k.across c r →
-    IsPossible m.prediction m.available → IsMade k c r m u → AreStored k.across c r u first → AreMadeFrom k c r m first old.last →
+    IsPossible m.prediction m.available → IsMade k c r m u → AreStored k.across c r u first → AreMadeFrom k (position_at c r) m first old.last →
     ((p : Component) → (store_of p old).above ≡ (store_of p first).above) → AreSaved c old new → AreStored k.across (c + 1) r u new
 stored_next k c r m u first old new inside within ok mu held made same saved = λ p.
     stored_more (side p) k.across c r (u p) (store_of p first) (store_of p new) (samples_of old.last p) (side_least p) inside
@@ -169,7 +169,7 @@ joined_own c r old new u own p columns rows placed x y i j =
     ∙ block_in (side p) (side p * c) (side p * r) (own p) (at (plane_of p old)) x y i j
 
 pub joined_made : (k : Setting) (c r : ℕ) (m : Coded) (u : Component → ℕ → ℕ → ℕ) (lines : Lines) (own : Component → List ℕ) (old new : Frame) → c < k.across → IsWithin m.available k.across c r →
-    IsPossible m.prediction m.available → AreStored k.across c r u lines → ((p : Component) → IsMadeFrom k c r m p (store_of p lines) (own p)) →
+    IsPossible m.prediction m.available → AreStored k.across c r u lines → ((p : Component) → IsMadeFrom k (position_at c r) m p (store_of p lines) (own p)) →
     ((p : Component) → (side p * c + side p ≤ (plane_of p old).width) × (side p * r + side p ≤ (plane_of p old).height)) →
     ArePlaced c r own old new → IsMade k c r m (joined c r new u)
 joined_made k c r m u lines own old new inside within ok held made room placed = record {

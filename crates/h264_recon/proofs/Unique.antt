@@ -9,7 +9,7 @@ use Rattle.h264_intra.proofs.Depends.{predicted4_same, predicted16_same, predict
 use Rattle.h264_plane.specs.Places.{side, index_of, Agree}
 use Rattle.h264_recon.specs.Blocks.{sides_of, sides4_of}
 use Rattle.h264_scale.specs.Macroblock.{residual}
-use Rattle.h264_recon.specs.Inter.{Setting}
+use Rattle.h264_recon.specs.Inter.{Setting, position_at}
 use Rattle.h264_recon.specs.Constructed.{window, mode_at, predicted_luma, predicted_intra, made_by, made, IsMade, Constructed, IsWithin, IsPossibleLuma, IsPossible, IsAllowed, Coded}
 use Rattle.h264_recon.specs.Around.{SidesAgree, BlocksAgree}
 use Rattle.h264_recon.specs.declared.macroblock.Available.{Available}
@@ -40,7 +40,7 @@ intra_same modes a Cr s t x y i j ok sides blocks = predicted_chroma_same modes.
 
 -- and so does a constructed sample
 pub made_by_same : (d : Prediction) (k : Setting) (c r : ℕ) (m : Coded) (p : Component) (s t : ℕ → ℕ → ℕ) (x y : ℕ) → x < side p → y < side p → IsPossible d m.available →
-    SidesAgree (side p) m.available s t → BlocksAgree (side p) (index_of (x / 4) (y / 4)) s t → made_by d k c r m p s x y ≡ made_by d k c r m p t x y
+    SidesAgree (side p) m.available s t → BlocksAgree (side p) (index_of (x / 4) (y / 4)) s t → made_by d k (position_at c r) m p s x y ≡ made_by d k (position_at c r) m p t x y
 unfolding made_by
 made_by_same (Intra modes) k c r m p s t x y i j ok sides blocks =
     ap (λ n. clip1 (pos n +ℤ residual m.levels p x y)) (intra_same modes m.available p s t x y i j ok sides blocks)
@@ -51,7 +51,7 @@ made_by_same (Pcm bytes) k c r m p s t x y i j ok sides blocks = refl
 
 -- s meets them, seen from the macroblock
 pub record IsMadeIn (k : Setting) (c r : ℕ) (m : Coded) (p : Component) (s : ℕ → ℕ → ℕ) : Type 0 where
-  pub each : (x y : ℕ) → x < side p → y < side p → s (x + 1) (y + 1) ≡ made k c r m p s x y
+  pub each : (x y : ℕ) → x < side p → y < side p → s (x + 1) (y + 1) ≡ made k (position_at c r) m p s x y
 
 quotient : (x i : ℕ) → i < 4 → (4 * x + i) / 4 ≡ x
 quotient x i p = omega arith

@@ -63,12 +63,22 @@ prediction_of place (coded.Inter motions) = Inter (motions_of place motions)
 unfoldable pub weights_of : List (Option Weights) → coded.Prediction → List (Option Weights)
 weights_of weights p = table 16 (λ k. index_weights weights (option_and_then (λ m. m) (motion_in p (number_of (k % 4) (k / 4)))))
 
--- ---- the macroblock m after these, in a picture that is so many macroblocks wide, by the weights of its slice's reference indexes,
--- constrained_intra_pred_flag and chroma_qp_index_offset
-unfoldable pub given : ℕ → List CodedMacroblock → (ℕ → ℕ) → List (Option Weights) → Bool → ℤ → CodedMacroblock → Coded
-given width picture place weights constrained offset m = record {
-  available = used_by m.prediction (available width picture m.slice constrained);
+-- ---- the macroblock
+
+-- what a slice settles for its macroblocks: the weights of its reference indexes, constrained_intra_pred_flag and chroma_qp_index_offset
+pub record SliceSettings : Type 0 where
+  pub weights : List (Option Weights)
+  pub constrained_intra : Bool
+  pub chroma_qp_index_offset : ℤ
+
+abbrev pub slice_settings : List (Option Weights) → Bool → ℤ → SliceSettings
+slice_settings weights constrained offset = record { weights = weights; constrained_intra = constrained; chroma_qp_index_offset = offset }
+
+-- the macroblock m after these, in a picture that is so many macroblocks wide
+unfoldable pub given : ℕ → List CodedMacroblock → (ℕ → ℕ) → SliceSettings → CodedMacroblock → Coded
+given width picture place slice m = record {
+  available = used_by m.prediction (available width picture m.slice slice.constrained_intra);
   prediction = prediction_of place m.prediction;
-  levels = levels_of offset m;
-  weights = weights_of weights m.prediction;
+  levels = levels_of slice.chroma_qp_index_offset m;
+  weights = weights_of slice.weights m.prediction;
 }

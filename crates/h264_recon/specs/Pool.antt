@@ -4,9 +4,10 @@ use Rattle.h264_plane.specs.Samples.{at, IsSized}
 use Rattle.h264_plane.specs.Frames.{plane_of, frame_at}
 use Rattle.h264_plane.specs.declared.frame.Component.{Component}
 use Rattle.h264_plane.specs.declared.frame.Frame.{Frame}
-use Rattle.h264_plane.specs.Places.{side}
+use Rattle.h264_plane.specs.Places.{side, Grid}
 use Rattle.h264_recon.specs.Inter.{Setting, predicted_from, motion_at, no_motion}
 use Rattle.h264_recon.specs.declared.macroblock.Motion.{Motion}
+use Rattle.h264_recon.specs.declared.macroblock.Position.{Position}
 use Rattle.h264_recon.specs.Predicted.{Prediction, Intra, Inter, Pcm}
 
 -- the frame at place n is the reference picture of that place
@@ -35,10 +36,10 @@ AreUsable frames c r (Inter motion) = HaveRoom frames c r motion
 AreUsable frames c r (Pcm bytes) = Unit {0}
 
 -- the predicted sample, from the frames of the pool
-abbrev pub of_frames : Component → List Frame → Motion → ℕ → ℕ → ℕ
+abbrev pub of_frames : Component → List Frame → Motion → Grid
 of_frames p frames m x y =
     let plane = plane_of p (frame_at frames m.picture) in
     predicted_from p plane.width plane.height (at plane) m x y
 
-abbrev pub from_pool : List Frame → List Motion → ℕ → ℕ → Component → ℕ → ℕ → ℕ
-from_pool frames motion c r p x y = of_frames p frames (motion_at motion p x y) (side p * c + x) (side p * r + y)
+abbrev pub from_pool : List Frame → List Motion → Position → Component → Grid
+from_pool frames motion here p x y = of_frames p frames (motion_at motion p x y) (side p * here.column + x) (side p * here.row + y)

@@ -4,7 +4,7 @@ use Rattle.h264_plane.specs.Samples.{at, ShowsSamples, with_block}
 use Rattle.h264_plane.specs.Frames.{plane_of}
 use Rattle.h264_plane.specs.declared.frame.Component.{Component}
 use Rattle.h264_plane.specs.declared.frame.Frame.{Frame}
-use Rattle.h264_plane.specs.Places.{side, with_own}
+use Rattle.h264_plane.specs.Places.{side, with_own, Grid}
 use Rattle.h264_recon.specs.Lines.{samples_of, store_of, IsSaved}
 use Rattle.h264_recon.specs.declared.store.Lines.{Lines}
 
@@ -19,9 +19,9 @@ pub record AreSaved (c : ℕ) (old new : Lines) : Type 0 where
   pub last : new.last ≡ old.last
 
 -- the planes have the samples u at the macroblock, and each other sample is what it was
-abbrev pub HasMacroblock : ℕ → ℕ → (Component → ℕ → ℕ → ℕ) → Frame → Frame → Type 0
+abbrev pub HasMacroblock : ℕ → ℕ → (Component → Grid) → Frame → Frame → Type 0
 HasMacroblock c r u old new = (p : Component) → ShowsSamples (plane_of p old) (plane_of p new) (with_own (side p) c r (u p) (at (plane_of p old)))
 
 -- the samples u with the macroblock as the frame has it
-abbrev pub joined : ℕ → ℕ → Frame → (Component → ℕ → ℕ → ℕ) → Component → ℕ → ℕ → ℕ
+abbrev pub joined : ℕ → ℕ → Frame → (Component → Grid) → Component → Grid
 joined c r frame u p = with_own (side p) c r (at (plane_of p frame)) (u p)

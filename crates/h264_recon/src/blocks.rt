@@ -4,7 +4,7 @@ ghost use Rattle.h264_scale.specs.Residual.{residual_at};
 ghost use Rattle.h264_scale.specs.Macroblock.{luma_d, luma_fits};
 ghost use Rattle.h264_recon.specs.Blocks.{sides4_of};
 ghost use Rattle.h264_recon.specs.Constructed.{mode_at};
-ghost use Rattle.h264_recon.specs.Blocks4.{AreMade4, IsPut4};
+ghost use Rattle.h264_recon.specs.Blocks4.{AreMade4, IsPut4, intra4};
 ghost use Rattle.h264_recon.specs.ReadLevels.{levels_in};
 
 use crate::added::add_luma_block;
@@ -41,7 +41,7 @@ pub fn luma4(
     requires qp { levels.now.read.now.qp ≤ 51 }
     ensures range { IsOk result ↔ IsTrue (luma_fits (levels_in levels.now).qp (levels_in levels.now).luma) }
     ensures made { IfOk result (λ u. ((x y : ℕ) → x < 4 → y < 4 → IsTrue (is_possible4 (mode_at modes.now x y) (sides4_of a x y))) →
-        AreMade4 16 modes.now a (λ x y. residual_at (luma_d (levels_in levels.now).qp (levels_in levels.now).luma x y)) store.now column own.new) }
+        AreMade4 16 (intra4 modes.now a (λ x y. residual_at (luma_d (levels_in levels.now).qp (levels_in levels.now).luma x y))) store.now column own.new) }
 {
     let qp = levels.read.qp;
     let blocks = luma_of(levels.read)?;

@@ -6,7 +6,7 @@ ghost use Rattle.h264_plane.specs.Frames.{plane_of};
 ghost use Rattle.h264_intra.specs.Chroma.{is_possible_chroma, predicted_chroma};
 ghost use Rattle.h264_intra.specs.Filters.{HasSamples};
 ghost use Rattle.h264_recon.specs.Blocks.{sides_of};
-ghost use Rattle.h264_recon.specs.Inter.{Setting};
+ghost use Rattle.h264_recon.specs.Inter.{Setting, position_at};
 ghost use Rattle.h264_scale.specs.Macroblock.{luma_fits, levels_fit};
 ghost use Rattle.h264_recon.specs.ReadLevels.{levels_in, is_pcm, is_of_samples};
 ghost use Rattle.h264_recon.specs.Residuals.{HasNoResidual};
@@ -99,7 +99,7 @@ fn make_intra(
     requires qp { levels.now.read.now.qp ≤ 51 }
     ensures range { IsOk result ↔ IsTrue (levels_fit (levels_in levels.now)) }
     ensures made { IfOk result (λ u. (k : Setting) (r : ℕ) (m : Coded) → m.prediction ≡ Intra modes.now → m.available ≡ available →
-        IsPossible m.prediction m.available → m.levels ≡ levels_in levels.now → AreMadeFrom k column r m lines.old lines.new.last) }
+        IsPossible m.prediction m.available → m.levels ≡ levels_in levels.now → AreMadeFrom k (position_at column r) m lines.old lines.new.last) }
     ensures above { (p : Component) → (store_of p lines.new).above ≡ (store_of p lines.old).above }
 {
     lines.bring_left();
@@ -126,7 +126,7 @@ fn make_inter(
     ensures range { IsOk result ↔ IsTrue (levels_fit (levels_in levels.now)) }
     ensures made { IfOk result (λ u. (k : Setting) (m : Coded) (lines : Lines) → position.column < k.across → position.row < k.down →
         m.prediction ≡ Inter (motions_in motions.now) → m.weights ≡ weights_in weighting.entry → AreShown k pool.now m.prediction →
-        m.levels ≡ levels_in levels.now → AreMadeFrom k position.column position.row m lines own.new) }
+        m.levels ≡ levels_in levels.now → AreMadeFrom k position m lines own.new) }
 {
     predict(motions, pool, position, own);
     weigh_all(weighting, own);
@@ -153,7 +153,7 @@ fn make(
         IsOk result ↔ IsTrue (levels_fit (levels_in levels.now)) }
     ensures made { IfOk result (λ u. (k : Setting) → position.column < k.across → position.row < k.down →
         IsPossible (prediction_in m.now.prediction) m.now.available → AreShown k pool.now (prediction_in m.now.prediction) →
-        AreMadeFrom k position.column position.row (coded m.now (levels_in levels.now)) lines.old lines.new.last) }
+        AreMadeFrom k position (coded m.now (levels_in levels.now)) lines.old lines.new.last) }
     ensures above { (p : Component) → (store_of p lines.new).above ≡ (store_of p lines.old).above }
 {
     match &m.prediction {
@@ -250,7 +250,7 @@ fn make_skipped(
     requires usable { AreUsable pool.now position.column position.row (prediction_by skipped.now references.now.places.now) }
     requires small { (position.column < 1024) × (position.row < 1024) }
     ensures made { (k : Setting) (l : Levels) → position.column < k.across → position.row < k.down →
-        AreShown k pool.now (prediction_by skipped.now references.now.places.now) → HasNoResidual l → AreMadeFrom k position.column position.row
+        AreShown k pool.now (prediction_by skipped.now references.now.places.now) → HasNoResidual l → AreMadeFrom k position
         (skipped_by skipped.now references.now.places.now (weights_by references.now.weights.now) l) lines.old lines.new.last }
     ensures above { (p : Component) → (store_of p lines.new).above ≡ (store_of p lines.old).above }
 {

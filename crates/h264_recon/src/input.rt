@@ -13,7 +13,7 @@ ghost use Rattle.h264_mbsyntax.specs.Possible.{IsPossible};
 ghost use Rattle.h264_recon.specs.ReadLevels.{is_of_samples, is_pcm};
 ghost use Rattle.h264_recon.specs.Constructed.{coded as coded_as, IsWithin};
 ghost use Rattle.h264_recon.specs.Levels.{levels_of};
-ghost use Rattle.h264_recon.specs.Given.{available as available_of, no_sides as no_sides_of, used_by, prediction_of, given as given_of};
+ghost use Rattle.h264_recon.specs.Given.{available as available_of, no_sides as no_sides_of, used_by, prediction_of, given as given_of, slice_settings};
 ghost use Rattle.h264_recon.specs.Predicted.{prediction_in, placed_motion, unmoved as unmoved_in};
 ghost use Rattle.h264_recon.specs.Placed.{ArePlaced, PointsInto, weights_by};
 
@@ -191,7 +191,7 @@ pub fn given<'a>(
         IsPossible width slice.now picture coded.prediction → length slice.now.references ≡ 16 →
         ArePlaced slice.now references.now.places.now place →
         coded_as result (levels_of slice.now.chroma_qp_index_offset coded) ≡ given_of width picture place
-        (weights_by references.now.weights.now) slice.now.constrained_intra slice.now.chroma_qp_index_offset coded }
+        (slice_settings (weights_by references.now.weights.now) slice.now.constrained_intra slice.now.chroma_qp_index_offset) coded }
 {
     Macroblock {
         available: used(read, near, slice, position.column, position.row),

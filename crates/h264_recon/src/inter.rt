@@ -6,7 +6,8 @@ ghost use Rattle.h264_plane.specs.declared.frame.Component.TheVariants.{Y, Cb, C
 ghost use Rattle.h264_inter.specs.Luma.{predicted_luma};
 ghost use Rattle.h264_inter.specs.Chroma.{predicted_chroma};
 ghost use Rattle.h264_inter.specs.Reference.{HasBlock};
-ghost use Rattle.h264_recon.specs.Parts.{IsPart, ArePredicted, AreMade};
+ghost use Rattle.h264_recon.specs.Inter.{position_at};
+ghost use Rattle.h264_recon.specs.Parts.{IsPart, ArePredicted, AreMade, part_from};
 ghost use Rattle.h264_recon.specs.Pool.{HasRoom, HaveRoom, of_frames, from_pool};
 ghost use Rattle.h264_recon.specs.Predicted.{motions_in, parted_motions, placed_motion};
 
@@ -43,7 +44,7 @@ fn luma_part<const W: usize, const H: usize>(
     requires small { (position.column < 1024) × (position.row < 1024) }
     requires columns { 16 * position.column + 16 ≤ plane.now.width }
     requires rows { 16 * position.row + 16 ≤ plane.now.height }
-    ensures { IsPart 16 (4 * x) (4 * y) W H (λ u v. predicted_luma plane.now.width plane.now.height (at plane.now) vector
+    ensures { IsPart 16 (part_from (4 * x) (4 * y) W H) (λ u v. predicted_luma plane.now.width plane.now.height (at plane.now) vector
         (16 * position.column + u) (16 * position.row + v)) out.old out.new }
 {
     let mut block = [0; 128];
@@ -71,7 +72,7 @@ fn chroma_part<const W: usize, const H: usize>(
     requires small { (position.column < 1024) × (position.row < 1024) }
     requires columns { 8 * position.column + 8 ≤ plane.now.width }
     requires rows { 8 * position.row + 8 ≤ plane.now.height }
-    ensures { IsPart 8 (2 * x) (2 * y) W H (λ u v. predicted_chroma plane.now.width plane.now.height (at plane.now) vector
+    ensures { IsPart 8 (part_from (2 * x) (2 * y) W H) (λ u v. predicted_chroma plane.now.width plane.now.height (at plane.now) vector
         (8 * position.column + u) (8 * position.row + v)) out.old out.new }
 {
     let mut block = [0; 32];
@@ -99,9 +100,12 @@ fn predict_part<const W: usize, const H: usize, const C: usize, const D: usize>(
     requires inside { (2 * x + C ≤ 8) × (2 * y + D ≤ 8) }
     requires small { (position.column < 1024) × (position.row < 1024) }
     requires room { HasRoom pool.now position.column position.row motion.picture }
-    ensures y { IsPart 16 (4 * x) (4 * y) W H (λ u v. of_frames Y pool.now motion (16 * position.column + u) (16 * position.row + v)) own.old.y own.new.y }
-    ensures cb { IsPart 8 (2 * x) (2 * y) C D (λ u v. of_frames Cb pool.now motion (8 * position.column + u) (8 * position.row + v)) own.old.cb own.new.cb }
-    ensures cr { IsPart 8 (2 * x) (2 * y) C D (λ u v. of_frames Cr pool.now motion (8 * position.column + u) (8 * position.row + v)) own.old.cr own.new.cr }
+    ensures y { IsPart 16 (part_from (4 * x) (4 * y) W H)
+        (λ u v. of_frames Y pool.now motion (16 * position.column + u) (16 * position.row + v)) own.old.y own.new.y }
+    ensures cb { IsPart 8 (part_from (2 * x) (2 * y) C D)
+        (λ u v. of_frames Cb pool.now motion (8 * position.column + u) (8 * position.row + v)) own.old.cb own.new.cb }
+    ensures cr { IsPart 8 (part_from (2 * x) (2 * y) C D)
+        (λ u v. of_frames Cr pool.now motion (8 * position.column + u) (8 * position.row + v)) own.old.cr own.new.cr }
 {
     let frame = pool.frame(usize::from(motion.picture));
     let vector = motion.vector;
@@ -115,7 +119,7 @@ fn predict_part<const W: usize, const H: usize, const C: usize, const D: usize>(
 fn predict_16x8(m: &Motions, pool: &Pool, position: Position, own: &mut Samples)
     requires small { (position.column < 1024) × (position.row < 1024) }
     requires room { HaveRoom pool.now position.column position.row (parted_motions P16x8 m.now.places.now m.now.derived.now) }
-    ensures { ArePredicted pool.now (parted_motions P16x8 m.now.places.now m.now.derived.now) position.column position.row own.new }
+    ensures { ArePredicted pool.now (parted_motions P16x8 m.now.places.now m.now.derived.now) position own.new }
 {
     for k in 0..2 {
         let motion = motion_of(m, 8 * k);
@@ -128,7 +132,7 @@ fn predict_16x8(m: &Motions, pool: &Pool, position: Position, own: &mut Samples)
 fn predict_8x16(m: &Motions, pool: &Pool, position: Position, own: &mut Samples)
     requires small { (position.column < 1024) × (position.row < 1024) }
     requires room { HaveRoom pool.now position.column position.row (parted_motions P8x16 m.now.places.now m.now.derived.now) }
-    ensures { ArePredicted pool.now (parted_motions P8x16 m.now.places.now m.now.derived.now) position.column position.row own.new }
+    ensures { ArePredicted pool.now (parted_motions P8x16 m.now.places.now m.now.derived.now) position own.new }
 {
     for k in 0..2 {
         let motion = motion_of(m, 4 * k);
@@ -149,10 +153,8 @@ fn predict_sub_macroblock(
     requires quarter { quarter < 4 }
     requires small { (position.column < 1024) × (position.row < 1024) }
     requires room { HaveRoom pool.now position.column position.row (parted_motions (P8x8 types.now) m.now.places.now m.now.derived.now) }
-    requires before { AreMade number_of (4 * quarter) pool.now (parted_motions (P8x8 types.now) m.now.places.now m.now.derived.now)
-        position.column position.row own.old }
-    ensures { AreMade number_of (4 * quarter + 4) pool.now (parted_motions (P8x8 types.now) m.now.places.now m.now.derived.now)
-        position.column position.row own.new }
+    requires before { AreMade number_of (4 * quarter) pool.now (parted_motions (P8x8 types.now) m.now.places.now m.now.derived.now) position own.old }
+    ensures { AreMade number_of (4 * quarter + 4) pool.now (parted_motions (P8x8 types.now) m.now.places.now m.now.derived.now) position own.new }
 {
     let (x, y) = (2 * (quarter % 2), 2 * (quarter / 2));
     let sub_partition = types[quarter];
@@ -178,7 +180,7 @@ fn predict_8x8(
 )
     requires small { (position.column < 1024) × (position.row < 1024) }
     requires room { HaveRoom pool.now position.column position.row (parted_motions (P8x8 types.now) m.now.places.now m.now.derived.now) }
-    ensures { ArePredicted pool.now (parted_motions (P8x8 types.now) m.now.places.now m.now.derived.now) position.column position.row own.new }
+    ensures { ArePredicted pool.now (parted_motions (P8x8 types.now) m.now.places.now m.now.derived.now) position own.new }
 {
     for quarter in 0..4 {
         predict_sub_macroblock(m, types, pool, position, quarter, own);
@@ -190,9 +192,9 @@ fn predict_8x8(
 pub fn predict_whole(motion: Motion, pool: &Pool, column: usize, row: usize, own: &mut Samples)
     requires small { (column < 1024) × (row < 1024) }
     requires room { HaveRoom pool.now column row (replicate 16 motion) }
-    ensures y { HasBlock 16 16 own.new.y (from_pool pool.now (replicate 16 motion) column row Y) }
-    ensures cb { HasBlock 8 8 own.new.cb (from_pool pool.now (replicate 16 motion) column row Cb) }
-    ensures cr { HasBlock 8 8 own.new.cr (from_pool pool.now (replicate 16 motion) column row Cr) }
+    ensures y { HasBlock 16 16 own.new.y (from_pool pool.now (replicate 16 motion) (position_at column row) Y) }
+    ensures cb { HasBlock 8 8 own.new.cb (from_pool pool.now (replicate 16 motion) (position_at column row) Cb) }
+    ensures cr { HasBlock 8 8 own.new.cr (from_pool pool.now (replicate 16 motion) (position_at column row) Cr) }
 {
     let frame = pool.frame(usize::from(motion.picture));
     let vector = motion.vector;
@@ -206,7 +208,7 @@ pub fn predict_whole(motion: Motion, pool: &Pool, column: usize, row: usize, own
 pub fn predict(motions: &Motions, pool: &Pool, position: Position, own: &mut Samples)
     requires small { (position.column < 1024) × (position.row < 1024) }
     requires room { HaveRoom pool.now position.column position.row (motions_in motions.now) }
-    ensures { ArePredicted pool.now (motions_in motions.now) position.column position.row own.new }
+    ensures { ArePredicted pool.now (motions_in motions.now) position own.new }
 {
     match &motions.partition {
         Partition::P16x16 => {

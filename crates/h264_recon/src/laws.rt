@@ -6,7 +6,7 @@ ghost use Rattle.h264_base.specs.declared.weight.Weights.{Weights};
 ghost use Rattle.h264_near.specs.Coded.{CodedMacroblock};
 ghost use Rattle.h264_vectors.specs.declared.slice.SliceContext.{SliceContext};
 ghost use Rattle.h264_mbsyntax.specs.Possible.{IsPossible};
-ghost use Rattle.h264_recon.specs.Given.{given};
+ghost use Rattle.h264_recon.specs.Given.{given, slice_settings};
 ghost use Rattle.h264_plane.specs.declared.frame.Component.{Component};
 ghost use Rattle.h264_plane.specs.Places.{side};
 ghost use Rattle.h264_recon.specs.Inter.{Setting};
@@ -45,5 +45,6 @@ pub fn next_row()
 pub fn given_is_allowed()
     ensures { (width : ℕ) (slice : SliceContext) (picture : List CodedMacroblock) (place : ℕ → ℕ) (weights : List (Option Weights)) (offset : ℤ)
         (coded : CodedMacroblock) (c r : ℕ) → length picture ≡ r * width + c → c < width → coded.slice ≡ slice.number →
-        IsPossible width slice picture coded.prediction → IsAllowed (given width picture place weights slice.constrained_intra offset coded) width c r }
+        IsPossible width slice picture coded.prediction →
+        IsAllowed (given width picture place (slice_settings weights slice.constrained_intra offset) coded) width c r }
 {}

@@ -3,7 +3,7 @@ use Rattle.std.proofs.Common.{⊎_elim, ◌≡◌, ℕ, Bool, true, false, List,
 use Rattle.std.proofs.lemmas.List.{append-nil}
 use Rattle.std.specs.Io.KnownBytes.{Keeps}
 use Rattle.circular_buffer.specs.Buffer.{keep_last}
-use Rattle.h264_base.specs.Call.{Call}
+use Rattle.h264_base.specs.Call.{Call, span}
 use Rattle.h264_base.specs.declared.mode.Target.{Target}
 use Rattle.h264_base.specs.declared.mode.Mode.TheVariants.{Full}
 use Rattle.h264_base.specs.declared.stop.Stop.{Stop}
@@ -11,13 +11,15 @@ use Rattle.h264_base.specs.declared.stop.Stop.TheVariants.{No, Outside, Memory, 
 use Rattle.h264_plane.specs.Frames.{no_frame}
 use Rattle.h264_plane.specs.declared.frame.Frame.{Frame}
 use Rattle.h264_report.specs.Objects.{Opening, bare}
-use Rattle.h264_report.specs.Sent.{Sends, Takes, IsBlamed}
-use Rattle.h264_report.specs.Told.{lines_of, bytes_of, elements_of, HoldsCalls, TookLines, TookFrames}
+use Rattle.h264_report.specs.Sent.{Sends, Takes, IsBlamed, LentWriter, lent, wrote}
+use Rattle.h264_report.specs.Told.{lines_of, bytes_of, elements_of, HoldsCalls, LineSinkState, TookLines, TookFrames}
 use Rattle.h264_report.specs.Written.{OfBytes, IsFront, Answers, Account, calls_in, told_of, Writes, last_line, Lists, is_no, trail_text, Checks, Decodes}
 use Rattle.h264_report.specs.Trail.{element_lines}
+use Rattle.h264_report.specs.declared.judging.Ending.{Ending}
 use Rattle.h264_report.specs.declared.listing.Listing.{Listing}
 use Rattle.h264_report.specs.declared.trail.Element.{Element}
 use Rattle.h264_report.proofs.Known.{sends-more, sends-none, sends-keeps, some-after}
+use Rattle.h264_report.proofs.Sinks.{lined}
 use Rattle.h264_verify.specs.Telling.{Told, Tells, took_with, calls_of, AreDecoded}
 use Rattle.h264_verify.specs.Verdict.{Verdict, JudgedBy, Judged}
 use Rattle.h264_verify.specs.declared.state.Summary.{Summary}
@@ -34,7 +36,7 @@ taken frames took s s' more h t = t.told [] (tt, h)
 
 module _ {S : Type 0} (took : S → List Call → Type 0) (failures : S → ℕ) (terms : Terms) (bytes : List ℕ) (s s' : S) where
   -- what the sink took
-  account : (none : took s []) (frames : ℕ → Frame) (answer : Result Summary Stop) → JudgedBy terms (took_with frames took) failures bytes [] s s' answer → (a : Account terms bytes answer) × took s' (calls_in a)
+  account : (none : took s []) (frames : ℕ → Frame) (answer : Result Summary Stop) → JudgedBy terms (span (took_with frames took) failures s s') bytes [] answer → (a : Account terms bytes answer) × took s' (calls_in a)
   account none frames (Ok summary) j = let t = taken frames took s s' j.0.more none j.0.tells in (record { frames = frames; told = j.0.more; decoded = t.0; answers = j.0.verdict }, t.1)
   account none frames (Err (No bit rule)) j = let t = taken frames took s s' j.0.more none j.0.tells in (record { frames = frames; told = j.0.more; decoded = t.0; answers = j.0.verdict }, t.1)
   account none frames (Err (Outside bit feature)) j = let t = taken frames took s s' j.0.more none j.0.tells in (record { frames = frames; told = j.0.more; decoded = t.0; answers = j.0.verdict }, t.1)
@@ -43,7 +45,7 @@ module _ {S : Type 0} (took : S → List Call → Type 0) (failures : S → ℕ)
   account none frames (Err Write) j = let t = taken frames took s s' j.0.more none j.0.tells in (record { frames = frames; told = j.0.more; decoded = t.0; answers = record { rest = j.0.rest; answer = j.0.answer; verdict = j.0.verdict } }, t.1)
 
 -- what the sink took
-pub accounts : {S : Type 0} {took : S → List Call → Type 0} {failures : S → ℕ} {terms : Terms} {bytes : List ℕ} {frames : ℕ → Frame} {s s' : S} {answer : Result Summary Stop} → Judged terms took failures bytes frames [] s s' answer → took s [] → (a : Account terms bytes answer) × took s' (calls_in a)
+pub accounts : {S : Type 0} {took : S → List Call → Type 0} {failures : S → ℕ} {terms : Terms} {bytes : List ℕ} {frames : ℕ → Frame} {s s' : S} {answer : Result Summary Stop} → Judged terms (span took failures s s') bytes frames [] answer → took s [] → (a : Account terms bytes answer) × took s' (calls_in a)
 accounts {S} {took} {failures} {terms} {bytes} {frames} {s} {s'} {answer} j none = account took failures terms bytes s s' none j.made answer j.judged
 
 -- ---- with another answer
@@ -102,7 +104,7 @@ module _ {terms : Terms} {bytes : List ℕ} where
 
 -- What the writer after a sink took that had taken nothing.
 pub writes : {S : Type 0} {took : S → List Call → Type 0} {failures : S → ℕ} {terms : Terms} {bytes : List ℕ} {frames : ℕ → Frame} {s s' : S} {answer said : Result Summary Stop} (make : List Call → List ℕ) (start known : Option (List ℕ)) (broke_off : Bool) →
-    said ≡ told_of broke_off answer → Judged terms took failures bytes frames [] s s' answer → took s [] → ((calls : List Call) → took s' calls → HoldsCalls broke_off make start known calls) → Writes make terms bytes said start known
+    said ≡ told_of broke_off answer → Judged terms (span took failures s s') bytes frames [] answer → took s [] → ((calls : List Call) → took s' calls → HoldsCalls broke_off make start known calls) → Writes make terms bytes said start known
 writes {terms = terms} {bytes = bytes} {answer = answer} make start known broke_off is j none holds =
     let a = accounts j none in
     subst (λ x. Writes make terms bytes x start known) (sym is) (took-writes {make = make} {start = start} {known = known} broke_off answer a.0 (holds (calls_in a.0) a.1))
@@ -159,7 +161,7 @@ takes-after false {a} {b} c {bs} cs p q = some-after p q
 
 -- ---- sinks that were told nothing
 
-pub none-lines : {name reference : ℕ} {head begins : Opening} {listing l : Listing} {start known : Option (List ℕ)} {was : Bool} {frames : ℕ} {broke_off broken : Bool} → reference ≡ name → begins ≡ head → l ≡ listing → known ≡ start → broken ≡ was → frames ≡ 0 → broke_off ≡ false → TookLines name head listing start was reference begins l frames broke_off broken known []
+pub none-lines : {name reference : ℕ} {head begins : Opening} {listing l : Listing} {start known : Option (List ℕ)} {was : Bool} {frames : ℕ} {broke_off broken : Bool} → reference ≡ name → begins ≡ head → l ≡ listing → known ≡ start → broken ≡ was → frames ≡ 0 → broke_off ≡ false → TookLines (lent name start was) head listing (lined begins l (lent reference known broken) frames broke_off) []
 unfolding lines_of
 none-lines {name} {reference} {head} {begins} {listing} {l} {start} {known} {was} {frames} {broke_off} {broken} same heads lists unwritten quiet zero whole = record {
   same_reference = same;
@@ -172,7 +174,7 @@ none-lines {name} {reference} {head} {begins} {listing} {l} {start} {known} {was
   };
 }
 
-pub none-frames : {name reference : ℕ} {start known : Option (List ℕ)} {was broke_off broken : Bool} → reference ≡ name → known ≡ start → broken ≡ was → broke_off ≡ false → TookFrames name start was reference broke_off broken known []
+pub none-frames : {name reference : ℕ} {start known : Option (List ℕ)} {was broke_off broken : Bool} → reference ≡ name → known ≡ start → broken ≡ was → broke_off ≡ false → TookFrames (lent name start was) broke_off (lent reference known broken) []
 unfolding bytes_of
 none-frames {name} {reference} {start} {known} {was} {broke_off} {broken} same unwritten quiet whole = record {
   same_reference = same;
@@ -181,8 +183,8 @@ none-frames {name} {reference} {start} {known} {was} {broke_off} {broken} same u
 }
 
 -- what a sink holds is that of the listing for which it was made
-pub of-listing : {name reference : ℕ} {head begins : Opening} {listing l : Listing} {start known : Option (List ℕ)} {was : Bool} {frames : ℕ} {broke_off broken : Bool} {calls : List Call} → TookLines name head listing start was reference begins l frames broke_off broken known calls → HoldsCalls broke_off (lines_of head listing 0) start known calls
-of-listing {begins = begins} {listing = listing} {start = start} {known = known} {broke_off = broke_off} {calls = calls} h = subst (λ b. HoldsCalls broke_off (lines_of b listing 0) start known calls) h.same_opening (subst (λ x. HoldsCalls broke_off (lines_of begins x 0) start known calls) h.same_listing h.lines.holds)
+pub of-listing : {start : LentWriter} {head : Opening} {listing : Listing} {s : LineSinkState} {calls : List Call} → TookLines start head listing s calls → HoldsCalls s.broke_off (lines_of head listing 0) start.bytes s.writer.bytes calls
+of-listing {start} {head} {listing} {s} {calls} h = subst (λ b. HoldsCalls s.broke_off (lines_of b listing 0) start.bytes s.writer.bytes calls) h.same_opening (subst (λ x. HoldsCalls s.broke_off (lines_of s.opening x 0) start.bytes s.writer.bytes calls) h.same_listing h.lines.holds)
 
 -- what has failed stays so
 pub still-failed : (written mid new : Bool) → (written ≡ true → new ≡ mid) → (written ≡ false → new ≡ true) → mid ≡ true → new ≡ true
@@ -241,33 +243,33 @@ none-elements s e = e
 -- ---- the commands
 
 -- the lines and the last line
-pub listed : {terms : Terms} {listing : Listing} {bytes : List ℕ} (answer said : Result Summary Stop) (written : Bool) (old mid new : Option (List ℕ)) → (said ≡ answer) ⊎ (said ≡ Err Memory) → (answer ≡ Err Write → said ≡ Err Write) → Writes (lines_of bare listing 0) terms bytes answer old mid → Takes written mid new (last_line terms.mode said) → Lists terms listing bytes said written old new
-listed {terms} {listing} answer said written old mid new e stays w t =
-    let v = said-answer answer said e stays w in
-    record { account = v.account; lines = v.text; are_lines = v.is_written; text = takes-after written new (last_line terms.mode said) v.sends t }
+pub listed : {terms : Terms} {listing : Listing} {bytes : List ℕ} (answer : Result Summary Stop) (ending : Ending) (old mid new : Option (List ℕ)) → (ending.answer ≡ answer) ⊎ (ending.answer ≡ Err Memory) → (answer ≡ Err Write → ending.answer ≡ Err Write) → Writes (lines_of bare listing 0) terms bytes answer old mid → Takes ending.written mid new (last_line terms.mode ending.answer) → Lists terms listing bytes ending (wrote old new)
+listed {terms} {listing} answer ending old mid new e stays w t =
+    let v = said-answer answer ending.answer e stays w in
+    record { account = v.account; lines = v.text; are_lines = v.is_written; text = takes-after ending.written new (last_line terms.mode ending.answer) v.sends t }
 
 -- the last elements of what a sink took, and the last line
-pub checked : {S : Type 0} {target : Target} {took : S → List Call → Type 0} {failures : S → ℕ} {bytes : List ℕ} {frames : ℕ → Frame} {s s' : S} {answer said : Result Summary Stop} {written : Bool} (trail : S → List Element) (old new : Option (List ℕ)) →
-    Judged (terms_of Full target) took failures bytes frames [] s s' answer → took s [] → ((calls : List Call) → took s' calls → trail s' ≡ keep_last 16 (elements_of calls)) → (said ≡ answer) ⊎ (said ≡ Err Memory) → Takes written old new (trail_text (trail s') said ++ last_line Full said) → Checks target bytes said written old new
-checked {s' = s'} {answer = answer} {said = said} {written = written} trail old new j none holds e t =
+pub checked : {S : Type 0} {target : Target} {took : S → List Call → Type 0} {failures : S → ℕ} {bytes : List ℕ} {frames : ℕ → Frame} {s s' : S} {answer : Result Summary Stop} {ending : Ending} (trail : S → List Element) (old new : Option (List ℕ)) →
+    Judged (terms_of Full target) (span took failures s s') bytes frames [] answer → took s [] → ((calls : List Call) → took s' calls → trail s' ≡ keep_last 16 (elements_of calls)) → (ending.answer ≡ answer) ⊎ (ending.answer ≡ Err Memory) → Takes ending.written old new (trail_text (trail s') ending.answer ++ last_line Full ending.answer) → Checks target bytes ending (wrote old new)
+checked {s' = s'} {answer = answer} {ending = ending} trail old new j none holds e t =
     let a = accounts j none in
-    let b = told-account answer said e a.0 in
+    let b = told-account answer ending.answer e a.0 in
     let is : trail s' ≡ keep_last 16 (elements_of (calls_in b.0)) = holds (calls_in a.0) a.1 ∙ ap (λ calls. keep_last 16 (elements_of calls)) (sym b.1) in
-    record { account = b.0; text = subst (λ es. Takes written old new (trail_text es said ++ last_line Full said)) is t }
+    record { account = b.0; text = subst (λ es. Takes ending.written old new (trail_text es ending.answer ++ last_line Full ending.answer)) is t }
 
 -- there was no memory for a sink
-pub none-checked : (target : Target) (bytes : List ℕ) (said : Result Summary Stop) (written : Bool) (old new : Option (List ℕ)) → said ≡ Err Memory → Takes written old new (last_line Full (Err Memory)) → Checks target bytes said written old new
-none-checked target bytes said written old new e t =
+pub none-checked : (target : Target) (bytes : List ℕ) (ending : Ending) (old new : Option (List ℕ)) → ending.answer ≡ Err Memory → Takes ending.written old new (last_line Full (Err Memory)) → Checks target bytes ending (wrote old new)
+none-checked target bytes ending old new e t =
     let none : ℕ = 0 in
     let took : Unit {0} → List Call → Type 0 = λ s calls. Unit {0} in
     let j = judges-judged (terms_of Full target) took (λ s. none) bytes (λ k. no_frame) tt tt (Err Memory) (none-judged (terms_of Full target) took (λ s. none) bytes (λ k. no_frame) tt) in
     let a = (accounts j tt).0 in
-    let c : Checks target bytes (Err Memory) written old new = record { account = a; text = t } in
-    subst (λ x. Checks target bytes x written old new) (sym e) c
+    let c : Checks target bytes (record { answer = Err Memory; written = ending.written }) (wrote old new) = record { account = a; text = t } in
+    subst (λ x. Checks target bytes (record { answer = x; written = ending.written }) (wrote old new)) (sym e) c
 
 -- the frames, and the last line elsewhere
-pub decoded : {target : Target} {bytes : List ℕ} (answer said : Result Summary Stop) (written : Bool) (old mid new err_old err_new : Option (List ℕ)) → (said ≡ answer) ⊎ (said ≡ Err Memory) → (answer ≡ Err Write → said ≡ Err Write) → Writes bytes_of (terms_of Full target) bytes answer old mid → Keeps mid new → Takes written err_old err_new (last_line Full said) → Decodes target bytes said written old new err_old err_new
-decoded answer said written old mid new err_old err_new e stays w k t = record { frames = kept (said-answer answer said e stays w) k; text = t }
+pub decoded : {target : Target} {bytes : List ℕ} (answer : Result Summary Stop) (ending : Ending) (old mid new err_old err_new : Option (List ℕ)) → (ending.answer ≡ answer) ⊎ (ending.answer ≡ Err Memory) → (answer ≡ Err Write → ending.answer ≡ Err Write) → Writes bytes_of (terms_of Full target) bytes answer old mid → Keeps mid new → Takes ending.written err_old err_new (last_line Full ending.answer) → Decodes target bytes ending (wrote old new) (wrote err_old err_new)
+decoded answer ending old mid new err_old err_new e stays w k t = record { frames = kept (said-answer answer ending.answer e stays w) k; text = t }
 
 -- ---- what is known of a source
 

@@ -1,7 +1,7 @@
 -- What a sink of frames took of a stream, from one piece of it to the next.
 use Rattle.std.proofs.Common.{◌≡◌, ℕ, ◌+◌, false, List, [], ◌∷◌, ◌++◌, Option, None, Some, Result, Ok, Err, refl, sym, ap, ◌∙◌, subst}
 use Rattle.std.specs.Prelude.{IfNone, IfSome}
-use Rattle.h264_base.specs.Call.{Call}
+use Rattle.h264_base.specs.Call.{Call, span}
 use Rattle.h264_base.specs.declared.stop.Stop.{Stop}
 use Rattle.h264_base.specs.declared.stop.Stop.TheVariants.{No, Outside, Memory, Read, Write}
 use Rattle.h264_dpb.specs.Kept.{shown_call}
@@ -37,7 +37,7 @@ module _ {S : Type 0} (took : S → List Call → Type 0) (failures : S → ℕ)
   tells-took : (more : List Told) → Tells (took_with frames took) s s' more → Took took frames s' more
   tells-took more t = let a = taken frames took s s' more none t in record { decoded = a.0; calls = a.1 }
 
-  judged-answered : (answer : Result Summary Stop) → JudgedBy terms (took_with frames took) failures bytes told s s' answer → Answered took terms bytes frames told s' answer
+  judged-answered : (answer : Result Summary Stop) → JudgedBy terms (span (took_with frames took) failures s s') bytes told answer → Answered took terms bytes frames told s' answer
   judged-answered (Ok summary) j = record { more = j.0.more; took_more = tells-took j.0.more j.0.tells; answers = j.0.verdict }
   judged-answered (Err (No bit rule)) j = record { more = j.0.more; took_more = tells-took j.0.more j.0.tells; answers = j.0.verdict }
   judged-answered (Err (Outside bit feature)) j = record { more = j.0.more; took_more = tells-took j.0.more j.0.tells; answers = j.0.verdict }
@@ -46,7 +46,7 @@ module _ {S : Type 0} (took : S → List Call → Type 0) (failures : S → ℕ)
   judged-answered (Err Write) j = record { more = j.0.more; took_more = tells-took j.0.more j.0.tells; answers = record { rest = j.0.rest; answer = j.0.answer; verdict = j.0.verdict } }
 
 -- the account of what was told before and of what was told then
-pub accounted : {S : Type 0} {took : S → List Call → Type 0} {failures : S → ℕ} {terms : Terms} {bytes : List ℕ} {frames : ℕ → Frame} {told : List Told} {s s' : S} {answer : Result Summary Stop} → Judged terms took failures bytes frames told s s' answer → AreDecoded frames told → took s [] → Account terms bytes answer
+pub accounted : {S : Type 0} {took : S → List Call → Type 0} {failures : S → ℕ} {terms : Terms} {bytes : List ℕ} {frames : ℕ → Frame} {told : List Told} {s s' : S} {answer : Result Summary Stop} → Judged terms (span took failures s s') bytes frames told answer → AreDecoded frames told → took s [] → Account terms bytes answer
 accounted {S} {took} {failures} {terms} {bytes} {frames} {told} {s} {s'} {answer} j d none =
     let a = judged-answered took failures terms bytes j.made told s s' none answer j.judged in
     record { frames = j.made; told = told ++ a.more; decoded = decoded-both j.made told a.more (j.same.decoded d) a.took_more.decoded; answers = a.answers }
@@ -115,19 +115,19 @@ module _ {S : Type 0} (out : S → ℕ) (items : S → List ShownFrame) (n : ℕ
 
   module _ {failures : S → ℕ} {terms : Terms} {bytes : List ℕ} {session : Progress} (d : IsDecoding terms session bytes n waiting) {s s' : S} (begun : filled s []) where
     -- the verdict has fallen
-    pub falls : {whole : List ℕ} (answer said : Result Summary Stop) → said ≡ told_of false answer → (answer ≡ Err Read → ⊥) → Judged terms filled failures whole d.frames d.told s s' answer → HasDecoded terms whole said (out s') (items s')
+    pub falls : {whole : List ℕ} (answer said : Result Summary Stop) → said ≡ told_of false answer → (answer ≡ Err Read → ⊥) → Judged terms (span filled failures s s') whole d.frames d.told answer → HasDecoded terms whole said (out s') (items s')
     falls {whole} answer said is never j =
         let a = judged-answered filled failures terms whole j.made d.told s s' begun answer j.judged in
         let account : Account terms whole answer = record { frames = j.made; told = d.told ++ a.more; decoded = decoded-both j.made d.told a.more (j.same.decoded d.decoded) a.took_more.decoded; answers = a.answers } in
         subst (λ x. HasDecoded terms whole x (out s') (items s')) (sym is) (answered-told answer never account (waits-then d.frames j.made d.told a.more j.same.calls d.waits (filled-there {s = s'} a.took_more.calls)))
 
-    pub falls-grown : {whole : List ℕ} (answer : Result Summary Stop) → Judged terms filled failures whole d.frames d.told s s' answer → HasGrown n waiting (out s') (items s')
+    pub falls-grown : {whole : List ℕ} (answer : Result Summary Stop) → Judged terms (span filled failures s s') whole d.frames d.told answer → HasGrown n waiting (out s') (items s')
     falls-grown {whole} answer j =
         let a = judged-answered filled failures terms whole j.made d.told s s' begun answer j.judged in
         record { calls = calls_of j.made a.more; filled = filled-there {s = s'} a.took_more.calls }
 
     -- the stream goes on
-    pub goes : {whole : List ℕ} {later : Progress} → IsFed terms filled failures later whole d.frames d.told s s' → IsDecoding terms later whole (out s') (items s')
+    pub goes : {whole : List ℕ} {later : Progress} → IsFed terms (span filled failures s s') later whole d.frames d.told → IsDecoding terms later whole (out s') (items s')
     goes f =
         let t = taken f.made filled s s' f.more begun f.tells in
         record {
@@ -138,7 +138,7 @@ module _ {S : Type 0} (out : S → ℕ) (items : S → List ShownFrame) (n : ℕ
           waits = waits-then d.frames f.made d.told f.more f.same.calls d.waits (filled-there {s = s'} t.1);
         }
 
-    pub goes-grown : {whole : List ℕ} {later : Progress} → IsFed terms filled failures later whole d.frames d.told s s' → HasGrown n waiting (out s') (items s')
+    pub goes-grown : {whole : List ℕ} {later : Progress} → IsFed terms (span filled failures s s') later whole d.frames d.told → HasGrown n waiting (out s') (items s')
     goes-grown f =
         let t = taken f.made filled s s' f.more begun f.tells in record { calls = calls_of f.made f.more; filled = filled-there {s = s'} t.1 }
 

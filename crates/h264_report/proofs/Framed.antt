@@ -4,7 +4,7 @@ use Rattle.std.proofs.lemmas.List.{append_assoc, append-nil, length-append}
 use Rattle.std.proofs.lemmas.List.Elements.{All-nil, All-cons, All-push}
 use Rattle.std.specs.List.{All}
 use Rattle.h264_base.specs.Call.{Call, OfUnit, OfSlice, OfElement, OfFrame}
-use Rattle.h264_report.specs.Sent.{SendsOrBreaksOff, IsBlamed}
+use Rattle.h264_report.specs.Sent.{SendsOrBreaksOff, IsBlamed, LentWriter, lent}
 use Rattle.h264_report.specs.Told.{ended}
 use Rattle.h264_report.specs.Y4m.{head_text, framed_in, framed_of, headed, y4m_of, HasSize, SuitsHead, TookY4m}
 use Rattle.h264_report.specs.declared.head.Head.{Head}
@@ -65,46 +65,46 @@ longer a b some = let e = length-append a b in omega (arith, some, e)
 -- ---- a sink's calls
 
 -- a call that is no frame
-pub passed-y4m : {name reference : ℕ} {start : Option (List ℕ)} {was : Bool} {head : Option Head} (broke : Bool) {failed : Bool} {k : Option (List ℕ)} (before : List Call) (call : Call) → broke ≡ false → framed_in call ≡ [] → ((h : Head) → HasSize h call) → TookY4m name start was reference head broke failed k before → TookY4m name start was reference head broke failed k (before ++ call ∷ [])
-passed-y4m {start = start} {head = head} broke {k = k} before call whole none sized h = record {
+pub passed-y4m : {start w : LentWriter} {head : Option Head} (broke : Bool) (before : List Call) (call : Call) → broke ≡ false → framed_in call ≡ [] → ((h : Head) → HasSize h call) → TookY4m start head broke w before → TookY4m start head broke w (before ++ call ∷ [])
+passed-y4m {start} {w} {head} broke before call whole none sized h = record {
   same_reference = h.same_reference;
   suits = suits-pass head before call none sized h.suits;
-  holds = calls-pass (y4m_of head) start broke k before call whole (ap (headed head) (framed-pass before call none)) h.holds;
+  holds = calls-pass (y4m_of head) start.bytes broke w.bytes before call whole (ap (headed head) (framed-pass before call none)) h.holds;
   blamed = h.blamed;
 }
 
 -- nothing more was told
-pub y4m-none : {name reference : ℕ} {start : Option (List ℕ)} {was : Bool} {head : Option Head} {broke failed : Bool} {k : Option (List ℕ)} {before : List Call} → TookY4m name start was reference head broke failed k before → TookY4m name start was reference head broke failed k (before ++ [])
-y4m-none {name} {reference} {start} {was} {head} {broke} {failed} {k} {before} h = subst (TookY4m name start was reference head broke failed k) (sym (append-nil before)) h
+pub y4m-none : {start w : LentWriter} {head : Option Head} {broke : Bool} {before : List Call} → TookY4m start head broke w before → TookY4m start head broke w (before ++ [])
+y4m-none {start} {w} {head} {broke} {before} h = subst (TookY4m start head broke w) (sym (append-nil before)) h
 
 -- a call that failed, at which nothing was written
-pub unsent-y4m : {name reference reference' : ℕ} {start : Option (List ℕ)} {was : Bool} {head head' : Option Head} {broke broke' failed failed' : Bool} {k k' : Option (List ℕ)} {before : List Call} → reference' ≡ reference → head' ≡ head → broke' ≡ broke → failed' ≡ failed → k' ≡ k → TookY4m name start was reference head broke failed k before → TookY4m name start was reference' head' broke' failed' k' (before ++ [])
+pub unsent-y4m : {start : LentWriter} {head head' : Option Head} {r r' : ℕ} {broke broke' failed failed' : Bool} {k k' : Option (List ℕ)} {before : List Call} → r' ≡ r → head' ≡ head → broke' ≡ broke → failed' ≡ failed → k' ≡ k → TookY4m start head broke (lent r k failed) before → TookY4m start head' broke' (lent r' k' failed') (before ++ [])
 unsent-y4m {before = before} refers heads breaks fails holds h = rw (refers, heads, breaks, fails, holds) (y4m-none h)
 
 -- a later frame, which was written or broke off
-pub later-frame : {name reference : ℕ} {start : Option (List ℕ)} {was : Bool} (old : Option Head) (head : Head) (broke broke' : Bool) {failed failed' : Bool} {k k' : Option (List ℕ)} (before : List Call) (call : Call) → old ≡ Some head → broke ≡ false → HasSize head call → SendsOrBreaksOff broke' k k' (framed_in call) → IsBlamed broke' failed failed' → TookY4m name start was reference old broke failed k before → TookY4m name start was reference old broke' failed' k' (before ++ call ∷ [])
-later-frame None head broke broke' before call some whole sized s b h = absurd (let d : None ≡ Some head = some in cc)
-later-frame {start = start} {was = was} (Some first) head broke broke' {failed} {failed'} {k} {k'} before call some whole sized s b h = record {
-  same_reference = h.same_reference;
+pub later-frame : {start w w' : LentWriter} (old : Option Head) (head : Head) (broke broke' : Bool) (before : List Call) (call : Call) → w'.reference ≡ w.reference → old ≡ Some head → broke ≡ false → HasSize head call → SendsOrBreaksOff broke' w.bytes w'.bytes (framed_in call) → IsBlamed broke' w.has_failed w'.has_failed → TookY4m start old broke w before → TookY4m start old broke' w' (before ++ call ∷ [])
+later-frame None head broke broke' before call refers some whole sized s b h = absurd (let d : None ≡ Some head = some in cc)
+later-frame {start} {w} {w'} (Some first) head broke broke' before call refers some whole sized s b h = record {
+  same_reference = refers ∙ h.same_reference;
   suits = (subst (λ l. 0 < length l) (sym (framed-more before call)) (longer (framed_of before) (framed_in call) h.suits.0), All-push (HasSize first) before call h.suits.1 (same-size first head call some sized));
-  holds = calls-more (y4m_of (Some first)) start broke broke' k k' before (framed_in call) call whole (ap (headed (Some first)) (framed-more before call) ∙ headed-more (Some first) (framed_of before) (framed_in call) h.suits.0) h.holds s;
-  blamed = blamed-more broke broke' was failed failed' whole h.blamed b;
+  holds = calls-more (y4m_of (Some first)) start.bytes broke broke' w.bytes w'.bytes before (framed_in call) call whole (ap (headed (Some first)) (framed-more before call) ∙ headed-more (Some first) (framed_of before) (framed_in call) h.suits.0) h.holds s;
+  blamed = blamed-more broke broke' start.has_failed w.has_failed w'.has_failed whole h.blamed b;
 }
 
-first-here : {name reference : ℕ} {start : Option (List ℕ)} {was : Bool} (head : Head) (broke' : Bool) {failed failed' : Bool} {k k' : Option (List ℕ)} (before : List Call) (call : Call) → 0 < length (framed_in call) → HasSize head call → SendsOrBreaksOff broke' k k' (ended (head_text head) ++ framed_in call) → IsBlamed broke' failed failed' → TookY4m name start was reference None false failed k before → TookY4m name start was reference (Some head) broke' failed' k' (before ++ call ∷ [])
-first-here {start = start} {was = was} head broke' {failed} {failed'} {k} {k'} before call more sized s b h =
+first-here : {start w w' : LentWriter} (head : Head) (broke' : Bool) (before : List Call) (call : Call) → w'.reference ≡ w.reference → 0 < length (framed_in call) → HasSize head call → SendsOrBreaksOff broke' w.bytes w'.bytes (ended (head_text head) ++ framed_in call) → IsBlamed broke' w.has_failed w'.has_failed → TookY4m start None false w before → TookY4m start (Some head) broke' w' (before ++ call ∷ [])
+first-here {start} {w} {w'} head broke' before call refers more sized s b h =
     let none = h.suits in
     let text = ended (head_text head) ++ framed_in call in
     let headless : headed (Some head) (framed_of before) ≡ [] = ap (headed (Some head)) none in
     let first : framed_of (before ++ call ∷ []) ≡ framed_in call = framed-more before call ∙ ap (λ l. l ++ framed_in call) none in
     let whole : headed (Some head) (framed_of (before ++ call ∷ [])) ≡ headed (Some head) (framed_of before) ++ text = ap (headed (Some head)) first ∙ headed-first head (framed_in call) more ∙ ap (λ l. l ++ text) (sym headless) in
     record {
-      same_reference = h.same_reference;
+      same_reference = refers ∙ h.same_reference;
       suits = (subst (λ l. 0 < length l) (sym first) more, All-push (HasSize head) before call (none-sized head before none) sized);
-      holds = calls-more (y4m_of (Some head)) start false broke' k k' before text call refl whole (sends-is (none ∙ sym headless) h.holds) s;
-      blamed = blamed-more false broke' was failed failed' refl h.blamed b;
+      holds = calls-more (y4m_of (Some head)) start.bytes false broke' w.bytes w'.bytes before text call refl whole (sends-is (none ∙ sym headless) h.holds) s;
+      blamed = blamed-more false broke' start.has_failed w.has_failed w'.has_failed refl h.blamed b;
     }
 
 -- the first frame with its header, which was written or broke off
-pub first-frame : {name reference reference' : ℕ} {start : Option (List ℕ)} {was : Bool} (old new : Option Head) (head : Head) (broke broke' : Bool) {failed failed' : Bool} {k k' : Option (List ℕ)} (before : List Call) (call : Call) → reference' ≡ reference → old ≡ None → new ≡ Some head → broke ≡ false → 0 < length (framed_in call) → HasSize head call → SendsOrBreaksOff broke' k k' (ended (head_text head) ++ framed_in call) → IsBlamed broke' failed failed' → TookY4m name start was reference old broke failed k before → TookY4m name start was reference' new broke' failed' k' (before ++ call ∷ [])
-first-frame old new head broke broke' before call refers none some whole more sized s b h = rw (refers, some) (first-here head broke' before call more sized s b (rw (none, whole) at h))
+pub first-frame : {start w w' : LentWriter} (old new : Option Head) (head : Head) (broke broke' : Bool) (before : List Call) (call : Call) → w'.reference ≡ w.reference → old ≡ None → new ≡ Some head → broke ≡ false → 0 < length (framed_in call) → HasSize head call → SendsOrBreaksOff broke' w.bytes w'.bytes (ended (head_text head) ++ framed_in call) → IsBlamed broke' w.has_failed w'.has_failed → TookY4m start old broke w before → TookY4m start new broke' w' (before ++ call ∷ [])
+first-frame old new head broke broke' before call refers none some whole more sized s b h = rw some (first-here head broke' before call refers more sized s b (rw (none, whole) at h))

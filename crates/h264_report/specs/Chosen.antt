@@ -116,9 +116,8 @@ left_in choice s (call ∷ calls) = left_by choice s call ++ left_in choice (nex
 -- ---- what the sink inside took
 
 -- what is left of these calls
-pub record HoldsLeft {S : Type 0} (took : S → List Call → Type 0) (choice : Choice) (reading : Reading) (pending : Option UnitCall) (sink : S)
-    (calls : List Call) : Type 0 where
-  pub stands : choosing_after choice at_first calls ≡ record { reading = reading; pending = pending }
+pub record HoldsLeft {S : Type 0} (took : S → List Call → Type 0) (choice : Choice) (s : Choosing) (sink : S) (calls : List Call) : Type 0 where
+  pub stands : choosing_after choice at_first calls ≡ s
   pub tells : took sink (left_in choice at_first calls)
 
 -- what is left of these calls, and the first of what is left of one more, which was refused
@@ -129,6 +128,6 @@ pub record HoldsFront {S : Type 0} (took : S → List Call → Type 0) (choice :
   pub whole : left_by choice (choosing_after choice at_first calls) refused ≡ front ++ rest
   pub tells : took sink (left_in choice at_first calls ++ front)
 
-abbrev pub TookChosen : {S : Type 0} → (S → List Call → Type 0) → Choice → (broke_off : Bool) → Reading → Option UnitCall → S → List Call → Type 0
-TookChosen took choice false reading pending sink calls = HoldsLeft took choice reading pending sink calls
-TookChosen took choice true reading pending sink calls = HoldsFront took choice sink calls
+abbrev pub TookChosen : {S : Type 0} → (S → List Call → Type 0) → Choice → (broke_off : Bool) → Choosing → (sink : S) → List Call → Type 0
+TookChosen took choice false s sink calls = HoldsLeft took choice s sink calls
+TookChosen took choice true s sink calls = HoldsFront took choice sink calls

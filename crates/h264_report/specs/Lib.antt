@@ -7,6 +7,7 @@ pub mod Frames
 pub mod Told
 pub mod Trail
 pub mod Written
+pub mod Pages
 pub mod Y4m
 pub mod Queue
 pub mod Decoding

@@ -2,6 +2,23 @@
 use Rattle.std.specs.Prelude.{◌≡◌, ◌<◌, ℕ, Bool, true, false, List, ◌++◌, length, Option}
 use Rattle.std.specs.Io.KnownBytes.{Appends}
 
+-- A writer that is lent: the reference to it, the bytes that it took, where it tells them, and whether it has failed.
+pub record LentWriter : Type 0 where
+  pub reference : ℕ
+  pub bytes : Option (List ℕ)
+  pub has_failed : Bool
+
+abbrev pub lent : (reference : ℕ) → (bytes : Option (List ℕ)) → (has_failed : Bool) → LentWriter
+lent reference bytes has_failed = record { reference = reference; bytes = bytes; has_failed = has_failed }
+
+-- A writer from one time to another: the bytes that it took, where it tells them, as they were and as they are.
+pub record WriterSpan : Type 0 where
+  pub old : Option (List ℕ)
+  pub new : Option (List ℕ)
+
+abbrev pub wrote : (old new : Option (List ℕ)) → WriterSpan
+wrote old new = record { old = old; new = new }
+
 -- part stands at the front of bytes, and is not all of them
 pub record IsProperFront (part bytes : List ℕ) : Type 0 where
   pub rest : List ℕ

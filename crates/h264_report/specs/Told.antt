@@ -1,8 +1,9 @@
 -- What sinks make of the calls of a stream: lines, bytes of frames, and the last elements. A working form.
 use Rattle.std.specs.Prelude.{Bool, true, false, ℕ, ◌+◌, ◌≡◌, ◌∷◌, ◌++◌, Option, List, []}
 use Rattle.h264_base.specs.Call.{Call, OfUnit, OfSlice, OfElement, OfFrame}
-use Rattle.h264_report.specs.Objects.{Opening, unit_in, slice_in, element_in, frame_in}
-use Rattle.h264_report.specs.Sent.{IsProperFront, Sends, IsBlamed}
+use Rattle.h264_report.specs.Objects.{Opening, opening_of, unit_in, slice_in, element_in, frame_in}
+use Rattle.h264_report.specs.Sent.{IsProperFront, Sends, IsBlamed, LentWriter, lent}
+use Rattle.h264_report.specs.declared.line_sink.LineSink.{LineSink}
 use Rattle.h264_report.specs.declared.listing.Listing.{Listing}
 use Rattle.h264_report.specs.declared.listing.Listing.TheVariants as listings
 use Rattle.h264_report.specs.declared.trail.Element.{Element}
@@ -75,24 +76,39 @@ abbrev pub HoldsCalls : (broke_off : Bool) → (List Call → List ℕ) → (sta
 HoldsCalls false make start known calls = Sends start known (make calls)
 HoldsCalls true make start known calls = HoldsBrokenOff make start known calls
 
--- After so many frames with lines the writer took the lines of these calls since the start.
-pub record HoldsLines (opening : Opening) (listing : Listing) (start : Option (List ℕ)) (was_failed : Bool) (frames : ℕ)
-    (broke_off failed : Bool) (known : Option (List ℕ)) (calls : List Call) : Type 0 where
-  pub counts : frames ≡ counted_of listing calls
-  pub holds : HoldsCalls broke_off (lines_of opening listing 0) start known calls
-  pub blamed : IsBlamed broke_off was_failed failed
+-- A sink of lines: its writer, what each line begins with, the calls that have lines, how many frames with lines were told, and whether the newest line
+-- broke off.
+pub record LineSinkState : Type 0 where
+  pub writer : LentWriter
+  pub opening : Opening
+  pub listing : Listing
+  pub frames : ℕ
+  pub broke_off : Bool
+
+abbrev pub line_state : {W K : Type 0} → (W → Option (List ℕ)) → (W → Bool) → LineSink W K → LineSinkState
+line_state contents has_failed sink = record {
+  writer = lent sink.pen.out.ghost_name (contents sink.pen.out.now) (has_failed sink.pen.out.now);
+  opening = opening_of sink.form;
+  listing = sink.listing;
+  frames = sink.frames;
+  broke_off = sink.broke_off;
+}
+
+-- After so many frames with lines the sink's writer took the lines of these calls since the start.
+pub record HoldsLines (start : LentWriter) (sink : LineSinkState) (calls : List Call) : Type 0 where
+  pub counts : sink.frames ≡ counted_of sink.listing calls
+  pub holds : HoldsCalls sink.broke_off (lines_of sink.opening sink.listing 0) start.bytes sink.writer.bytes calls
+  pub blamed : IsBlamed sink.broke_off start.has_failed sink.writer.has_failed
 
 -- The writer took them through this reference, in this form and for this listing.
-pub record TookLines (name : ℕ) (opening : Opening) (listing : Listing) (start : Option (List ℕ)) (was_failed : Bool) (reference : ℕ)
-    (begins : Opening) (lists : Listing) (frames : ℕ) (broke_off failed : Bool) (known : Option (List ℕ)) (calls : List Call) : Type 0 where
-  pub same_reference : reference ≡ name
-  pub same_opening : begins ≡ opening
-  pub same_listing : lists ≡ listing
-  pub lines : HoldsLines begins lists start was_failed frames broke_off failed known calls
+pub record TookLines (start : LentWriter) (opening : Opening) (listing : Listing) (sink : LineSinkState) (calls : List Call) : Type 0 where
+  pub same_reference : sink.writer.reference ≡ start.reference
+  pub same_opening : sink.opening ≡ opening
+  pub same_listing : sink.listing ≡ listing
+  pub lines : HoldsLines start sink calls
 
--- Through this reference the writer took the bytes of the frames of these calls since the start.
-pub record TookFrames (name : ℕ) (start : Option (List ℕ)) (was_failed : Bool) (reference : ℕ) (broke_off failed : Bool) (known : Option (List ℕ))
-    (calls : List Call) : Type 0 where
-  pub same_reference : reference ≡ name
-  pub holds : HoldsCalls broke_off bytes_of start known calls
-  pub blamed : IsBlamed broke_off was_failed failed
+-- Through this reference the writer took the bytes of the frames of these calls since the start; or the last of them broke off.
+pub record TookFrames (start : LentWriter) (broke_off : Bool) (writer : LentWriter) (calls : List Call) : Type 0 where
+  pub same_reference : writer.reference ≡ start.reference
+  pub holds : HoldsCalls broke_off bytes_of start.bytes writer.bytes calls
+  pub blamed : IsBlamed broke_off start.has_failed writer.has_failed

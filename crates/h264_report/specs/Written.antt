@@ -10,9 +10,10 @@ use Rattle.h264_base.specs.declared.stop.Stop.TheVariants.{No, Outside, Memory, 
 use Rattle.h264_plane.specs.declared.frame.Frame.{Frame}
 use Rattle.h264_report.specs.Lines.{verdict_text}
 use Rattle.h264_report.specs.Objects.{bare}
-use Rattle.h264_report.specs.Sent.{Sends, Takes}
+use Rattle.h264_report.specs.Sent.{Sends, Takes, WriterSpan}
 use Rattle.h264_report.specs.Told.{ended, lines_of, bytes_of, elements_of, BreaksOff}
 use Rattle.h264_report.specs.Trail.{element_lines}
+use Rattle.h264_report.specs.declared.judging.Ending.{Ending}
 use Rattle.h264_report.specs.declared.listing.Listing.{Listing}
 use Rattle.h264_report.specs.declared.trail.Element.{Element}
 use Rattle.h264_verify.specs.Telling.{Told, calls_of, AreDecoded}
@@ -90,12 +91,11 @@ last_line mode answer = ended (verdict_text mode answer)
 -- ---- the commands
 
 -- The lines of a listing, and after them the last line.
-pub record Lists (terms : Terms) (listing : Listing) (bytes : List ℕ) (answer : Result Summary Stop)
-    (written : Bool) (old new : Option (List ℕ)) : Type 0 where
-  pub account : Account terms bytes answer
+pub record Lists (terms : Terms) (listing : Listing) (bytes : List ℕ) (ending : Ending) (out : WriterSpan) : Type 0 where
+  pub account : Account terms bytes ending.answer
   pub lines : List ℕ
-  pub are_lines : IsWritten (lines_of bare listing 0) answer (calls_in account) lines
-  pub text : Takes written old new (lines ++ last_line terms.mode answer)
+  pub are_lines : IsWritten (lines_of bare listing 0) ending.answer (calls_in account) lines
+  pub text : Takes ending.written out.old out.new (lines ++ last_line terms.mode ending.answer)
 
 -- a rule is broken
 abbrev pub is_no : Result Summary Stop → Bool
@@ -116,15 +116,15 @@ trail_text es (Err Read) = []
 trail_text es (Err Write) = []
 
 -- After a no the last 16 elements, the oldest first, and after them the last line; else the last line alone.
-pub record Checks (target : Target) (bytes : List ℕ) (answer : Result Summary Stop) (written : Bool) (old new : Option (List ℕ)) : Type 0 where
-  pub account : Account (terms_of modes.Full target) bytes answer
-  pub text : Takes written old new (trail_text (keep_last 16 (elements_of (calls_in account))) answer ++ last_line modes.Full answer)
+pub record Checks (target : Target) (bytes : List ℕ) (ending : Ending) (out : WriterSpan) : Type 0 where
+  pub account : Account (terms_of modes.Full target) bytes ending.answer
+  pub text : Takes ending.written out.old out.new
+      (trail_text (keep_last 16 (elements_of (calls_in account))) ending.answer ++ last_line modes.Full ending.answer)
 
 -- The frames to one writer, the last line to the other.
-pub record Decodes (target : Target) (bytes : List ℕ) (answer : Result Summary Stop)
-    (written : Bool) (old new err_old err_new : Option (List ℕ)) : Type 0 where
-  pub frames : Writes bytes_of (terms_of modes.Full target) bytes answer old new
-  pub text : Takes written err_old err_new (last_line modes.Full answer)
+pub record Decodes (target : Target) (bytes : List ℕ) (ending : Ending) (out err : WriterSpan) : Type 0 where
+  pub frames : Writes bytes_of (terms_of modes.Full target) bytes ending.answer out.old out.new
+  pub text : Takes ending.written err.old err.new (last_line modes.Full ending.answer)
 
 -- ---- the exit status
 

@@ -3,7 +3,7 @@ use Rattle.std.specs.Prelude.{◌≡◌, ℕ, ◌<◌, Bool, List, [], ◌++◌,
 use Rattle.std.specs.Fmt.{decimal}
 use Rattle.std.specs.List.{All}
 use Rattle.h264_base.specs.Call.{Call, OfFrame}
-use Rattle.h264_report.specs.Sent.{IsBlamed}
+use Rattle.h264_report.specs.Sent.{IsBlamed, LentWriter}
 use Rattle.h264_report.specs.Told.{ended, HoldsCalls}
 use Rattle.h264_report.specs.declared.head.Head.{Head}
 
@@ -47,9 +47,8 @@ SuitsHead None calls = framed_of calls ≡ []
 SuitsHead (Some head) calls = (0 < length (framed_of calls)) × All (HasSize head) calls
 
 -- Through this reference the writer took the header and the frames of these calls since the start; or the last of them broke off.
-pub record TookY4m (name : ℕ) (start : Option (List ℕ)) (was_failed : Bool) (reference : ℕ) (head : Option Head) (broke_off failed : Bool)
-    (known : Option (List ℕ)) (calls : List Call) : Type 0 where
-  pub same_reference : reference ≡ name
+pub record TookY4m (start : LentWriter) (head : Option Head) (broke_off : Bool) (writer : LentWriter) (calls : List Call) : Type 0 where
+  pub same_reference : writer.reference ≡ start.reference
   pub suits : SuitsHead head calls
-  pub holds : HoldsCalls broke_off (y4m_of head) start known calls
-  pub blamed : IsBlamed broke_off was_failed failed
+  pub holds : HoldsCalls broke_off (y4m_of head) start.bytes writer.bytes calls
+  pub blamed : IsBlamed broke_off start.has_failed writer.has_failed

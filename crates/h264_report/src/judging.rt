@@ -6,7 +6,7 @@ ghost use Rattle.h264_base.specs.Call.{HasRoom, IsQuiet};
 ghost use Rattle.h264_base.specs.declared.mode.Mode.TheVariants as modes;
 ghost use Rattle.h264_verify.specs.Units.{terms_of};
 ghost use Rattle.h264_report.specs.Objects.{bare};
-ghost use Rattle.h264_report.specs.Sent.{Takes};
+ghost use Rattle.h264_report.specs.Sent.{Takes, wrote};
 ghost use Rattle.h264_report.specs.Told.{ended, lines_of, bytes_of};
 ghost use Rattle.h264_report.specs.Written.{OfBytes, Writes, Lists, Checks, Decodes, told_of, is_no, last_line, trail_text, answer_status, status_of};
 
@@ -231,8 +231,7 @@ pub fn list<R: Source, W: Device>(
     out: &mut W,
 ) -> Ending
     requires { HasRoom R.failures source.old }
-    ensures lists { OfBytes (R.left source.old) (λ bytes. Lists terms listing bytes result.answer result.written (W.contents out.old)
-        (W.contents out.new)) }
+    ensures lists { OfBytes (R.left source.old) (λ bytes. Lists terms listing bytes result (wrote (W.contents out.old) (W.contents out.new))) }
     ensures read { IsErrOf result.answer Stop.Read → (R.failures source.new ≡ R.failures source.old + 1)
         ⊎ ((n : ℕ) → R.was_read source.old n → R.was_read source.new (n + 2 ^ 41)) }
     // A read that failed is told as Read; or as Write, where a write failed too.
@@ -301,7 +300,7 @@ pub fn check<R: Source, W: Device>(
     out: &mut W,
 ) -> Ending
     requires { HasRoom R.failures source.old }
-    ensures checks { OfBytes (R.left source.old) (λ bytes. Checks target bytes result.answer result.written (W.contents out.old) (W.contents out.new)) }
+    ensures checks { OfBytes (R.left source.old) (λ bytes. Checks target bytes result (wrote (W.contents out.old) (W.contents out.new))) }
     ensures read { IsErrOf result.answer Stop.Read → (R.failures source.new ≡ R.failures source.old + 1)
         ⊎ ((n : ℕ) → R.was_read source.old n → R.was_read source.new (n + 2 ^ 41)) }
     // A read that failed is told as Read.
@@ -378,8 +377,8 @@ pub fn decode<R: Source, W: Device, E: Device>(
     err: &mut E,
 ) -> Ending
     requires { HasRoom R.failures source.old }
-    ensures decodes { OfBytes (R.left source.old) (λ bytes. Decodes target bytes result.answer result.written (W.contents out.old)
-        (W.contents out.new) (E.contents err.old) (E.contents err.new)) }
+    ensures decodes { OfBytes (R.left source.old) (λ bytes. Decodes target bytes result (wrote (W.contents out.old) (W.contents out.new))
+        (wrote (E.contents err.old) (E.contents err.new))) }
     ensures read { IsErrOf result.answer Stop.Read → (R.failures source.new ≡ R.failures source.old + 1)
         ⊎ ((n : ℕ) → R.was_read source.old n → R.was_read source.new (n + 2 ^ 41)) }
     // A read that failed is told as Read; or as Write, where a write failed too.

@@ -1,7 +1,7 @@
 //! A sink that writes lines.
 #![tactic(auto)]
 
-ghost use Rattle.std.specs.Prelude.{◌≡◌, ℕ, ◌+◌, ◌-◌, ◌<◌, ◌^◌, false, List, OnOk, OnErr, string_bytes};
+ghost use Rattle.std.specs.Prelude.{◌≡◌, ℕ, ◌+◌, ◌-◌, ◌<◌, ◌^◌, ◌||◌, false, nat_lt, List, OnOk, OnErr, string_bytes};
 ghost use Rattle.h264_report.specs.Objects.{opening_of};
 ghost use Rattle.h264_report.specs.Sent.{SendsOrBreaksOff, IsBlamed};
 ghost use Rattle.h264_report.specs.Told.{ended};
@@ -81,7 +81,8 @@ impl<'a, 'b, W: Device, K: Sheet> LineSink<'a, 'b, W, K> {
 
     /// Whether no more lines are written.
     fn is_stopped(&self) -> bool
-        ensures { result ≡ false → self.now.broke_off ≡ false }
+        ensures stopped { result ≡ (self.now.broke_off || nat_lt 0 self.now.failures) }
+        ensures whole { result ≡ false → self.now.broke_off ≡ false }
     {
         self.broke_off || self.failures > 0
     }
@@ -134,11 +135,12 @@ impl<'a, 'b, W: Device, K: Sheet> LineSink<'a, 'b, W, K> {
 }
 
 impl<'a, 'b, W: Device, K: Sheet> LineSink<'a, 'b, W, K> {
-    ghost use Rattle.std.specs.Prelude.{◌≡◌, ℕ, ◌+◌, ◌-◌, ◌<◌, ◌^◌, Bool, false, List, [], ◌∷◌, ◌++◌, Option, IsTrue, OnOk, OnErr};
+    ghost use Rattle.std.specs.Prelude.{◌≡◌, ℕ, ◌+◌, ◌-◌, ◌<◌, ◌^◌, false, List, [], ◌∷◌, ◌++◌, IsTrue, OnOk, OnErr};
     ghost use Rattle.h264_base.specs.Call.{Call, OfUnit, OfSlice, OfElement};
     ghost use Rattle.h264_dpb.specs.Shown.{fits, frame_call};
     ghost use Rattle.h264_report.specs.Objects.{unit_in, slice_in};
-    ghost use Rattle.h264_report.specs.Told.{HoldsLines, line_of, counted};
+    ghost use Rattle.h264_report.specs.Sent.{LentWriter};
+    ghost use Rattle.h264_report.specs.Told.{HoldsLines, line_state, line_of, counted};
     ghost use Rattle.h264_report.specs.declared.listing.Listing.TheVariants as listings;
 
     /// Writes the line of a unit.
@@ -157,16 +159,10 @@ impl<'a, 'b, W: Device, K: Sheet> LineSink<'a, 'b, W, K> {
         ensures form { self.new.form ≡ self.old.form }
         ensures listing { self.new.listing ≡ self.old.listing }
         ensures same_reference { self.new.pen.out.ghost_name ≡ self.old.pen.out.ghost_name }
-        ensures ok { (start : Option (List ℕ)) (was_failed : Bool) (before : List Call) →
-            HoldsLines (opening_of self.old.form) self.old.listing start was_failed self.old.frames self.old.broke_off (W.has_failed self.old.pen.out.now)
-            (W.contents self.old.pen.out.now) before →
-            OnOk result (HoldsLines (opening_of self.new.form) self.new.listing start was_failed self.new.frames self.new.broke_off
-            (W.has_failed self.new.pen.out.now) (W.contents self.new.pen.out.now) (before ++ OfUnit byte nal_unit_type nal_ref_idc length ∷ [])) }
-        ensures refused { (start : Option (List ℕ)) (was_failed : Bool) (before : List Call) →
-            HoldsLines (opening_of self.old.form) self.old.listing start was_failed self.old.frames self.old.broke_off (W.has_failed self.old.pen.out.now)
-            (W.contents self.old.pen.out.now) before →
-            OnErr result (HoldsLines (opening_of self.new.form) self.new.listing start was_failed self.new.frames self.new.broke_off
-            (W.has_failed self.new.pen.out.now) (W.contents self.new.pen.out.now) before) }
+        ensures ok { (start : LentWriter) (before : List Call) → HoldsLines start (line_state W.contents W.has_failed self.old) before →
+            OnOk result (HoldsLines start (line_state W.contents W.has_failed self.new) (before ++ OfUnit byte nal_unit_type nal_ref_idc length ∷ [])) }
+        ensures refused { (start : LentWriter) (before : List Call) → HoldsLines start (line_state W.contents W.has_failed self.old) before →
+            OnErr result (HoldsLines start (line_state W.contents W.has_failed self.new) before) }
         ensures kept { OnOk result (self.new.failures ≡ self.old.failures) }
         ensures failed { OnErr result (self.new.failures ≡ self.old.failures + 1) }
     {
@@ -197,17 +193,11 @@ impl<'a, 'b, W: Device, K: Sheet> LineSink<'a, 'b, W, K> {
         ensures form { self.new.form ≡ self.old.form }
         ensures listing { self.new.listing ≡ self.old.listing }
         ensures same_reference { self.new.pen.out.ghost_name ≡ self.old.pen.out.ghost_name }
-        ensures ok { (start : Option (List ℕ)) (was_failed : Bool) (before : List Call) →
-            HoldsLines (opening_of self.old.form) self.old.listing start was_failed self.old.frames self.old.broke_off (W.has_failed self.old.pen.out.now)
-            (W.contents self.old.pen.out.now) before →
-            OnOk result (HoldsLines (opening_of self.new.form) self.new.listing start was_failed self.new.frames self.new.broke_off
-            (W.has_failed self.new.pen.out.now) (W.contents self.new.pen.out.now)
+        ensures ok { (start : LentWriter) (before : List Call) → HoldsLines start (line_state W.contents W.has_failed self.old) before →
+            OnOk result (HoldsLines start (line_state W.contents W.has_failed self.new)
             (before ++ OfSlice byte first_mb_in_slice slice_type frame_num count ∷ [])) }
-        ensures refused { (start : Option (List ℕ)) (was_failed : Bool) (before : List Call) →
-            HoldsLines (opening_of self.old.form) self.old.listing start was_failed self.old.frames self.old.broke_off (W.has_failed self.old.pen.out.now)
-            (W.contents self.old.pen.out.now) before →
-            OnErr result (HoldsLines (opening_of self.new.form) self.new.listing start was_failed self.new.frames self.new.broke_off
-            (W.has_failed self.new.pen.out.now) (W.contents self.new.pen.out.now) before) }
+        ensures refused { (start : LentWriter) (before : List Call) → HoldsLines start (line_state W.contents W.has_failed self.old) before →
+            OnErr result (HoldsLines start (line_state W.contents W.has_failed self.new) before) }
         ensures kept { OnOk result (self.new.failures ≡ self.old.failures) }
         ensures failed { OnErr result (self.new.failures ≡ self.old.failures + 1) }
     {
@@ -229,16 +219,10 @@ impl<'a, 'b, W: Device, K: Sheet> LineSink<'a, 'b, W, K> {
         ensures form { self.new.form ≡ self.old.form }
         ensures listing { self.new.listing ≡ self.old.listing }
         ensures same_reference { self.new.pen.out.ghost_name ≡ self.old.pen.out.ghost_name }
-        ensures ok { (start : Option (List ℕ)) (was_failed : Bool) (before : List Call) →
-            HoldsLines (opening_of self.old.form) self.old.listing start was_failed self.old.frames self.old.broke_off (W.has_failed self.old.pen.out.now)
-            (W.contents self.old.pen.out.now) before →
-            OnOk result (HoldsLines (opening_of self.new.form) self.new.listing start was_failed self.new.frames self.new.broke_off
-            (W.has_failed self.new.pen.out.now) (W.contents self.new.pen.out.now) (before ++ OfElement name bit value ∷ [])) }
-        ensures refused { (start : Option (List ℕ)) (was_failed : Bool) (before : List Call) →
-            HoldsLines (opening_of self.old.form) self.old.listing start was_failed self.old.frames self.old.broke_off (W.has_failed self.old.pen.out.now)
-            (W.contents self.old.pen.out.now) before →
-            OnErr result (HoldsLines (opening_of self.new.form) self.new.listing start was_failed self.new.frames self.new.broke_off
-            (W.has_failed self.new.pen.out.now) (W.contents self.new.pen.out.now) before) }
+        ensures ok { (start : LentWriter) (before : List Call) → HoldsLines start (line_state W.contents W.has_failed self.old) before →
+            OnOk result (HoldsLines start (line_state W.contents W.has_failed self.new) (before ++ OfElement name bit value ∷ [])) }
+        ensures refused { (start : LentWriter) (before : List Call) → HoldsLines start (line_state W.contents W.has_failed self.old) before →
+            OnErr result (HoldsLines start (line_state W.contents W.has_failed self.new) before) }
         ensures kept { OnOk result (self.new.failures ≡ self.old.failures) }
         ensures failed { OnErr result (self.new.failures ≡ self.old.failures + 1) }
     {
@@ -255,16 +239,10 @@ impl<'a, 'b, W: Device, K: Sheet> LineSink<'a, 'b, W, K> {
         ensures form { self.new.form ≡ self.old.form }
         ensures listing { self.new.listing ≡ self.old.listing }
         ensures same_reference { self.new.pen.out.ghost_name ≡ self.old.pen.out.ghost_name }
-        ensures ok { (start : Option (List ℕ)) (was_failed : Bool) (before : List Call) →
-            HoldsLines (opening_of self.old.form) self.old.listing start was_failed self.old.frames self.old.broke_off (W.has_failed self.old.pen.out.now)
-            (W.contents self.old.pen.out.now) before →
-            OnOk result (HoldsLines (opening_of self.new.form) self.new.listing start was_failed self.new.frames self.new.broke_off
-            (W.has_failed self.new.pen.out.now) (W.contents self.new.pen.out.now) (before ++ frame_call count frame.now rectangle ∷ [])) }
-        ensures refused { (start : Option (List ℕ)) (was_failed : Bool) (before : List Call) →
-            HoldsLines (opening_of self.old.form) self.old.listing start was_failed self.old.frames self.old.broke_off (W.has_failed self.old.pen.out.now)
-            (W.contents self.old.pen.out.now) before →
-            OnErr result (HoldsLines (opening_of self.new.form) self.new.listing start was_failed self.new.frames self.new.broke_off
-            (W.has_failed self.new.pen.out.now) (W.contents self.new.pen.out.now) before) }
+        ensures ok { (start : LentWriter) (before : List Call) → HoldsLines start (line_state W.contents W.has_failed self.old) before →
+            OnOk result (HoldsLines start (line_state W.contents W.has_failed self.new) (before ++ frame_call count frame.now rectangle ∷ [])) }
+        ensures refused { (start : LentWriter) (before : List Call) → HoldsLines start (line_state W.contents W.has_failed self.old) before →
+            OnErr result (HoldsLines start (line_state W.contents W.has_failed self.new) before) }
         ensures kept { OnOk result (self.new.failures ≡ self.old.failures) }
         ensures failed { OnErr result (self.new.failures ≡ self.old.failures + 1) }
     {
@@ -288,10 +266,10 @@ impl<'a, 'b, W: Device, K: Sheet> LineSink<'a, 'b, W, K> {
 }
 
 impl<'a, 'b, W: Device, K: Sheet> Elements for LineSink<'a, 'b, W, K> {
-    ghost use Rattle.h264_report.specs.Told.{TookLines};
+    ghost use Rattle.h264_report.specs.Sent.{lent};
+    ghost use Rattle.h264_report.specs.Told.{TookLines, line_state};
 
-    ghost took = { λ s calls. TookLines K.name K.opening K.listing K.start K.was_failed s.pen.out.ghost_name (opening_of s.form) s.listing s.frames s.broke_off
-        (W.has_failed s.pen.out.now) (W.contents s.pen.out.now) calls };
+    ghost took = { λ s calls. TookLines (lent K.name K.start K.was_failed) K.opening K.listing (line_state W.contents W.has_failed s) calls };
 
     ghost failures = { λ s. s.failures };
 

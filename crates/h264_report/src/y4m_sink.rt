@@ -1,7 +1,7 @@
 //! A sink that writes YUV4MPEG2.
 #![tactic(auto)]
 
-ghost use Rattle.std.specs.Prelude.{◌≡◌, ◌+◌, ◌-◌, ◌<◌, ◌++◌, ◌^◌, IsTrue, true, false, None, Some, OnOk, OnErr, string_bytes};
+ghost use Rattle.std.specs.Prelude.{◌≡◌, ◌+◌, ◌-◌, ◌<◌, ◌++◌, ◌^◌, ◌||◌, IsTrue, true, false, nat_lt, None, Some, OnOk, OnErr, string_bytes};
 ghost use Rattle.h264_dpb.specs.Shown.{fits, width_in, height_in};
 ghost use Rattle.h264_report.specs.Frames.{shown_bytes};
 ghost use Rattle.h264_report.specs.Sent.{Sends, SendsFront, SendsOrBreaksOff, IsBlamed};
@@ -167,7 +167,8 @@ impl<'a, W: Device, K: Sheet> Y4mSink<'a, W, K> {
 
     /// Whether no more is written.
     fn is_stopped(&self) -> bool
-        ensures { result ≡ false → self.now.broke_off ≡ false }
+        ensures stopped { result ≡ (self.now.broke_off || nat_lt 0 self.now.failures) }
+        ensures whole { result ≡ false → self.now.broke_off ≡ false }
     {
         self.broke_off || self.failures > 0
     }
@@ -238,10 +239,11 @@ impl<'a, W: Device, K: Sheet> Y4mSink<'a, W, K> {
 }
 
 impl<'a, W: Device, K: Sheet> Elements for Y4mSink<'a, W, K> {
+    ghost use Rattle.h264_report.specs.Sent.{lent};
     ghost use Rattle.h264_report.specs.Y4m.{TookY4m};
 
-    ghost took = { λ s calls. TookY4m K.name K.start K.was_failed s.pen.out.ghost_name s.head s.broke_off (W.has_failed s.pen.out.now)
-        (W.contents s.pen.out.now) calls };
+    ghost took = { λ s calls. TookY4m (lent K.name K.start K.was_failed) s.head s.broke_off
+        (lent s.pen.out.ghost_name (W.contents s.pen.out.now) (W.has_failed s.pen.out.now)) calls };
 
     ghost failures = { λ s. s.failures };
 

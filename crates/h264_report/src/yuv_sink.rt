@@ -70,10 +70,11 @@ impl<'a, W: Device, K: Sheet> YuvSink<'a, W, K> {
 }
 
 impl<'a, W: Device, K: Sheet> Elements for YuvSink<'a, W, K> {
+    ghost use Rattle.h264_report.specs.Sent.{lent};
     ghost use Rattle.h264_report.specs.Told.{TookFrames};
 
-    ghost took = { λ s calls. TookFrames K.name K.start K.was_failed s.pen.out.ghost_name s.broke_off (W.has_failed s.pen.out.now)
-        (W.contents s.pen.out.now) calls };
+    ghost took = { λ s calls. TookFrames (lent K.name K.start K.was_failed) s.broke_off
+        (lent s.pen.out.ghost_name (W.contents s.pen.out.now) (W.has_failed s.pen.out.now)) calls };
 
     ghost failures = { λ s. s.failures };
 

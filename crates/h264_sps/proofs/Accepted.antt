@@ -10,7 +10,7 @@ use Rattle.h264_base.specs.Grammar.{Grammar, ◌>>=◌, read_word, check, suppor
 use Rattle.h264_base.specs.declared.element_name.ElementName.TheVariants.{FrameCroppingFlag, VuiParametersPresentFlag, BitstreamRestrictionFlag}
 use Rattle.h264_base.specs.declared.rule.Rule.{Rule}
 use Rattle.h264_base.specs.declared.stop.Stop.{Stop}
-use Rattle.h264_base.specs.Call.{Call}
+use Rattle.h264_base.specs.Call.{Call, span}
 use Rattle.h264_base.specs.Meets.{Reader, Meets, Is}
 use Rattle.h264_base.proofs.OneAnswer.{answers}
 use Rattle.h264_tables.specs.declared.level.Limits.{Limits}
@@ -178,7 +178,7 @@ pub gives-accepted : (target : Target) → Gives (sps target) (λ s. is_accepted
 gives-accepted target = gives-weaker (sps target) HasRanges (λ s. is_accepted s ≡ true) (sps-gives target) (λ s h. both (has_lengths s) (is_usable s) h.lengths h.usable)
 
 -- so is one that was read
-pub read-accepted : {S : Type 0} {took : S → List Call → Type 0} {failures : S → ℕ} {old new : Reader} {s s' : S} (target : Target) (r : Result Sps Stop) → Meets took failures (Is (λ (x : Sps). x)) (sps target) old new s s' r → IfOk r (λ s. is_accepted s ≡ true)
+pub read-accepted : {S : Type 0} {took : S → List Call → Type 0} {failures : S → ℕ} {old new : Reader} {s s' : S} (target : Target) (r : Result Sps Stop) → Meets (span took failures s s') (Is (λ (x : Sps). x)) (sps target) old new r → IfOk r (λ s. is_accepted s ≡ true)
 read-accepted {old = old} {new} target (Ok x) m =
     let a = answers m in
     subst (λ (s : Sps). is_accepted s ≡ true) a.2 (gives-derived (sps target) (λ s. is_accepted s ≡ true) old.body old.at a.0 new.at a.1 (gives-accepted target) a.3)

@@ -2,7 +2,7 @@
 #![tactic(auto)]
 
 ghost use Rattle.std.specs.Prelude.{◌≡◌, ℕ, ◌+◌, ◌-◌, ◌<◌, ◌≤◌, ◌^◌, []};
-ghost use Rattle.h264_base.specs.Call.{HasRoom};
+ghost use Rattle.h264_base.specs.Call.{HasRoom, span};
 ghost use Rattle.h264_base.specs.Meets.{Meets, Is};
 ghost use Rattle.h264_base.specs.declared.element_name.ElementName.TheVariants.{OffsetForRefFrame};
 ghost use Rattle.h264_bits.specs.Forms.{signed, repeated};
@@ -42,7 +42,8 @@ pub enum CountType {
 fn read_cycle<S: Elements>(length: u32, bits: &mut Bits, sink: &mut S) -> Result<Cycle, Stop>
     requires few { length ≤ 255 }
     requires room { HasRoom S.failures sink.old }
-    ensures { Meets S.took S.failures (λ x l. x ≡ cycle_of l) (repeated (signed OffsetForRefFrame) [] length) bits.old bits.new sink.old sink.new result }
+    ensures { Meets (span S.took S.failures sink.old sink.new) (λ x l. x ≡ cycle_of l) (repeated (signed OffsetForRefFrame) [] length)
+        bits.old bits.new result }
 {
     let mut offset_for_ref_frame = [0i32; 255];
     for i in 0..length as usize {
@@ -58,7 +59,7 @@ fn read_cycle<S: Elements>(length: u32, bits: &mut Bits, sink: &mut S) -> Result
 /// The elements of type 0.
 fn read_lsb_type<S: Elements>(bits: &mut Bits, sink: &mut S) -> Result<CountType, Stop>
     requires { HasRoom S.failures sink.old }
-    ensures { Meets S.took S.failures (Is (λ x. x)) lsb_type bits.old bits.new sink.old sink.new result }
+    ensures { Meets (span S.took S.failures sink.old sink.new) (Is (λ x. x)) lsb_type bits.old bits.new result }
 {
     let log2_minus4 = ue_up_to(bits, ElementName::Log2MaxPicOrderCntLsbMinus4, 12, sink)?;
     Ok(CountType::Lsb {
@@ -69,7 +70,7 @@ fn read_lsb_type<S: Elements>(bits: &mut Bits, sink: &mut S) -> Result<CountType
 /// The elements of type 1.
 fn read_cycle_type<S: Elements>(bits: &mut Bits, sink: &mut S) -> Result<CountType, Stop>
     requires { HasRoom S.failures sink.old }
-    ensures { Meets S.took S.failures (Is (λ x. x)) cycle_type bits.old bits.new sink.old sink.new result }
+    ensures { Meets (span S.took S.failures sink.old sink.new) (Is (λ x. x)) cycle_type bits.old bits.new result }
 {
     let always_zero = flag_value(bits, ElementName::DeltaPicOrderAlwaysZeroFlag, sink)?;
     let non_ref = se_value(bits, ElementName::OffsetForNonRefPic, sink)?;
@@ -87,7 +88,7 @@ fn read_cycle_type<S: Elements>(bits: &mut Bits, sink: &mut S) -> Result<CountTy
 /// pic_order_cnt_type, and what goes with it.
 pub(crate) fn read_count_type<S: Elements>(bits: &mut Bits, sink: &mut S) -> Result<CountType, Stop>
     requires { HasRoom S.failures sink.old }
-    ensures { Meets S.took S.failures (Is (λ x. x)) counting bits.old bits.new sink.old sink.new result }
+    ensures { Meets (span S.took S.failures sink.old sink.new) (Is (λ x. x)) counting bits.old bits.new result }
 {
     let kind = ue_up_to(bits, ElementName::PicOrderCntType, 2, sink)?;
     match kind {

@@ -2,7 +2,7 @@
 #![tactic(auto)]
 
 ghost use Rattle.std.specs.Prelude.{◌≡◌, ℕ, ◌+◌, ◌-◌, ◌<◌, ◌≤◌, ◌^◌, []};
-ghost use Rattle.h264_base.specs.Call.{HasRoom};
+ghost use Rattle.h264_base.specs.Call.{HasRoom, span};
 ghost use Rattle.h264_base.specs.Meets.{Meets, Is};
 ghost use Rattle.h264_bits.specs.Forms.{repeated};
 ghost use Rattle.h264_sps.specs.Hrd.{cpb, cpbs_of, hrd};
@@ -42,7 +42,7 @@ pub struct Hrd {
 /// One buffer.
 fn read_cpb<S: Elements>(bits: &mut Bits, sink: &mut S) -> Result<Cpb, Stop>
     requires { HasRoom S.failures sink.old }
-    ensures { Meets S.took S.failures (Is (λ x. x)) cpb bits.old bits.new sink.old sink.new result }
+    ensures { Meets (span S.took S.failures sink.old sink.new) (Is (λ x. x)) cpb bits.old bits.new result }
 {
     let names = [
         ElementName::BitRateValueMinus1,
@@ -61,7 +61,7 @@ fn read_cpb<S: Elements>(bits: &mut Bits, sink: &mut S) -> Result<Cpb, Stop>
 fn read_cpbs<S: Elements>(count: u32, bits: &mut Bits, sink: &mut S) -> Result<Cpbs, Stop>
     requires few { count ≤ 32 }
     requires room { HasRoom S.failures sink.old }
-    ensures { Meets S.took S.failures (λ x l. x ≡ cpbs_of l) (repeated cpb [] count) bits.old bits.new sink.old sink.new result }
+    ensures { Meets (span S.took S.failures sink.old sink.new) (λ x l. x ≡ cpbs_of l) (repeated cpb [] count) bits.old bits.new result }
 {
     let none = Cpb {
         bit_rate_value_minus1: 0,
@@ -79,7 +79,7 @@ fn read_cpbs<S: Elements>(count: u32, bits: &mut Bits, sink: &mut S) -> Result<C
 /// hrd_parameters().
 pub(crate) fn read_hrd<S: Elements>(bits: &mut Bits, sink: &mut S) -> Result<Hrd, Stop>
     requires { HasRoom S.failures sink.old }
-    ensures { Meets S.took S.failures (Is (λ x. x)) hrd bits.old bits.new sink.old sink.new result }
+    ensures { Meets (span S.took S.failures sink.old sink.new) (Is (λ x. x)) hrd bits.old bits.new result }
 {
     let count_minus1 = ue_up_to(bits, ElementName::CpbCntMinus1, 31, sink)?;
     let scales = [ElementName::BitRateScale, ElementName::CpbSizeScale];

@@ -2,7 +2,7 @@
 #![tactic(auto)]
 
 ghost use Rattle.std.specs.Prelude.{◌≡◌, ℕ, ◌+◌, ◌-◌, ◌<◌, ◌≤◌, ◌^◌, IfOk, Some, None, cond, true};
-ghost use Rattle.h264_base.specs.Call.{HasRoom};
+ghost use Rattle.h264_base.specs.Call.{HasRoom, span};
 ghost use Rattle.h264_base.specs.Meets.{Meets, Is, Answers};
 ghost use Rattle.h264_base.specs.declared.element_name.ElementName.TheVariants.{FrameCroppingFlag};
 ghost use Rattle.h264_bits.specs.Forms.{flag};
@@ -66,7 +66,7 @@ fn is_level_6(level_idc: u32) -> bool
 /// The six flags.
 fn read_flags<S: Elements>(bits: &mut Bits, sink: &mut S) -> Result<ConstraintSetFlags, Stop>
     requires { HasRoom S.failures sink.old }
-    ensures { Meets S.took S.failures (Is (λ x. x)) constraint_set_flags bits.old bits.new sink.old sink.new result }
+    ensures { Meets (span S.took S.failures sink.old sink.new) (Is (λ x. x)) constraint_set_flags bits.old bits.new result }
 {
     let names = [
         ElementName::ConstraintSet0Flag,
@@ -90,7 +90,7 @@ fn read_flags<S: Elements>(bits: &mut Bits, sink: &mut S) -> Result<ConstraintSe
 /// level_idc: a level that is judged.
 fn read_level<S: Elements>(set3: bool, bits: &mut Bits, sink: &mut S) -> Result<Level, Stop>
     requires { HasRoom S.failures sink.old }
-    ensures { Meets S.took S.failures (Is level_seen) (level set3) bits.old bits.new sink.old sink.new result }
+    ensures { Meets (span S.took S.failures sink.old sink.new) (Is level_seen) (level set3) bits.old bits.new result }
 {
     let level = read_u::<8, S>(bits, ElementName::LevelIdc, sink)?;
     support(!is_level_6(level.value), Feature::Level6, level.bit)?;
@@ -109,7 +109,7 @@ fn read_level<S: Elements>(set3: bool, bits: &mut Bits, sink: &mut S) -> Result<
 /// The profile, the flags and the level.
 fn read_front<S: Elements>(target: Target, bits: &mut Bits, sink: &mut S) -> Result<Front, Stop>
     requires { HasRoom S.failures sink.old }
-    ensures { Meets S.took S.failures (Is front_seen) (profile_and_level target) bits.old bits.new sink.old sink.new result }
+    ensures { Meets (span S.took S.failures sink.old sink.new) (Is front_seen) (profile_and_level target) bits.old bits.new result }
 {
     let profile = read_u::<8, S>(bits, ElementName::ProfileIdc, sink)?;
     let flags = read_flags(bits, sink)?;
@@ -177,7 +177,7 @@ fn read_frame_size<S: Elements>(
     sink: &mut S,
 ) -> Result<FrameSize, Stop>
     requires { HasRoom S.failures sink.old }
-    ensures { Meets S.took S.failures (Is (λ x. x)) (frame_size limits max_num_ref_frames) bits.old bits.new sink.old sink.new result }
+    ensures { Meets (span S.took S.failures sink.old sink.new) (Is (λ x. x)) (frame_size limits max_num_ref_frames) bits.old bits.new result }
 {
     let width_minus1 = read_ue(bits, ElementName::PicWidthInMbsMinus1, sink)?;
     let height_minus1 = read_ue(bits, ElementName::PicHeightInMapUnitsMinus1, sink)?;
@@ -201,7 +201,7 @@ fn read_crop_offsets<S: Elements>(
     sink: &mut S,
 ) -> Result<(u32, u32), Stop>
     requires { HasRoom S.failures sink.old }
-    ensures { Meets S.took S.failures (Is (λ x. (x.0, x.1))) (crop_offsets first second macroblocks) bits.old bits.new sink.old sink.new result }
+    ensures { Meets (span S.took S.failures sink.old sink.new) (Is (λ x. (x.0, x.1))) (crop_offsets first second macroblocks) bits.old bits.new result }
 {
     let before = read_ue(bits, first, sink)?;
     let following = read_ue(bits, second, sink)?;
@@ -217,7 +217,7 @@ fn read_crop_info<S: Elements>(
     sink: &mut S,
 ) -> Result<Option<FrameCropping>, Stop>
     requires { HasRoom S.failures sink.old }
-    ensures { Meets S.took S.failures (Is (λ x. x)) (flagged (flag FrameCroppingFlag) (frame_cropping size)) bits.old bits.new sink.old sink.new result }
+    ensures { Meets (span S.took S.failures sink.old sink.new) (Is (λ x. x)) (flagged (flag FrameCroppingFlag) (frame_cropping size)) bits.old bits.new result }
 {
     let present = flag_value(bits, ElementName::FrameCroppingFlag, sink)?;
     if !present {
@@ -244,7 +244,7 @@ fn read_crop_info<S: Elements>(
 /// The set from the frame's size on.
 fn sps_from_size<S: Elements>(start: &Start, bits: &mut Bits, sink: &mut S) -> Result<Sps, Stop>
     requires { HasRoom S.failures sink.old }
-    ensures meets { Meets S.took S.failures (Is (λ x. x)) (sps_from_size start.now) bits.old bits.new sink.old sink.new result }
+    ensures meets { Meets (span S.took S.failures sink.old sink.new) (Is (λ x. x)) (sps_from_size start.now) bits.old bits.new result }
     ensures id { IfOk result (λ s. s.seq_parameter_set_id ≡ start.now.seq_parameter_set_id) }
 {
     let limits = start.front.level.limits;
@@ -275,7 +275,7 @@ fn sps_from_size<S: Elements>(start: &Start, bits: &mut Bits, sink: &mut S) -> R
 /// The set, element by element.
 fn sps_steps<S: Elements>(target: Target, bits: &mut Bits, sink: &mut S) -> Result<Sps, Stop>
     requires { HasRoom S.failures sink.old }
-    ensures meets { Meets S.took S.failures (Is (λ x. x)) (sps target) bits.old bits.new sink.old sink.new result }
+    ensures meets { Meets (span S.took S.failures sink.old sink.new) (Is (λ x. x)) (sps target) bits.old bits.new result }
     ensures id { IfOk result (λ s. s.seq_parameter_set_id ≤ 31) }
 {
     let front = read_front(target, bits, sink)?;
@@ -303,8 +303,8 @@ fn sps_steps<S: Elements>(target: Target, bits: &mut Bits, sink: &mut S) -> Resu
 /// After an Err the reader may have moved.
 pub fn read_sps<S: Elements>(target: Target, bits: &mut Bits, sink: &mut S) -> Result<Sps, Stop>
     requires { HasRoom S.failures sink.old }
-    ensures answers { Answers S.took S.failures (Is (λ x. x)) (sps target) bits.old bits.new sink.old sink.new result }
-    ensures meets { Meets S.took S.failures (Is (λ x. x)) (sps target) bits.old bits.new sink.old sink.new result }
+    ensures answers { Answers (span S.took S.failures sink.old sink.new) (Is (λ x. x)) (sps target) bits.old bits.new result }
+    ensures meets { Meets (span S.took S.failures sink.old sink.new) (Is (λ x. x)) (sps target) bits.old bits.new result }
     ensures id { IfOk result (λ s. s.seq_parameter_set_id ≤ 31) }
     ensures accepted { IfOk result (λ s. is_accepted s ≡ true) }
 {

@@ -2,7 +2,7 @@
 #![tactic(auto)]
 
 ghost use Rattle.std.specs.Prelude.{◌≡◌, ◌||◌, ℕ, ◌-◌, ◌<◌, ◌^◌};
-ghost use Rattle.h264_base.specs.Call.{HasRoom};
+ghost use Rattle.h264_base.specs.Call.{HasRoom, span};
 ghost use Rattle.std.specs.Option.{is_some};
 ghost use Rattle.h264_base.specs.Meets.{Meets, Is};
 ghost use Rattle.h264_base.specs.declared.element_name.ElementName.TheVariants.{AspectRatioInfoPresentFlag, OverscanInfoPresentFlag};
@@ -133,7 +133,7 @@ fn read_extended<S: Elements>(
     sink: &mut S,
 ) -> Result<Option<ExtendedRatio>, Stop>
     requires { HasRoom S.failures sink.old }
-    ensures { Meets S.took S.failures (Is (λ x. x)) (optional present extended_ratio) bits.old bits.new sink.old sink.new result }
+    ensures { Meets (span S.took S.failures sink.old sink.new) (Is (λ x. x)) (optional present extended_ratio) bits.old bits.new result }
 {
     if !present {
         return Ok(None);
@@ -153,7 +153,7 @@ fn read_colours<S: Elements>(
     sink: &mut S,
 ) -> Result<Option<ColourDescription>, Stop>
     requires { HasRoom S.failures sink.old }
-    ensures { Meets S.took S.failures (Is (λ x. x)) (optional present colour_description) bits.old bits.new sink.old sink.new result }
+    ensures { Meets (span S.took S.failures sink.old sink.new) (Is (λ x. x)) (optional present colour_description) bits.old bits.new result }
 {
     if !present {
         return Ok(None);
@@ -177,7 +177,7 @@ fn read_video_signal_type<S: Elements>(
     sink: &mut S,
 ) -> Result<VideoSignalType, Stop>
     requires { HasRoom S.failures sink.old }
-    ensures { Meets S.took S.failures (Is (λ x. x)) video_signal_type bits.old bits.new sink.old sink.new result }
+    ensures { Meets (span S.took S.failures sink.old sink.new) (Is (λ x. x)) video_signal_type bits.old bits.new result }
 {
     let format = u_value::<3, S>(bits, ElementName::VideoFormat, sink)?;
     let full_range = flag_value(bits, ElementName::VideoFullRangeFlag, sink)?;
@@ -206,8 +206,8 @@ fn read_bitstream_restriction<S: Elements>(
     sink: &mut S,
 ) -> Result<BitstreamRestriction, Stop>
     requires { HasRoom S.failures sink.old }
-    ensures { Meets S.took S.failures (Is (λ x. x)) (bitstream_restriction frames.max_num_ref_frames frames.max_dpb_frames) bits.old bits.new sink.old
-        sink.new result }
+    ensures { Meets (span S.took S.failures sink.old sink.new) (Is (λ x. x)) (bitstream_restriction frames.max_num_ref_frames frames.max_dpb_frames)
+        bits.old bits.new result }
 {
     let over = flag_value(bits, ElementName::MotionVectorsOverPicBoundariesFlag, sink)?;
     let names = [
@@ -241,8 +241,8 @@ fn read_ratio_info<S: Elements>(
     sink: &mut S,
 ) -> Result<Option<SampleAspectRatio>, Stop>
     requires { HasRoom S.failures sink.old }
-    ensures { Meets S.took S.failures (Is (λ x. x)) (flagged (flag AspectRatioInfoPresentFlag) sample_aspect_ratio) bits.old bits.new sink.old
-        sink.new result }
+    ensures { Meets (span S.took S.failures sink.old sink.new) (Is (λ x. x)) (flagged (flag AspectRatioInfoPresentFlag) sample_aspect_ratio)
+        bits.old bits.new result }
 {
     let present = flag_value(bits, ElementName::AspectRatioInfoPresentFlag, sink)?;
     if !present {
@@ -259,8 +259,8 @@ fn read_ratio_info<S: Elements>(
 /// overscan_appropriate_flag, where it is present.
 fn read_overscan_info<S: Elements>(bits: &mut Bits, sink: &mut S) -> Result<Option<bool>, Stop>
     requires { HasRoom S.failures sink.old }
-    ensures { Meets S.took S.failures (Is (λ x. x)) (flagged (flag OverscanInfoPresentFlag) (flag OverscanAppropriateFlag)) bits.old bits.new sink.old
-        sink.new result }
+    ensures { Meets (span S.took S.failures sink.old sink.new) (Is (λ x. x)) (flagged (flag OverscanInfoPresentFlag) (flag OverscanAppropriateFlag))
+        bits.old bits.new result }
 {
     match flag_value(bits, ElementName::OverscanInfoPresentFlag, sink) {
         Ok(true) => there(flag_value(bits, ElementName::OverscanAppropriateFlag, sink)),
@@ -275,8 +275,8 @@ fn read_signal_info<S: Elements>(
     sink: &mut S,
 ) -> Result<Option<VideoSignalType>, Stop>
     requires { HasRoom S.failures sink.old }
-    ensures { Meets S.took S.failures (Is (λ x. x)) (flagged (flag VideoSignalTypePresentFlag) video_signal_type) bits.old bits.new sink.old sink.new
-        result }
+    ensures { Meets (span S.took S.failures sink.old sink.new) (Is (λ x. x)) (flagged (flag VideoSignalTypePresentFlag) video_signal_type)
+        bits.old bits.new result }
 {
     match flag_value(bits, ElementName::VideoSignalTypePresentFlag, sink) {
         Ok(true) => there(read_video_signal_type(bits, sink)),
@@ -291,7 +291,8 @@ fn read_location_info<S: Elements>(
     sink: &mut S,
 ) -> Result<Option<ChromaLocation>, Stop>
     requires { HasRoom S.failures sink.old }
-    ensures { Meets S.took S.failures (Is (λ x. x)) (flagged (flag ChromaLocInfoPresentFlag) chroma_location) bits.old bits.new sink.old sink.new result }
+    ensures { Meets (span S.took S.failures sink.old sink.new) (Is (λ x. x)) (flagged (flag ChromaLocInfoPresentFlag) chroma_location)
+        bits.old bits.new result }
 {
     let present = flag_value(bits, ElementName::ChromaLocInfoPresentFlag, sink)?;
     if !present {
@@ -311,7 +312,7 @@ fn read_location_info<S: Elements>(
 /// The rate of pictures, where it is present.
 fn read_timing_info<S: Elements>(bits: &mut Bits, sink: &mut S) -> Result<Option<Timing>, Stop>
     requires { HasRoom S.failures sink.old }
-    ensures { Meets S.took S.failures (Is (λ x. x)) (flagged (flag TimingInfoPresentFlag) timing) bits.old bits.new sink.old sink.new result }
+    ensures { Meets (span S.took S.failures sink.old sink.new) (Is (λ x. x)) (flagged (flag TimingInfoPresentFlag) timing) bits.old bits.new result }
 {
     let present = flag_value(bits, ElementName::TimingInfoPresentFlag, sink)?;
     if !present {
@@ -334,7 +335,7 @@ fn read_hrd_info<S: Elements>(
     sink: &mut S,
 ) -> Result<Option<Hrd>, Stop>
     requires { HasRoom S.failures sink.old }
-    ensures { Meets S.took S.failures (Is (λ x. x)) (flagged (flag flag_name) hrd) bits.old bits.new sink.old sink.new result }
+    ensures { Meets (span S.took S.failures sink.old sink.new) (Is (λ x. x)) (flagged (flag flag_name) hrd) bits.old bits.new result }
 {
     match flag_value(bits, flag_name, sink) {
         Ok(true) => there(read_hrd(bits, sink)),
@@ -357,7 +358,7 @@ fn read_low_delay<S: Elements>(
     sink: &mut S,
 ) -> Result<Option<bool>, Stop>
     requires { HasRoom S.failures sink.old }
-    ensures { Meets S.took S.failures (Is (λ x. x)) (optional present (flag LowDelayHrdFlag)) bits.old bits.new sink.old sink.new result }
+    ensures { Meets (span S.took S.failures sink.old sink.new) (Is (λ x. x)) (optional present (flag LowDelayHrdFlag)) bits.old bits.new result }
 {
     if !present {
         return Ok(None);
@@ -372,8 +373,8 @@ fn read_restriction<S: Elements>(
     sink: &mut S,
 ) -> Result<Option<BitstreamRestriction>, Stop>
     requires { HasRoom S.failures sink.old }
-    ensures { Meets S.took S.failures (Is (λ x. x)) (flagged (flag BitstreamRestrictionFlag)
-        (bitstream_restriction frames.max_num_ref_frames frames.max_dpb_frames)) bits.old bits.new sink.old sink.new result }
+    ensures { Meets (span S.took S.failures sink.old sink.new) (Is (λ x. x)) (flagged (flag BitstreamRestrictionFlag)
+        (bitstream_restriction frames.max_num_ref_frames frames.max_dpb_frames)) bits.old bits.new result }
 {
     match flag_value(bits, ElementName::BitstreamRestrictionFlag, sink) {
         Ok(true) => there(read_bitstream_restriction(frames, bits, sink)),
@@ -390,7 +391,7 @@ fn vui_from_hrd<S: Elements>(
     sink: &mut S,
 ) -> Result<Vui, Stop>
     requires { HasRoom S.failures sink.old }
-    ensures { Meets S.took S.failures (Is (λ x. x)) (vui_from_hrd shown.now frames) bits.old bits.new sink.old sink.new result }
+    ensures { Meets (span S.took S.failures sink.old sink.new) (Is (λ x. x)) (vui_from_hrd shown.now frames) bits.old bits.new result }
 {
     let nal = read_hrd_info(ElementName::NalHrdParametersPresentFlag, bits, sink)?;
     let vcl = read_hrd_info(ElementName::VclHrdParametersPresentFlag, bits, sink)?;
@@ -414,7 +415,7 @@ fn vui_from_hrd<S: Elements>(
 /// vui_parameters(), of a stream with so many reference frames, at a level whose buffer holds so many frames of its size.
 fn read_vui<S: Elements>(frames: Frames, bits: &mut Bits, sink: &mut S) -> Result<Vui, Stop>
     requires { HasRoom S.failures sink.old }
-    ensures { Meets S.took S.failures (Is (λ x. x)) (vui frames.max_num_ref_frames frames.max_dpb_frames) bits.old bits.new sink.old sink.new result }
+    ensures { Meets (span S.took S.failures sink.old sink.new) (Is (λ x. x)) (vui frames.max_num_ref_frames frames.max_dpb_frames) bits.old bits.new result }
 {
     let ratio = read_ratio_info(bits, sink)?;
     let overscan = read_overscan_info(bits, sink)?;
@@ -443,8 +444,8 @@ pub fn read_vui_info<S: Elements>(
     sink: &mut S,
 ) -> Result<Option<Vui>, Stop>
     requires { HasRoom S.failures sink.old }
-    ensures { Meets S.took S.failures (Is (λ x. x)) (flagged (flag VuiParametersPresentFlag) (vui max_num_ref_frames max_dpb_frames)) bits.old
-        bits.new sink.old sink.new result }
+    ensures { Meets (span S.took S.failures sink.old sink.new) (Is (λ x. x)) (flagged (flag VuiParametersPresentFlag) (vui max_num_ref_frames max_dpb_frames))
+        bits.old bits.new result }
 {
     let frames = Frames {
         max_num_ref_frames,

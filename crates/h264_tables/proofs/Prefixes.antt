@@ -1,9 +1,9 @@
 -- Where one word goes on from another, both are the word of one row.
-use Rattle.std.proofs.Common.{◌≡◌, ℕ, suc, ◌+◌, ◌*◌, ◌-◌, ◌/◌, ◌^◌, ◌<◌, ℤ, pos, Bool, true, false, not, List, [], ◌∷◌, ◌++◌, length, refl, ap, sym, ◌∙◌, arith, ◌&&◌, ◌⊎◌, inl, inr}
+use Rattle.std.proofs.Common.{◌≡◌, ℕ, suc, ◌+◌, ◌*◌, ◌-◌, ◌/◌, ◌^◌, ◌<◌, ℤ, pos, Bool, true, false, not, List, [], ◌∷◌, ◌++◌, length, refl, ap, sym, ◌∙◌, arith, ◌⊎◌, inl, inr}
 use Rattle.std.proofs.lemmas.Bool.{and_parts, eq-eqb, le-leb, false≢true}
 use Rattle.std.proofs.lemmas.Nat.{pow-add, shr_high}
 use Rattle.std.proofs.Common.{length-append}
-use Rattle.h264_base.specs.Table.{Row, CodeTable, IsRow, is_prefix, is_apart, is_prefix_free}
+use Rattle.h264_base.specs.Table.{Row, CodeTable, IsRow, is_prefix, is_prefix_free}
 use Rattle.h264_base.specs.Word.{Word, Words, IsWord, IsWordOf, number, digit}
 use Rattle.h264_base.proofs.Rows.{apart-from as apart}
 

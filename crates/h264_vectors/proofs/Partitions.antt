@@ -1,5 +1,5 @@
 -- The blocks of a partition are predicted alike, once all parts of the macroblock are derived.
-use Rattle.std.proofs.Common.{◌≡◌, ◌≢◌, ℕ, zero, suc, ◌+◌, ◌*◌, ◌/◌, ◌%◌, ◌<◌, ◌==◌, nat_lt, Bool, true, false, not, ◌&&◌, List, [], ◌∷◌, replicate, get_or, length, Option, Some, None, refl, sym, ap, ◌∙◌, arith, if◌then◌else◌}
+use Rattle.std.proofs.Common.{◌≡◌, ◌≢◌, ℕ, zero, suc, ◌+◌, ◌*◌, ◌/◌, ◌%◌, ◌<◌, ◌==◌, nat_lt, Bool, true, false, ◌&&◌, List, [], ◌∷◌, replicate, get_or, Option, None, refl, sym, ap, ◌∙◌, arith, if◌then◌else◌}
 use Rattle.std.specs.Prelude.{Result, Ok, Err, OnOk}
 use Rattle.std.specs.List.{list_all, range_with_len}
 use Rattle.std.proofs.lemmas.Bool.{ltb-true, false≢true}
@@ -14,7 +14,8 @@ use Rattle.h264_near.specs.Coded.{column_of, row_of}
 use Rattle.h264_near.specs.Partition.{first_in_sub, first_of, MovesByPartition}
 use Rattle.h264_vectors.specs.declared.part.Direction.TheVariants as direction
 use Rattle.h264_vectors.specs.declared.part.Part.{Part}
-use Rattle.h264_vectors.specs.Derived.{part, is_inside, in_part, with_part, sub_parts_of}
+use Rattle.h264_vectors.specs.Vectors.{part}
+use Rattle.h264_vectors.specs.Derived.{is_inside, in_part, with_part, sub_parts_of}
 use Rattle.h264_vectors.specs.Partitions.{sub_partition_of, IsOfType}
 use Rattle.h264_vectors.specs.Agrees.{is_on_one_side, are_on_one_side, StayAlike}
 

@@ -5,7 +5,7 @@ use Rattle.std.proofs.lemmas.Bool.{eqb-true}
 use Rattle.std.specs.List.{range_with_len}
 use Rattle.std.proofs.Math.ListN as math
 use Rattle.h264_base.specs.declared.stop.Stop.{Stop}
-use Rattle.h264_base.specs.Call.{Call}
+use Rattle.h264_base.specs.Call.{Call, span}
 use Rattle.h264_base.specs.Grammar.{Grammar, Done, ◌>>=◌}
 use Rattle.h264_base.specs.Meets.{Reader, Meets}
 use Rattle.h264_base.proofs.Steps.{bind_as, stop, done}
@@ -39,12 +39,12 @@ some-of true v w e = (refl, cc)
 some-of false v w e = absurd (cc)
 
 -- the last of the parts with one index gives what they all give
-pub last : {X A S : Type 0} {took : S → List Call → Type 0} {failures : S → ℕ} {R : X → A → Type 0} {g : Grammar A} {old new : Reader} {s s' : S} (r : Result X Stop) → Meets took failures R g old new s s' r → Meets took failures R (g >>= (λ v. Done v)) old new s s' r
+pub last : {X A S : Type 0} {took : S → List Call → Type 0} {failures : S → ℕ} {R : X → A → Type 0} {g : Grammar A} {old new : Reader} {s s' : S} (r : Result X Stop) → Meets (span took failures s s') R g old new r → Meets (span took failures s s') R (g >>= (λ v. Done v)) old new r
 last (Ok x) m = bind_as _ m (λ v e. done _ _ _ _ _ _ _ e)
 last (Err e) m = stop _ m
 
 -- once a vector has left its range
-pub derive-off : (width : ℕ) (slice : SliceContext) (picture : List CodedMacroblock) (blocks : List (Option Motion)) (places : List Bool) (d : Derived) (p : Part) (i : ℕ) (across down : ℤ) → Agrees false blocks places d → Agrees false blocks (places_with places p) (derive width slice picture d p i across down)
+pub derive-off : (width : ℕ) (slice : SliceContext) (picture : List CodedMacroblock) (blocks : List (Option Motion)) (places : List Bool) (d : Derived) (p : Part) (i : ℕ) (across down : ℤ) → Agrees false blocks places d → Agrees false blocks (places_with places p) (derive width slice picture d (record { place = p; ref_idx = i }) (record { across = across; down = down }))
 unfolding derive with_vector
 derive-off width slice picture blocks places d p i across down a = record {
   fits = rw (sym a.fits) refl;
@@ -52,20 +52,20 @@ derive-off width slice picture blocks places d p i across down a = record {
   derived = places-with d.motions p _ ∙ ap (λ s. places_with s p) a.derived;
 }
 
-pub derive-out : (width : ℕ) (slice : SliceContext) (picture : List CodedMacroblock) (blocks : List (Option Motion)) (places : List Bool) (d : Derived) (p : Part) (i : ℕ) (across down : ℤ) (predicted : Vector) → Agrees true blocks places d → predicted ≡ predicted_vector width picture slice.number blocks p.direction i p.x p.y p.wide → vector_fits slice.vector_limit (moved predicted across down) ≡ false → Agrees false blocks (places_with places p) (derive width slice picture d p i across down)
+pub derive-out : (width : ℕ) (slice : SliceContext) (picture : List CodedMacroblock) (blocks : List (Option Motion)) (places : List Bool) (d : Derived) (p : Part) (i : ℕ) (across down : ℤ) (predicted : Vector) → Agrees true blocks places d → predicted ≡ predicted_vector width picture slice.number blocks p i → vector_fits slice.vector_limit (moved predicted across down) ≡ false → Agrees false blocks (places_with places p) (derive width slice picture d (record { place = p; ref_idx = i }) (record { across = across; down = down }))
 unfolding derive with_vector
 derive-out width slice picture blocks places d p i across down predicted a e o =
-    let q : predicted ≡ predicted_vector width picture slice.number d.motions p.direction i p.x p.y p.wide = rw (a.same refl) at e in
+    let q : predicted ≡ predicted_vector width picture slice.number d.motions p i = rw (a.same refl) at e in
     record {
       fits = rw (sym a.fits, sym q, o) refl;
       same = λ e. absurd (cc);
       derived = places-with d.motions p _ ∙ ap (λ s. places_with s p) a.derived;
     }
 
-pub derive-in : (width : ℕ) (slice : SliceContext) (picture : List CodedMacroblock) (blocks next : List (Option Motion)) (places : List Bool) (d : Derived) (p : Part) (i : ℕ) (across down : ℤ) (predicted v : Vector) → Agrees true blocks places d → predicted ≡ predicted_vector width picture slice.number blocks p.direction i p.x p.y p.wide → vector_fits slice.vector_limit (moved predicted across down) ≡ true → v ≡ moved predicted across down → next ≡ with_part blocks p (motion_of slice i v) → Agrees true next (places_with places p) (derive width slice picture d p i across down)
+pub derive-in : (width : ℕ) (slice : SliceContext) (picture : List CodedMacroblock) (blocks next : List (Option Motion)) (places : List Bool) (d : Derived) (p : Part) (i : ℕ) (across down : ℤ) (predicted v : Vector) → Agrees true blocks places d → predicted ≡ predicted_vector width picture slice.number blocks p i → vector_fits slice.vector_limit (moved predicted across down) ≡ true → v ≡ moved predicted across down → next ≡ with_part blocks p (motion_of slice i v) → Agrees true next (places_with places p) (derive width slice picture d (record { place = p; ref_idx = i }) (record { across = across; down = down }))
 unfolding derive with_vector
 derive-in width slice picture blocks next places d p i across down predicted v a e o f n =
-    let q : predicted ≡ predicted_vector width picture slice.number d.motions p.direction i p.x p.y p.wide = rw (a.same refl) at e in
+    let q : predicted ≡ predicted_vector width picture slice.number d.motions p i = rw (a.same refl) at e in
     record {
       fits = rw (sym a.fits, sym q, o) refl;
       same = λ t. rw (sym q, sym f, sym (a.same refl)) n;

@@ -8,15 +8,12 @@ use Rattle.std.proofs.Common.{get_or}
 use Rattle.h264_near.specs.declared.motion.Motion.{Motion}
 use Rattle.h264_near.specs.declared.motion.Vector.{Vector}
 use Rattle.h264_near.specs.Coded.{CodedMacroblock, column_of, row_of}
-use Rattle.h264_vectors.specs.declared.part.Direction.{Direction}
 use Rattle.h264_vectors.specs.declared.part.Direction.TheVariants as direction
 use Rattle.h264_vectors.specs.declared.part.Part.{Part}
+use Rattle.h264_vectors.specs.declared.part.PredictedPart.{PredictedPart}
+use Rattle.h264_vectors.specs.declared.part.VectorDifference.{VectorDifference}
 use Rattle.h264_vectors.specs.declared.slice.SliceContext.{SliceContext}
-use Rattle.h264_vectors.specs.Vectors.{predicted_vector}
-
--- a part of a macroblock: where it begins, and its size, all in 4x4 blocks
-abbrev pub part : ℕ → ℕ → ℕ → ℕ → Direction → Part
-part x y wide high d = record { x = x; y = y; wide = wide; high = high; direction = d }
+use Rattle.h264_vectors.specs.Vectors.{part, predicted_vector}
 
 -- the parts of an 8x8 block at x and y by its sub_mb_type: 8x8, 8x4, 4x8 and 4x4 (Table 7-17)
 abbrev pub sub_parts_of : ℕ → ℕ → ℕ → List Part
@@ -73,6 +70,8 @@ none_yet = record { motions = replicate 16 None; fit = true }
 unfoldable pub with_vector : SliceContext → Derived → Part → ℕ → Vector → Derived
 with_vector slice d p i v = record { motions = with_part d.motions p (motion_of slice i v); fit = d.fit && vector_fits slice.vector_limit v }
 
-unfoldable pub derive : ℕ → SliceContext → List CodedMacroblock → Derived → Part → ℕ → ℤ → ℤ → Derived
-derive width slice picture d p i across down =
-    with_vector slice d p i (moved (predicted_vector width picture slice.number d.motions p.direction i p.x p.y p.wide) across down)
+-- one part more, of this mvd_l0
+unfoldable pub derive : ℕ → SliceContext → List CodedMacroblock → Derived → PredictedPart → VectorDifference → Derived
+derive width slice picture d p mvd =
+    let predicted = predicted_vector width picture slice.number d.motions p.place p.ref_idx in
+    with_vector slice d p.place p.ref_idx (moved predicted mvd.across mvd.down)

@@ -1,5 +1,5 @@
 -- mb_pred() and sub_mb_pred() of inter macroblocks (7.3.5.1, 7.3.5.2), with their references and vectors (8.4.1). To be read beside the standard.
-use Rattle.std.specs.Prelude.{ℕ, ◌-◌, ◌==◌, nat_lt, nat_le, Bool, ◌||◌, not, List, [], ◌∷◌, if◌then◌else◌}
+use Rattle.std.specs.Prelude.{ℕ, slice_index, ◌-◌, ◌==◌, nat_lt, nat_le, Bool, ◌||◌, not, List, [], ◌∷◌, if◌then◌else◌}
 use Rattle.h264_base.specs.declared.element_name.ElementName.TheVariants.{SubMbType, RefIdxL0, MvdL0}
 use Rattle.h264_base.specs.declared.rule.Rule.TheVariants.{Range, NoReference}
 use Rattle.h264_base.specs.Word.{Signed}
@@ -9,8 +9,9 @@ use Rattle.h264_bits.specs.Truncated.{truncated}
 use Rattle.h264_near.specs.Coded.{CodedMacroblock}
 use Rattle.h264_vectors.specs.declared.part.Direction.TheVariants as direction
 use Rattle.h264_vectors.specs.declared.part.Part.{Part}
+use Rattle.h264_vectors.specs.Vectors.{part, whole}
 use Rattle.h264_vectors.specs.declared.slice.SliceContext.{SliceContext}
-use Rattle.h264_vectors.specs.Derived.{part, sub_parts_of, has_picture, Derived, none_yet, derive}
+use Rattle.h264_vectors.specs.Derived.{sub_parts_of, has_picture, Derived, none_yet, derive}
 
 -- ref_idx_l0, where it stands in the stream
 unfoldable pub read_ref_idx : SliceContext → Grammar ℕ
@@ -24,7 +25,7 @@ unfoldable pub part_motion : ℕ → SliceContext → List CodedMacroblock → P
 part_motion width slice picture p i d = do
   across ← element MvdL0 Signed
   down ← element MvdL0 Signed
-  Done (derive width slice picture d p i across.value down.value)
+  Done (derive width slice picture d (record { place = p; ref_idx = i }) (record { across = across.value; down = down.value }))
 
 -- the vectors of parts that have one index, after these
 unfoldable pub part_motions : ℕ → SliceContext → List CodedMacroblock → ℕ → List Part → Derived → Grammar Derived
@@ -51,17 +52,14 @@ two_parts width slice picture inferred p q = do
   d ← part_motion width slice picture p i none_yet
   part_motion width slice picture q j d
 
--- an 8x8 block at x and y by its sub_mb_type
-abbrev pub sub_motions : ℕ → SliceContext → List CodedMacroblock → ℕ → ℕ → ℕ → ℕ → Derived → Grammar Derived
-sub_motions width slice picture x y t i d = part_motions width slice picture i (sub_parts_of x y t) d
-
 -- four 8x8 blocks by their types and indices
-unfoldable pub quarters : ℕ → SliceContext → List CodedMacroblock → ℕ → ℕ → ℕ → ℕ → ℕ → ℕ → ℕ → ℕ → Grammar Derived
-quarters width slice picture t0 t1 t2 t3 i0 i1 i2 i3 = do
-  d0 ← sub_motions width slice picture 0 0 t0 i0 none_yet
-  d1 ← sub_motions width slice picture 2 0 t1 i1 d0
-  d2 ← sub_motions width slice picture 0 2 t2 i2 d1
-  sub_motions width slice picture 2 2 t3 i3 d2
+unfoldable pub quarters : ℕ → SliceContext → List CodedMacroblock → List ℕ → List ℕ → Grammar Derived
+quarters width slice picture types indices =
+    let quarter = λ (x y n : ℕ) (d : Derived). part_motions width slice picture (slice_index indices n) (sub_parts_of x y (slice_index types n)) d in do
+  d0 ← quarter 0 0 0 none_yet
+  d1 ← quarter 2 0 1 d0
+  d2 ← quarter 0 2 2 d1
+  quarter 2 2 3 d2
 
 -- mb_type 3 and 4
 unfoldable pub split_parts : ℕ → SliceContext → List CodedMacroblock → Bool → Grammar Derived
@@ -74,7 +72,7 @@ split_parts width slice picture inferred = do
   i1 ← ref_index slice inferred
   i2 ← ref_index slice inferred
   i3 ← ref_index slice inferred
-  quarters width slice picture t0 t1 t2 t3 i0 i1 i2 i3
+  quarters width slice picture (t0 ∷ t1 ∷ t2 ∷ t3 ∷ []) (i0 ∷ i1 ∷ i2 ∷ i3 ∷ [])
 
 -- whether ref_idx_l0 does not stand in the stream: mb_type 4, or no more than one place in the list
 abbrev pub is_inferred : SliceContext → ℕ → Bool
@@ -83,7 +81,7 @@ is_inferred slice kind = kind == 4 || nat_le slice.active 1
 -- by mb_type: 16x16, 16x8, 8x16, and four 8x8 blocks (Table 7-13)
 unfoldable pub motions_by : ℕ → SliceContext → List CodedMacroblock → Bool → ℕ → Grammar Derived
 motions_by width slice picture inferred kind =
-    if kind == 0 then one_part width slice picture inferred (part 0 0 4 4 direction.Median) else
+    if kind == 0 then one_part width slice picture inferred (whole direction.Median) else
     if kind == 1 then two_parts width slice picture inferred (part 0 0 4 2 direction.FromB) (part 0 2 4 2 direction.FromA) else
     if kind == 2 then two_parts width slice picture inferred (part 0 0 2 4 direction.FromA) (part 2 0 2 4 direction.FromC) else
     split_parts width slice picture inferred

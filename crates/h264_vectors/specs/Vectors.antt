@@ -7,6 +7,15 @@ use Rattle.h264_near.specs.declared.motion.Motion.{Motion}
 use Rattle.h264_near.specs.declared.motion.Vector.{Vector}
 use Rattle.h264_vectors.specs.declared.part.Direction.{Direction}
 use Rattle.h264_vectors.specs.declared.part.Direction.TheVariants as direction
+use Rattle.h264_vectors.specs.declared.part.Part.{Part}
+
+-- a part of a macroblock: where it begins, and its size, all in 4x4 blocks
+abbrev pub part : ℕ → ℕ → ℕ → ℕ → Direction → Part
+part x y wide high d = record { x = x; y = y; wide = wide; high = high; direction = d }
+
+-- all of a macroblock of 16x16
+abbrev pub whole : Direction → Part
+whole d = part 0 0 4 4 d
 
 abbrev pub zero_vector : Vector
 zero_vector = record { x = pos 0; y = pos 0 }
@@ -56,11 +65,11 @@ preferred direction.FromC a b c = c
 unfoldable pub by_direction : Direction → ℕ → Neighbour → Neighbour → Neighbour → Vector
 by_direction d r a b c = if refers r (preferred d a b c) then vector_of (preferred d a b c) else by_median r a b c
 
--- mvpLX of a part that begins at column x and row y, both counted from 0, and is so many blocks wide
-unfoldable pub predicted_vector : ℕ → List CodedMacroblock → ℕ → List (Option Motion) → Direction → ℕ → ℕ → ℕ → ℕ → Vector
-predicted_vector width picture slice motions d r x y wide =
+-- mvpLX of a part of this refIdxL0, after these motions of its macroblock
+unfoldable pub predicted_vector : ℕ → List CodedMacroblock → ℕ → List (Option Motion) → Part → ℕ → Vector
+predicted_vector width picture slice motions p r =
     let at = neighbour width picture slice motions in
-    by_direction d r (at x (y + 1)) (at (x + 1) y) (instead (at (x + wide + 1) y) (at x y))
+    by_direction p.direction r (at p.x (p.y + 1)) (at (p.x + 1) p.y) (instead (at (p.x + p.wide + 1) p.y) (at p.x p.y))
 
 -- whether a neighbour lets a skipped macroblock stand still: it is not there, or has reference 0 and vector 0
 abbrev pub keeps_still : Neighbour → Bool
@@ -76,4 +85,4 @@ none_derived = replicate 16 None
 unfoldable pub skip_vector : ℕ → List CodedMacroblock → ℕ → Vector
 skip_vector width picture slice =
     let at = neighbour width picture slice none_derived in
-    if keeps_still (at 0 1) || keeps_still (at 1 0) then zero_vector else predicted_vector width picture slice none_derived direction.Median 0 0 0 4
+    if keeps_still (at 0 1) || keeps_still (at 1 0) then zero_vector else predicted_vector width picture slice none_derived (whole direction.Median) 0

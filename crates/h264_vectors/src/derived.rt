@@ -151,7 +151,7 @@ pub fn derive(
     requires usable { Usable around.slice.now }
     ensures agrees { (width : ℕ) (picture : List CodedMacroblock) (places : List Bool) (d : Derived) → Keeps width picture around.entry.near.now →
         Agrees fits motions.old places d → Agrees result motions.new (places_with places part.place)
-        (derived.derive width around.entry.slice.now picture d part.place part.ref_idx mvd.across mvd.down) }
+        (derived.derive width around.entry.slice.now picture d part mvd) }
     ensures alike { StayAlike (part.place ∷ []) motions.old motions.new }
 {
     if !fits {

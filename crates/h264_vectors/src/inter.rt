@@ -2,11 +2,12 @@
 #![tactic(auto)]
 
 ghost use Rattle.std.specs.Prelude.{◌≡◌, ℕ, ◌+◌, ◌-◌, ◌<◌, ◌≤◌, ◌^◌, ◌||◌, not, Bool, true, false, List, [], ◌∷◌, None, replicate, slice_index, OnOk, IfOk};
-ghost use Rattle.h264_base.specs.Call.{HasRoom, IsQuiet};
+ghost use Rattle.h264_base.specs.Call.{HasRoom, IsQuiet, span};
 ghost use Rattle.h264_base.specs.Meets.{Meets, Is};
 ghost use Rattle.h264_near.specs.Coded.{CodedMacroblock};
 ghost use Rattle.h264_near.specs.Keeps.{Keeps};
 ghost use Rattle.h264_vectors.specs.declared.part.Direction.TheVariants as direction;
+ghost use Rattle.h264_vectors.specs.Vectors.{whole};
 ghost use Rattle.h264_vectors.specs.Derived as derived;
 ghost use Rattle.h264_vectors.specs.Derived.{Derived};
 ghost use Rattle.h264_vectors.specs.Agrees.{Agrees, Usable, StayAlike, places_with, places_after};
@@ -32,7 +33,7 @@ fn read_ref_idx<S: Elements>(
 ) -> Result<u32, Stop>
     requires some { 1 < slice.now.active }
     requires room { HasRoom S.failures sink.old }
-    ensures meets { Meets S.took S.failures (Is (λ x. x)) (syntax.read_ref_idx slice.now) bits.old bits.new sink.old sink.new result }
+    ensures meets { Meets (span S.took S.failures sink.old sink.new) (Is (λ x. x)) (syntax.read_ref_idx slice.now) bits.old bits.new result }
     ensures within { IfOk result (λ i. i < slice.now.active) }
     ensures quiet { OnOk result (IsQuiet S.failures sink.old sink.new) }
 {
@@ -57,7 +58,7 @@ fn read_ref_index<S: Elements>(
     requires usable { Usable slice.now }
     requires some { inferred ≡ false → 1 < slice.now.active }
     requires room { HasRoom S.failures sink.old }
-    ensures meets { Meets S.took S.failures (Is (λ x. x)) (syntax.ref_index slice.now inferred) bits.old bits.new sink.old sink.new result }
+    ensures meets { Meets (span S.took S.failures sink.old sink.new) (Is (λ x. x)) (syntax.ref_index slice.now inferred) bits.old bits.new result }
     ensures within { IfOk result (λ i. i < 16) }
     ensures quiet { OnOk result (IsQuiet S.failures sink.old sink.new) }
 {
@@ -83,8 +84,9 @@ fn read_part<S: Elements>(
     requires usable { Usable around.slice.now }
     requires room { HasRoom S.failures sink.old }
     ensures meets { (width : ℕ) (picture : List CodedMacroblock) (places : List Bool) (d : Derived) → Keeps width picture around.entry.near.now →
-        Agrees fits motions.old places d → Meets S.took S.failures (λ w next. Agrees w motions.new (places_with places part.place) next)
-        (syntax.part_motion width around.entry.slice.now picture part.place part.ref_idx d) bits.old bits.new sink.old sink.new result }
+        Agrees fits motions.old places d → Meets (span S.took S.failures sink.old sink.new)
+        (λ w next. Agrees w motions.new (places_with places part.place) next)
+        (syntax.part_motion width around.entry.slice.now picture part.place part.ref_idx d) bits.old bits.new result }
     ensures alike { OnOk result (StayAlike (part.place ∷ []) motions.old motions.new) }
     ensures quiet { OnOk result (IsQuiet S.failures sink.old sink.new) }
 {
@@ -112,10 +114,9 @@ fn read_four<S: Elements>(
     requires usable { Usable around.slice.now }
     requires room { HasRoom S.failures sink.old }
     ensures meets { (width : ℕ) (picture : List CodedMacroblock) (places : List Bool) (d : Derived) → Keeps width picture around.entry.near.now →
-        Agrees fits motions.old places d → Meets S.took S.failures
+        Agrees fits motions.old places d → Meets (span S.took S.failures sink.old sink.new)
         (λ w next. Agrees w motions.new (places_after places (derived.sub_parts_of sub.x sub.y 3)) next)
-        (syntax.part_motions width around.entry.slice.now picture sub.ref_idx (derived.sub_parts_of sub.x sub.y 3) d)
-        bits.old bits.new sink.old sink.new result }
+        (syntax.part_motions width around.entry.slice.now picture sub.ref_idx (derived.sub_parts_of sub.x sub.y 3) d) bits.old bits.new result }
     ensures alike { OnOk result (StayAlike (derived.sub_parts_of sub.x sub.y 3) motions.old motions.new) }
     ensures quiet { OnOk result (IsQuiet S.failures sink.old sink.new) }
 {
@@ -145,10 +146,9 @@ fn read_sub_macroblock<S: Elements>(
     requires usable { Usable around.slice.now }
     requires room { HasRoom S.failures sink.old }
     ensures meets { (width : ℕ) (picture : List CodedMacroblock) (places : List Bool) (d : Derived) → Keeps width picture around.entry.near.now →
-        Agrees fits motions.old places d → Meets S.took S.failures
+        Agrees fits motions.old places d → Meets (span S.took S.failures sink.old sink.new)
         (λ w next. Agrees w motions.new (places_after places (derived.sub_parts_of sub.x sub.y sub.sub_mb_type)) next)
-        (syntax.part_motions width around.entry.slice.now picture sub.ref_idx (derived.sub_parts_of sub.x sub.y sub.sub_mb_type) d)
-        bits.old bits.new sink.old sink.new result }
+        (syntax.part_motions width around.entry.slice.now picture sub.ref_idx (derived.sub_parts_of sub.x sub.y sub.sub_mb_type) d) bits.old bits.new result }
     ensures alike { OnOk result (StayAlike (derived.sub_parts_of sub.x sub.y sub.sub_mb_type) motions.old motions.new) }
     ensures quiet { OnOk result (IsQuiet S.failures sink.old sink.new) }
 {
@@ -191,10 +191,9 @@ fn read_sub_macroblocks<S: Elements>(
     requires usable { Usable around.slice.now }
     requires room { HasRoom S.failures sink.old }
     ensures meets { (width : ℕ) (picture : List CodedMacroblock) → Keeps width picture around.entry.near.now →
-        Meets S.took S.failures (λ w next. Agrees w motions.new (replicate 16 true) next)
+        Meets (span S.took S.failures sink.old sink.new) (λ w next. Agrees w motions.new (replicate 16 true) next)
         (syntax.quarters width around.entry.slice.now picture
-        (slice_index types 0) (slice_index types 1) (slice_index types 2) (slice_index types 3)
-        (slice_index indices 0) (slice_index indices 1) (slice_index indices 2) (slice_index indices 3)) bits.old bits.new sink.old sink.new result }
+        types indices) bits.old bits.new result }
     ensures alike { OnOk result (MovesByPartition (partitions.P8x8 (sub_partition_of (slice_index types 0) ∷ sub_partition_of (slice_index types 1) ∷
         sub_partition_of (slice_index types 2) ∷ sub_partition_of (slice_index types 3) ∷ [])) motions.new) }
     ensures quiet { OnOk result (IsQuiet S.failures sink.old sink.new) }
@@ -235,8 +234,8 @@ fn read_split<S: Elements>(
     requires usable { Usable around.slice.now }
     requires room { HasRoom S.failures sink.old }
     ensures meets { (width : ℕ) (picture : List CodedMacroblock) → Keeps width picture around.entry.near.now →
-        Meets S.took S.failures (λ w next. Agrees w motions.new (replicate 16 true) next)
-        (syntax.split_parts width around.entry.slice.now picture inferred) bits.old bits.new sink.old sink.new result }
+        Meets (span S.took S.failures sink.old sink.new) (λ w next. Agrees w motions.new (replicate 16 true) next)
+        (syntax.split_parts width around.entry.slice.now picture inferred) bits.old bits.new result }
     ensures partition { OnOk result (IsOfType 3 partition.new) }
     ensures alike { OnOk result (MovesByPartition partition.new motions.new) }
     ensures quiet { OnOk result (IsQuiet S.failures sink.old sink.new) }
@@ -278,8 +277,8 @@ fn read_one_part<S: Elements>(
     requires usable { Usable around.slice.now }
     requires room { HasRoom S.failures sink.old }
     ensures meets { (width : ℕ) (picture : List CodedMacroblock) → Keeps width picture around.entry.near.now →
-        Meets S.took S.failures (λ w next. Agrees w motions.new (replicate 16 true) next)
-        (syntax.one_part width around.entry.slice.now picture inferred (derived.part 0 0 4 4 direction.Median)) bits.old bits.new sink.old sink.new result }
+        Meets (span S.took S.failures sink.old sink.new) (λ w next. Agrees w motions.new (replicate 16 true) next)
+        (syntax.one_part width around.entry.slice.now picture inferred (whole direction.Median)) bits.old bits.new result }
     ensures alike { OnOk result (MovesByPartition partitions.P16x16 motions.new) }
     ensures quiet { OnOk result (IsQuiet S.failures sink.old sink.new) }
 {
@@ -311,8 +310,9 @@ fn read_two_parts<S: Elements>(
     requires usable { Usable around.slice.now }
     requires room { HasRoom S.failures sink.old }
     ensures meets { (width : ℕ) (picture : List CodedMacroblock) → Keeps width picture around.entry.near.now →
-        Meets S.took S.failures (λ w next. Agrees w motions.new (places_after (replicate 16 false) (halves.first ∷ halves.second ∷ [])) next)
-        (syntax.two_parts width around.entry.slice.now picture inferred halves.first halves.second) bits.old bits.new sink.old sink.new result }
+        Meets (span S.took S.failures sink.old sink.new) (λ w next. Agrees w motions.new
+        (places_after (replicate 16 false) (halves.first ∷ halves.second ∷ [])) next)
+        (syntax.two_parts width around.entry.slice.now picture inferred halves.first halves.second) bits.old bits.new result }
     ensures alike { OnOk result (StayAlike (halves.first ∷ halves.second ∷ []) motions.old motions.new) }
     ensures quiet { OnOk result (IsQuiet S.failures sink.old sink.new) }
 {
@@ -343,9 +343,8 @@ fn read_motions_by<S: Elements>(
     requires usable { Usable around.slice.now }
     requires room { HasRoom S.failures sink.old }
     ensures meets { (width : ℕ) (picture : List CodedMacroblock) → Keeps width picture around.entry.near.now →
-        Meets S.took S.failures (λ w next. Agrees w motions.new (replicate 16 true) next)
-        (syntax.motions_by width around.entry.slice.now picture (syntax.is_inferred around.entry.slice.now kind) kind)
-        bits.old bits.new sink.old sink.new result }
+        Meets (span S.took S.failures sink.old sink.new) (λ w next. Agrees w motions.new (replicate 16 true) next)
+        (syntax.motions_by width around.entry.slice.now picture (syntax.is_inferred around.entry.slice.now kind) kind) bits.old bits.new result }
     ensures partition { OnOk result (IsOfType kind partition.new) }
     ensures alike { OnOk result (MovesByPartition partition.new motions.new) }
     ensures quiet { OnOk result (IsQuiet S.failures sink.old sink.new) }
@@ -409,8 +408,8 @@ pub fn read_motions<S: Elements>(
     requires usable { Usable around.slice.now }
     requires room { HasRoom S.failures sink.old }
     ensures meets { (width : ℕ) (picture : List CodedMacroblock) → Keeps width picture around.entry.near.now →
-        Meets S.took S.failures (λ w next. Agrees w motions.new (replicate 16 true) next)
-        (syntax.motions width around.entry.slice.now picture mb_type.bit mb_type.value) bits.old bits.new sink.old sink.new result }
+        Meets (span S.took S.failures sink.old sink.new) (λ w next. Agrees w motions.new (replicate 16 true) next)
+        (syntax.motions width around.entry.slice.now picture mb_type.bit mb_type.value) bits.old bits.new result }
     ensures partition { OnOk result (IsOfType mb_type.value partition.new) }
     ensures alike { OnOk result (MovesByPartition partition.new motions.new) }
     ensures quiet { OnOk result (IsQuiet S.failures sink.old sink.new) }

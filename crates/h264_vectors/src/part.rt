@@ -3,7 +3,7 @@
 
 ghost use Rattle.std.specs.Prelude.{◌≡◌};
 ghost use Rattle.h264_vectors.specs.declared.part.Direction.TheVariants as direction;
-ghost use Rattle.h264_vectors.specs.Derived.{part};
+ghost use Rattle.h264_vectors.specs.Vectors.{part};
 
 /// Which neighbour the vector of a part is predicted from, where that has the part's reference (8.4.1.3).
 #[derive(Clone, Copy)]

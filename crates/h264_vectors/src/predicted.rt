@@ -147,7 +147,7 @@ fn vector_of_whole(
     ref_idx: u8,
 ) -> Vector
     ensures { (width : ℕ) (picture : List CodedMacroblock) → Keeps width picture near.now →
-        result ≡ syntax.predicted_vector width picture slice motions.now direction ref_idx 0 0 4 }
+        result ≡ syntax.predicted_vector width picture slice motions.now (syntax.whole direction) ref_idx }
 {
     let a = near.neighbour(slice, motions, 0, 1);
     let b = near.neighbour(slice, motions, 1, 0);
@@ -168,7 +168,7 @@ pub fn predicted_vector(
     requires columns { part.x + part.wide ≤ 4 }
     requires rows { part.y < 4 }
     ensures { (width : ℕ) (picture : List CodedMacroblock) → Keeps width picture near.now →
-        result ≡ syntax.predicted_vector width picture slice motions.now part.direction ref_idx part.x part.y part.wide }
+        result ≡ syntax.predicted_vector width picture slice motions.now part ref_idx }
 {
     let Part {
         x,

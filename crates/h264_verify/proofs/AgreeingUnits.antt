@@ -2,7 +2,7 @@
 use Rattle.std.proofs.Common.{◌≡◌, ℕ, ◌≤◌, List, [], ◌∷◌, ◌++◌, map, length, Result, Ok, Err, refl, ap, sym, ◌∙◌, subst, arith}
 use Rattle.h264_base.specs.declared.stop.Stop.{Stop}
 use Rattle.h264_base.specs.declared.stop.Stop.TheVariants.{No, Outside, Memory, Read, Write}
-use Rattle.h264_base.specs.Call.{Call}
+use Rattle.h264_base.specs.Call.{Call, span}
 use Rattle.h264_plane.specs.declared.frame.Frame.{Frame}
 use Rattle.h264_dpb.specs.Shown.{frame_call}
 use Rattle.h264_dpb.specs.Kept.{shown_call}
@@ -127,10 +127,10 @@ module _ {S : Type 0} (took : S → List Call → Type 0) (n : ℕ) (frames othe
     tells = tells-agree s s' t.front agree (of-front n t.front t.rest (subst (AreOf n) t.whole of)) t.tells;
   }
 
-  pub plays-agree : {X A : Type 0} (failures : S → ℕ) (view : X → A) (o : Outcome A) (s s' : S) (r : Result X Stop) → Agree n frames others → AreOf n o.calls → Plays (took_with frames took) failures view o s s' r → Plays (took_with others took) failures view o s s' r
+  pub plays-agree : {X A : Type 0} (failures : S → ℕ) (view : X → A) (o : Outcome A) (s s' : S) (r : Result X Stop) → Agree n frames others → AreOf n o.calls → Plays (span (took_with frames took) failures s s') view o r → Plays (span (took_with others took) failures s s') view o r
   plays-agree {X} {A} failures view o s s' r agree of p = record { plays = by r p.plays }
     where
-      by : (r : Result X Stop) → PlaysBy (took_with frames took) failures view o s s' r → PlaysBy (took_with others took) failures view o s s' r
+      by : (r : Result X Stop) → PlaysBy (span (took_with frames took) failures s s') view o r → PlaysBy (span (took_with others took) failures s s') view o r
       by (Ok x) p = (p.0, tells-agree s s' o.calls agree of p.1, p.2)
       by (Err (No bit rule)) p = (p.0, tells-agree s s' o.calls agree of p.1, p.2)
       by (Err (Outside bit feature)) p = (p.0, tells-agree s s' o.calls agree of p.1, p.2)

@@ -1,6 +1,7 @@
 -- The course of a unit, and the same step by step.
 use Rattle.std.proofs.Common.{◌≡◌, ℕ, ◌*◌, Bool, true, false, List, [], ◌∷◌, ◌++◌, map, length, Result, Ok, Err, refl, ap, sym, ◌∙◌, subst, append_assoc, ◌==◌, ◌≤◌, arith, if◌then◌else◌}
 use Rattle.std.proofs.lemmas.List.{append-nil}
+use Rattle.h264_base.specs.Call.{span}
 use Rattle.h264_base.specs.declared.mode.Mode.{Mode}
 use Rattle.h264_base.specs.declared.mode.Mode.TheVariants as modes
 use Rattle.h264_base.specs.declared.stop.Stop.{Stop}
@@ -177,8 +178,8 @@ by-steps terms before unit =
     ∙ ap (λ (q : Outcome History). steps_outcome (needs hs) >>= λ _. q) (bind-assoc (tells call) (λ _. steps_outcome cs >>= λ _. o) join ∙ ap (λ (q : Outcome History). tells call >>= λ _. q) (bind-assoc (steps_outcome cs) (λ _. o) join ∙ ap (λ (q : Outcome History). steps_outcome cs >>= λ _. q) (content-joined before unit terms)))
     ∙ ap (λ (q : Outcome (Unit {0})). q >>= λ _. tells call >>= λ _. steps_outcome cs >>= λ _. joined_by terms (nal_unit_type (header_of unit)) before unit) (needs-judged hs))
 
-pub plays-course : {S X : Type 0} (took : S → List Told → Type 0) (failures : S → ℕ) (view : X → History) (terms : Terms) (before : History) (unit : NalUnit) (s s' : S) (r : Result X Stop) → Plays took failures view (unit_by_steps terms before unit) s s' r → Plays took failures view (unit_outcome terms before unit) s s' r
-plays-course took failures view terms before unit s s' r p = subst (λ o. Plays took failures view o s s' r) (sym (by-steps terms before unit)) p
+pub plays-course : {S X : Type 0} (took : S → List Told → Type 0) (failures : S → ℕ) (view : X → History) (terms : Terms) (before : History) (unit : NalUnit) (s s' : S) (r : Result X Stop) → Plays (span took failures s s') view (unit_by_steps terms before unit) r → Plays (span took failures s s') view (unit_outcome terms before unit) r
+plays-course took failures view terms before unit s s' r p = subst (λ o. Plays (span took failures s s') view o r) (sym (by-steps terms before unit)) p
 
 -- no fewer pictures have ended once the newest has
 pub ended-grows : (on ends : Bool) (pictures : List CodedPicture) → length (ended_pictures on false pictures) ≤ length (ended_pictures on ends pictures)
@@ -234,22 +235,22 @@ module _ {S : Type 0} (took : S → List Told → Type 0) (failures : S → ℕ)
   end-is = ap steps_outcome (sym (three (whole_steps mode before) (needs (closing_demands before)) (closing_frames mode before) after_last)) ∙ steps-append (close_steps mode true before) after_last
 
   -- it stops while the last picture ends
-  pub end-stops : (s s' : S) (e : Stop) → Plays {X = Unit {0}} took failures (λ u. u) (steps_outcome (close_steps mode true before)) s s' (Err e) → Plays {X = Summary} took failures (λ u. u) (end_outcome mode before bit) s s' (Err e)
+  pub end-stops : (s s' : S) (e : Stop) → Plays {X = Unit {0}} (span took failures s s') (λ u. u) (steps_outcome (close_steps mode true before)) (Err e) → Plays {X = Summary} (span took failures s s') (λ u. u) (end_outcome mode before bit) (Err e)
   unfolding end_outcome
   end-stops s s' e p = plays-stops {X = Unit {0}} took failures (λ u. u) (λ u. u) (steps_outcome (end_steps mode before bit)) _ s s' e (plays-as took failures (λ u. u) _ _ s s' (Err e) end-is (plays-stops took failures (λ u. u) (λ u. u) (steps_outcome (close_steps mode true before)) _ s s' e p))
 
-  module _ (s s1 s2 : S) (z : Unit {0}) (ended : Plays took failures (λ (u : Unit {0}). u) (steps_outcome (close_steps mode true before)) s s1 (Ok z)) where
-    end-steps : (r : Result (Unit {0}) Stop) → Plays took failures (λ u. u) (steps_outcome after_last) s1 s2 r → Plays took failures (λ u. u) (steps_outcome (end_steps mode before bit)) s s2 r
+  module _ (s s1 s2 : S) (z : Unit {0}) (ended : Plays (span took failures s s1) (λ (u : Unit {0}). u) (steps_outcome (close_steps mode true before)) (Ok z)) where
+    end-steps : (r : Result (Unit {0}) Stop) → Plays (span took failures s1 s2) (λ u. u) (steps_outcome after_last) r → Plays (span took failures s s2) (λ u. u) (steps_outcome (end_steps mode before bit)) r
     end-steps r p = plays-as took failures (λ u. u) _ _ s s2 r end-is (plays-on took failures (λ u. u) (λ u. u) (steps_outcome (close_steps mode true before)) (λ _. steps_outcome after_last) s s1 s2 z r ended p)
 
     -- it stops after that
-    pub end-broken : (e : Stop) → Plays {X = Unit {0}} took failures (λ u. u) (steps_outcome after_last) s1 s2 (Err e) → Plays {X = Summary} took failures (λ u. u) (end_outcome mode before bit) s s2 (Err e)
+    pub end-broken : (e : Stop) → Plays {X = Unit {0}} (span took failures s1 s2) (λ u. u) (steps_outcome after_last) (Err e) → Plays {X = Summary} (span took failures s s2) (λ u. u) (end_outcome mode before bit) (Err e)
     unfolding end_outcome
     end-broken e p = plays-stops {X = Unit {0}} took failures (λ u. u) (λ u. u) (steps_outcome (end_steps mode before bit)) _ s s2 e (end-steps (Err e) p)
 
     -- all rules are met
-    pub end-gives : (v : Unit {0}) (summary : Summary) → Plays took failures (λ (u : Unit {0}). u) (steps_outcome after_last) s1 s2 (Ok v) → summary ≡ summary_of mode before → Plays took failures (λ u. u) (end_outcome mode before bit) s s2 (Ok summary)
+    pub end-gives : (v : Unit {0}) (summary : Summary) → Plays (span took failures s1 s2) (λ (u : Unit {0}). u) (steps_outcome after_last) (Ok v) → summary ≡ summary_of mode before → Plays (span took failures s s2) (λ u. u) (end_outcome mode before bit) (Ok summary)
     unfolding end_outcome
     end-gives v summary p e =
-        subst (λ (w : Summary). Plays took failures (λ u. u) (end_outcome mode before bit) s s2 (Ok w)) (sym e)
+        subst (λ (w : Summary). Plays (span took failures s s2) (λ u. u) (end_outcome mode before bit) (Ok w)) (sym e)
         (plays-on took failures (λ (u : Unit {0}). u) (λ u. u) (steps_outcome (end_steps mode before bit)) (λ _. gives (summary_of mode before)) s s2 s2 v (Ok (summary_of mode before)) (end-steps (Ok v) p) (gives-plays took failures (λ u. u) (summary_of mode before) s2))

@@ -12,7 +12,7 @@ use Rattle.h264_verify.specs.History.{History}
 use Rattle.h264_verify.proofs.Stepping.{outcome}
 use Rattle.h264_verify.specs.Judging.{judging}
 use Rattle.h264_verify.specs.Session.{Leads}
-use Rattle.h264_verify.specs.Verdict.{in_order, AreLegal, Holds, IsStopAfter, AtNext, AtTail, AtEnd, StopsAt}
+use Rattle.h264_verify.specs.Verdict.{in_order, AreLegal, Holds, IsStopAfter, AtNext, AtTail, AtEnd, StopsAt, remainder}
 use Rattle.h264_verify.proofs.Verdicts.{legal-unit, stop-unit, stopped-not, ok-same, in-order}
 
 module _ (terms : Terms) where
@@ -52,7 +52,7 @@ module _ (terms : Terms) where
       one-way [] (in_order m []) (in_order n []) ys zs (told ++ []) (others ++ []) m n (legal-leads m m told [] [] a (refl, refl)) (legal-leads n n others [] [] b (refl, refl)) (sym (in-order m ys) ∙ e ∙ in-order n zs) h k
 
   -- those before a stop
-  halts : (before : History) (units : List NalUnit) (tail : Tail) (end : ℕ) (stop : Stop) (calls : List Told) → IsStopAfter terms before units tail end stop calls → Halts before units
+  halts : (before : History) (units : List NalUnit) (tail : Tail) (end : ℕ) (stop : Stop) (calls : List Told) → IsStopAfter terms before (remainder units tail end) stop calls → Halts before units
   halts before units tail end stop calls (AtNext unit later e s) = subst (Halts before) (sym e) (λ after others o. stopped-not calls others stop after (sym (stop-unit terms before unit stop calls s) ∙ o))
   halts before units tail end stop calls (AtTail e t n) = subst (Halts before) (sym e) tt
   halts before units tail end stop calls (AtEnd e t s) = subst (Halts before) (sym e) tt

@@ -36,7 +36,7 @@ use Rattle.h264_verify.specs.Sound.{AreSound, has_ended}
 use Rattle.h264_verify.specs.Units.{picture_demand}
 use Rattle.h264_verify.specs.Order.{frames_at, unit_course, end_steps}
 use Rattle.h264_verify.specs.Within.{EndsWithin}
-use Rattle.h264_verify.specs.Verdict.{AreLegal, IsStopAfter, AtNext, AtTail, AtEnd, Verdict}
+use Rattle.h264_verify.specs.Verdict.{AreLegal, IsStopAfter, AtNext, AtTail, AtEnd, Verdict, remainder}
 use Rattle.h264_verify.proofs.Legal.{Met, end_steps_at}
 use Rattle.h264_verify.proofs.Leaving.{stands}
 use Rattle.h264_verify.proofs.Levels.{EachRoom, legal-room}
@@ -209,7 +209,7 @@ module _ (target : Target) (before : History) (first : List Told) (l : AreLegal 
       ends-both (whole_steps modes.Full before) (needs (closing_demands before) ++ (closing_frames modes.Full before ++ shown)) whole-steps-end
       (ends-after (needs (closing_demands before)) (closing_frames modes.Full before ++ shown) (needs-end (closing_demands before)) (λ m. ends-both (closing_frames modes.Full before) shown (closing-end m) (λ t. frames-end (last_turn (after_all (runs_of before)).buffer).written)))
 
-  after-all : (units : List NalUnit) (tail : Tail) (end : ℕ) (stop : Stop) (calls : List Told) → IsStopAfter (terms_of modes.Full target) before units tail end stop calls → EndAll calls
+  after-all : (units : List NalUnit) (tail : Tail) (end : ℕ) (stop : Stop) (calls : List Told) → IsStopAfter (terms_of modes.Full target) before (remainder units tail end) stop calls → EndAll calls
   after-all units tail end stop calls (AtNext unit later e h) = stop-keeps EndAll all-closed target before unit (unit-all unit) stop calls h
   after-all units tail end stop calls (AtTail e h n) = none-all calls n
   after-all units tail end stop calls (AtEnd e t h) = stop-all (end_steps modes.Full before (8 * end)) (input-end (8 * end)) calls stop h

@@ -5,16 +5,16 @@ use Rattle.std.proofs.lemmas.List.{nil_from_length}
 use Rattle.h264_verify.specs.declared.state.Terms.{Terms}
 use Rattle.h264_base.specs.declared.stop.Stop.{Stop}
 use Rattle.h264_base.specs.declared.stop.Stop.TheVariants.{No, Outside, Memory, Read, Write}
-use Rattle.h264_base.specs.Call.{Call}
+use Rattle.h264_base.specs.Call.{Call, span}
 use Rattle.h264_plane.specs.declared.frame.Frame.{Frame}
 use Rattle.h264_units.specs.Stream.{NalUnit, Next}
 use Rattle.h264_units.specs.Splitting.{Splitting, Pushed, Taken, Finished}
 use Rattle.h264_verify.specs.declared.state.State.{State}
 use Rattle.h264_verify.specs.declared.state.Summary.{Summary}
 use Rattle.h264_verify.specs.Outcome.{Plays}
-use Rattle.h264_verify.specs.Telling.{Told, took_with, Agree, AreOf}
+use Rattle.h264_verify.specs.Telling.{Told, took_with, Agree, AreOf, frame_span}
 use Rattle.h264_verify.specs.Judging.{Judging, judging}
-use Rattle.h264_verify.specs.Session.{Standing, Goes, Fed, StopsBy}
+use Rattle.h264_verify.specs.Session.{Standing, Goes, Fed, StopsBy, stretch, standing}
 use Rattle.h264_verify.specs.History.{History}
 use Rattle.h264_verify.specs.KeepingUnits.{Keeps, KeepsSome}
 use Rattle.h264_verify.specs.Keeping.{ended_in}
@@ -52,15 +52,15 @@ told-agree n frames others told a h = record {
   decoded = decoded-told-agree n frames others told a h;
 }
 
-unfoldable pub goes-agree : {State Summary S : Type 0} {j : Judging State Summary} (took : S → List Call → Type 0) (n : ℕ) (f g : ℕ → Frame) {old new : Standing State} {piece left : List ℕ} {s s' : S} → Agree n f g → (x : Goes j (took_with f took) old new piece left s s') → AreOf n x.calls → Goes j (took_with g took) old new piece left s s'
+unfoldable pub goes-agree : {State Summary S : Type 0} {j : Judging State Summary} (took : S → List Call → Type 0) {failures : S → ℕ} (n : ℕ) (f g : ℕ → Frame) {old new : Standing State} {piece left : List ℕ} {s s' : S} → Agree n f g → (x : Goes j (span (took_with f took) failures s s') (stretch old new piece left)) → AreOf n x.calls → Goes j (span (took_with g took) failures s s') (stretch old new piece left)
 goes-agree took n f g {s} {s'} a x o = record { calls = x.calls; tells = tells-agree took n f g s s' x.calls a o x.tells; way = x.way; after = x.after }
 
-unfoldable pub fed-agree : {State Summary S : Type 0} {j : Judging State Summary} (took : S → List Call → Type 0) (n : ℕ) (f g : ℕ → Frame) {known : Option (List ℕ)} {bytes : List ℕ} {old new : Standing State} {s s' : S} → Agree n f g → (x : Fed j (took_with f took) known bytes old new s s') → AreOf n x.goes.calls → Fed j (took_with g took) known bytes old new s s'
+unfoldable pub fed-agree : {State Summary S : Type 0} {j : Judging State Summary} (took : S → List Call → Type 0) {failures : S → ℕ} (n : ℕ) (f g : ℕ → Frame) {known : Option (List ℕ)} {bytes : List ℕ} {old new : Standing State} {s s' : S} → Agree n f g → (x : Fed j (span (took_with f took) failures s s') known bytes old new) → AreOf n x.goes.calls → Fed j (span (took_with g took) failures s s') known bytes old new
 fed-agree took n f g a x o = record { fed = x.fed; left = x.left; known_is = x.known_is; whole = x.whole; goes = goes-agree took n f g a x.goes o }
 
-module _ {S : Type 0} {terms : Terms} {took : S → List Call → Type 0} {frames : ℕ → Frame} {old : Standing History} where
+module _ {S : Type 0} {terms : Terms} {took : S → List Call → Type 0} {failures : S → ℕ} {frames : ℕ → Frame} {old : Standing History} where
   -- two steps
-  pub on-both : {mid split : Splitting} {first state : State} {piece left last : List ℕ} {s0 s1 s2 : S} (a : GoesOn terms took frames old mid first piece left s0 s1) → GoesOn terms took a.made (standing_after mid a.after) split state left last s1 s2 → GoesOn terms took frames old split state piece last s0 s2
+  pub on-both : {mid split : Splitting} {first state : State} {piece left last : List ℕ} {s0 s1 s2 : S} (a : GoesOn terms (frame_span took failures frames s0 s1) (stretch old (standing mid first) piece left)) → GoesOn terms (frame_span took failures a.made s1 s2) (stretch (standing_after mid a.after) (standing split state) left last) → GoesOn terms (frame_span took failures frames s0 s2) (stretch old (standing split state) piece last)
   unfolding goes-both goes-agree
   on-both a b =
       let l : ended_in a.after ≤ ended_in b.after = b.grows in
@@ -75,18 +75,18 @@ module _ {S : Type 0} {terms : Terms} {took : S → List Call → Type 0} {frame
       }
 
   -- a step, and then a stop
-  pub on-stops : {mid : Splitting} {first : State} {failures : S → ℕ} {piece left : List ℕ} {s0 s1 s2 : S} {stop : Stop} (a : GoesOn terms took frames old mid first piece left s0 s1) → failures s1 ≡ failures s0 → StopsOn terms took failures a.made (standing_after mid a.after) left s1 s2 stop → StopsOn terms took failures frames old piece s0 s2 stop
-  on-stops {mid} {failures} {piece} {left} {s0} {s1} {s2} {stop} a k b = record {
+  pub on-stops : {mid : Splitting} {first : State} {piece left : List ℕ} {s0 s1 s2 : S} {stop : Stop} (a : GoesOn terms (frame_span took failures frames s0 s1) (stretch old (standing mid first) piece left)) → failures s1 ≡ failures s0 → StopsOn terms (frame_span took failures a.made s1 s2) (standing_after mid a.after) left stop → StopsOn terms (frame_span took failures frames s0 s2) old piece stop
+  on-stops {mid} {piece} {left} {s0} {s1} {s2} {stop} a k b = record {
     made = b.made;
     same = agree-both (ended_in old.state) (ended_in a.after) frames a.made b.made a.same a.grows b.same;
     stops = stops-after (judging terms) (took_with b.made took) failures old (standing_after mid a.after) piece left s0 s1 s2 stop (goes-agree took (ended_in a.after) a.made b.made b.same a.goes a.of) k b.stops;
   }
 
 -- where the sink failed, that is the stop
-pub stops-told : {S : Type 0} {terms : Terms} {took : S → List Call → Type 0} {failures : S → ℕ} {frames : ℕ → Frame} {old : Standing History} {piece : List ℕ} {s s' : S} {stop : Stop} → StopsOn terms took failures frames old piece s s' stop → (failures s' ≡ failures s) ⊎ (stop ≡ Write)
+pub stops-told : {S : Type 0} {terms : Terms} {took : S → List Call → Type 0} {failures : S → ℕ} {frames : ℕ → Frame} {old : Standing History} {piece : List ℕ} {s s' : S} {stop : Stop} → StopsOn terms (frame_span took failures frames s s') old piece stop → (failures s' ≡ failures s) ⊎ (stop ≡ Write)
 stops-told {terms = terms} {took = took} {failures = failures} {old = old} {piece = piece} {s = s} {s' = s'} {stop = stop} q = by stop q.stops.stops
   where
-    by : (e : Stop) → StopsBy (judging terms) (took_with q.made took) failures old piece s s' e → (failures s' ≡ failures s) ⊎ (e ≡ Write)
+    by : (e : Stop) → StopsBy (judging terms) (span (took_with q.made took) failures s s') old piece e → (failures s' ≡ failures s) ⊎ (e ≡ Write)
     by (No bit rule) p = inl p.1
     by (Outside bit feature) p = inl p.1
     by Memory p = inl p.1
@@ -99,31 +99,31 @@ told-err stop (inl e) = inl e
 told-err stop (inr e) = inr (ap Err e)
 
 -- two pieces, one after another, are as one
-pub on-then : {S : Type 0} {terms : Terms} {took : S → List Call → Type 0} {frames : ℕ → Frame} {old : Standing History} {mid split : Splitting} {first state : State} {a b : List ℕ} {s0 s1 s2 : S} (f : GoesOn terms took frames old mid first a [] s0 s1) → GoesOn terms took f.made (standing_after mid f.after) split state b [] s1 s2 → GoesOn terms took frames old split state (a ++ b) [] s0 s2
+pub on-then : {S : Type 0} {terms : Terms} {took : S → List Call → Type 0} {failures : S → ℕ} {frames : ℕ → Frame} {old : Standing History} {mid split : Splitting} {first state : State} {a b : List ℕ} {s0 s1 s2 : S} (f : GoesOn terms (frame_span took failures frames s0 s1) (stretch old (standing mid first) a [])) → GoesOn terms (frame_span took failures f.made s1 s2) (stretch (standing_after mid f.after) (standing split state) b []) → GoesOn terms (frame_span took failures frames s0 s2) (stretch old (standing split state) (a ++ b) [])
 unfolding goes-more
-on-then {terms} {took} {frames} {old} {mid} {first} {a} {b} {s0} {s1} f g =
-    let more : GoesOn terms took frames old mid first (a ++ b) b s0 s1 = record { made = f.made; same = f.same; after = f.after; grows = f.grows; keeps = f.keeps; goes = goes-more b f.goes; of = f.of } in
+on-then {terms} {took} {failures} {frames} {old} {mid} {first} {a} {b} {s0} {s1} f g =
+    let more : GoesOn terms (frame_span took failures frames s0 s1) (stretch old (standing mid first) (a ++ b) b) = record { made = f.made; same = f.same; after = f.after; grows = f.grows; keeps = f.keeps; goes = goes-more b f.goes; of = f.of } in
     on-both more g
 
 -- no step yet
-pub on-none : {S : Type 0} (terms : Terms) (took : S → List Call → Type 0) (frames : ℕ → Frame) (split : Splitting) (before : History) (state : State) (piece : List ℕ) (s : S) → Keeps terms.mode frames before state → GoesOn terms took frames (standing_after split before) split state piece piece s s
+pub on-none : {S : Type 0} (terms : Terms) (took : S → List Call → Type 0) {failures : S → ℕ} (frames : ℕ → Frame) (split : Splitting) (before : History) (state : State) (piece : List ℕ) (s : S) → Keeps terms.mode frames before state → GoesOn terms (frame_span took failures frames s s) (stretch (standing_after split before) (standing split state) piece piece)
 unfolding goes-none
 on-none terms took frames split before state piece s k = record { made = frames; same = agree-none (ended_in before) frames; after = before; grows = not-less (ended_in before); keeps = k; goes = goes-none (judging terms) (took_with frames took) (standing_after split before) piece s; of = tt }
 
 -- nothing of the piece is left
-pub on-end : {S : Type 0} {terms : Terms} {took : S → List Call → Type 0} {frames : ℕ → Frame} {old : Standing History} {split : Splitting} {state : State} {piece rest : List ℕ} {s s' : S} → rest ≡ [] → GoesOn terms took frames old split state piece rest s s' → GoesOn terms took frames old split state piece [] s s'
-on-end {terms} {took} {frames} {old} {split} {state} {piece} {s} {s'} e g = subst (λ left. GoesOn terms took frames old split state piece left s s') e g
+pub on-end : {S : Type 0} {terms : Terms} {took : S → List Call → Type 0} {failures : S → ℕ} {frames : ℕ → Frame} {old : Standing History} {split : Splitting} {state : State} {piece rest : List ℕ} {s s' : S} → rest ≡ [] → GoesOn terms (frame_span took failures frames s s') (stretch old (standing split state) piece rest) → GoesOn terms (frame_span took failures frames s s') (stretch old (standing split state) piece [])
+on-end {terms} {took} {failures} {frames} {old} {split} {state} {piece} {s} {s'} e g = subst (λ left. GoesOn terms (frame_span took failures frames s s') (stretch old (standing split state) piece left)) e g
 
 pub none-left : (rest : List ℕ) → (length rest == 0) ≡ true → rest ≡ []
 none-left rest e = nil_from_length rest (eqb-true (length rest) 0 e)
 
 -- no unit has come yet
-pub on-push : {S : Type 0} (terms : Terms) (took : S → List Call → Type 0) (frames : ℕ → Frame) (before : History) (state : State) (s : S) {old mid new : Splitting} {piece : List ℕ} {n : ℕ} → Pushed old mid piece n → new ≡ mid → Keeps terms.mode frames before state → GoesOn terms took frames (standing_after old before) new state piece (drop n piece) s s
+pub on-push : {S : Type 0} (terms : Terms) (took : S → List Call → Type 0) {failures : S → ℕ} (frames : ℕ → Frame) (before : History) (state : State) (s : S) {old mid new : Splitting} {piece : List ℕ} {n : ℕ} → Pushed old mid piece n → new ≡ mid → Keeps terms.mode frames before state → GoesOn terms (frame_span took failures frames s s) (stretch (standing_after old before) (standing new state) piece (drop n piece))
 unfolding goes-none-taken goes-push
 on-push terms took frames before state s {old} {mid} {new} {piece} {n} p e k = record { made = frames; same = agree-none (ended_in before) frames; after = before; grows = not-less (ended_in before); keeps = k; goes = goes-none-taken (judging terms) (took_with frames took) old mid new before piece n s p e; of = tt }
 
 -- a unit
-pub on-unit : {S X : Type 0} {terms : Terms} {took : S → List Call → Type 0} {failures : S → ℕ} {frames : ℕ → Frame} {before : History} {unit : NalUnit} {state : State} {s s' : S} {x : X} {old mid new : Splitting} {piece : List ℕ} {n : ℕ} → Pushed old mid piece n → Taken mid new unit → IsFalse mid.ended → Turns terms took failures frames before unit state s s' (Ok x) → GoesOn terms took frames (standing_after old before) new state piece (drop n piece) s s'
+pub on-unit : {S X : Type 0} {terms : Terms} {took : S → List Call → Type 0} {failures : S → ℕ} {frames : ℕ → Frame} {before : History} {unit : NalUnit} {state : State} {s s' : S} {x : X} {old mid new : Splitting} {piece : List ℕ} {n : ℕ} → Pushed old mid piece n → Taken mid new unit → IsFalse mid.ended → Turns terms (frame_span took failures frames s s') before unit state (Ok x) → GoesOn terms (frame_span took failures frames s s') (stretch (standing_after old before) (standing new state) piece (drop n piece))
 unfolding goes-both goes-push goes-unit
 on-unit {X} {terms} {took} {failures} {frames} {before} {unit} {s} {s'} {x} {old} {mid} {new} {piece} {n} p t live turn =
     let grows = unit-grows terms before turn.after unit turn.plays.plays.0 in
@@ -138,17 +138,17 @@ on-unit {X} {terms} {took} {failures} {frames} {before} {unit} {s} {s'} {x} {old
     }
 
 -- there are units and frames of which it is kept
-pub on-keeps : {S : Type 0} {terms : Terms} {took : S → List Call → Type 0} {frames : ℕ → Frame} {old : Standing History} {split : Splitting} {state : State} {piece left : List ℕ} {s s' : S} → GoesOn terms took frames old split state piece left s s' → KeepsSome terms.mode false state
+pub on-keeps : {S : Type 0} {terms : Terms} {took : S → List Call → Type 0} {failures : S → ℕ} {frames : ℕ → Frame} {old : Standing History} {split : Splitting} {state : State} {piece left : List ℕ} {s s' : S} → GoesOn terms (frame_span took failures frames s s') (stretch old (standing split state) piece left) → KeepsSome terms.mode false state
 on-keeps g = record { frames = g.made; before = g.after; keeps = g.keeps }
 
 -- ---- the end of the input
 
 -- a unit, and then the end
-pub finishes-both : {S X : Type 0} {terms : Terms} {took : S → List Call → Type 0} {failures : S → ℕ} {frames : ℕ → Frame} {before : History} {unit : NalUnit} {state : State} {bit : ℕ} {s s' s'' : S} {x : X} {r : Result Summary Stop} (old mid new : Splitting) (end : ℕ) → Finished old mid → Taken mid new unit → end ≡ new.at + length new.rest → bit ≡ 8 * end → (r ≡ Err Memory → ⊥) → (t : Turns terms took failures frames before unit state s s' (Ok x)) → EndsAll terms.mode took failures t.made t.after bit (λ (y : Summary). y) s' s'' r → FinishesOn terms took failures frames (standing_after old before) s s'' r
+pub finishes-both : {S X : Type 0} {terms : Terms} {took : S → List Call → Type 0} {failures : S → ℕ} {frames : ℕ → Frame} {before : History} {unit : NalUnit} {state : State} {bit : ℕ} {s s' s'' : S} {x : X} {r : Result Summary Stop} (old mid new : Splitting) (end : ℕ) → Finished old mid → Taken mid new unit → end ≡ new.at + length new.rest → bit ≡ 8 * end → (r ≡ Err Memory → ⊥) → (t : Turns terms (frame_span took failures frames s s') before unit state (Ok x)) → EndsAll terms.mode (frame_span took failures t.made s' s'') t.after bit (λ (y : Summary). y) r → FinishesOn terms (frame_span took failures frames s s'') (standing_after old before) r
 finishes-both {X} {terms} {took} {failures} {frames} {before} {unit} {s} {s'} {s''} {x} {r} old mid new end f t n e quiet turn last =
     let grows = unit-grows terms before turn.after unit turn.plays.plays.0 in
-    let first : Plays (took_with last.made took) failures (λ (y : X). turn.after) (unit_outcome terms before unit) s s' (Ok x) = plays-agree took (ended_in turn.after) turn.made last.made failures (λ (y : X). turn.after) (unit_outcome terms before unit) s s' (Ok x) last.same grows.1 turn.plays in
-    let ends : Plays (took_with last.made took) failures (λ (y : Summary). y) (end_outcome terms.mode turn.after (8 * end)) s' s'' r = subst (λ (b : ℕ). Plays (took_with last.made took) failures (λ (y : Summary). y) (end_outcome terms.mode turn.after b) s' s'' r) e last.plays in
+    let first : Plays (span (took_with last.made took) failures s s') (λ (y : X). turn.after) (unit_outcome terms before unit) (Ok x) = plays-agree took (ended_in turn.after) turn.made last.made failures (λ (y : X). turn.after) (unit_outcome terms before unit) s s' (Ok x) last.same grows.1 turn.plays in
+    let ends : Plays (span (took_with last.made took) failures s' s'') (λ (y : Summary). y) (end_outcome terms.mode turn.after (8 * end)) r = subst (λ (b : ℕ). Plays (span (took_with last.made took) failures s' s'') (λ (y : Summary). y) (end_outcome terms.mode turn.after b) r) e last.plays in
     record {
       made = last.made;
       same = agree-both (ended_in before) (ended_in turn.after) frames turn.made last.made turn.same grows.0 last.same;
@@ -158,15 +158,15 @@ finishes-both {X} {terms} {took} {failures} {frames} {before} {unit} {s} {s'} {s
 -- ---- want of memory
 
 -- it was refused for bytes
-pub on-bytes : {S : Type 0} (terms : Terms) (took : S → List Call → Type 0) (failures : S → ℕ) (frames : ℕ → Frame) (old : Standing History) (piece : List ℕ) (s : S) (stop : Stop) → stop ≡ Memory → StopsOn terms took failures frames old piece s s stop
+pub on-bytes : {S : Type 0} (terms : Terms) (took : S → List Call → Type 0) (failures : S → ℕ) (frames : ℕ → Frame) (old : Standing History) (piece : List ℕ) (s : S) (stop : Stop) → stop ≡ Memory → StopsOn terms (frame_span took failures frames s s) old piece stop
 on-bytes {S} terms took failures frames old piece s stop e =
-    subst (λ (x : Stop). StopsOn terms took failures frames old piece s s x) (sym e)
+    subst (λ (x : Stop). StopsOn terms (frame_span took failures frames s s) old piece x) (sym e)
     (record { made = frames; same = agree-none (ended_in old.state) frames; stops = memory-stops (judging terms) (took_with frames took) failures old piece s })
 
 -- at the end of the input
-pub finishes-bytes : {S : Type 0} (terms : Terms) (took : S → List Call → Type 0) (failures : S → ℕ) (frames : ℕ → Frame) (old : Standing History) (s : S) (stop : Stop) → stop ≡ Memory → FinishesOn terms took failures frames old s s (Err stop)
+pub finishes-bytes : {S : Type 0} (terms : Terms) (took : S → List Call → Type 0) (failures : S → ℕ) (frames : ℕ → Frame) (old : Standing History) (s : S) (stop : Stop) → stop ≡ Memory → FinishesOn terms (frame_span took failures frames s s) old (Err stop)
 finishes-bytes {S} terms took failures frames old s stop e =
-    subst (λ (x : Stop). FinishesOn terms took failures frames old s s (Err x)) (sym e)
+    subst (λ (x : Stop). FinishesOn terms (frame_span took failures frames s s) old (Err x)) (sym e)
     (record { made = frames; same = agree-none (ended_in old.state) frames; finishes = finish-bytes (judging terms) (took_with frames took) failures old s })
 
 -- a unit was left open, and is read

@@ -1,6 +1,7 @@
 -- How a stream that comes in pieces is judged.
 use Rattle.std.proofs.Common.{◌≡◌, ℕ, ◌+◌, ◌*◌, IsFalse, List, [], ◌∷◌, ◌++◌, length, take, drop, Some, Result, Ok, Err, refl, ap, sym, ◌∙◌, subst, append_assoc}
 use Rattle.std.proofs.lemmas.List.{append-nil, take-append-drop}
+use Rattle.h264_base.specs.Call.{span}
 use Rattle.h264_base.specs.declared.stop.Stop.{Stop}
 use Rattle.h264_base.specs.declared.stop.Stop.TheVariants.{No, Outside, Memory, Read, Write}
 use Rattle.h264_verify.specs.Telling.{Told, Tells, TellsFront}
@@ -9,7 +10,7 @@ use Rattle.h264_units.specs.Splitting.{Splitting, Refused, Pushed, PushStops, Ta
 use Rattle.h264_units.proofs.Streams.{same-units, same-first, first-length, first-not-tail, splits-after}
 use Rattle.h264_verify.specs.Outcome.{Outcome, ◌>>=◌, answers, with_calls, continued, Plays, PlaysBy}
 use Rattle.h264_verify.specs.Judging.{Judging, unless, tail_outcome, units_outcome, Comes}
-use Rattle.h264_verify.specs.Session.{Standing, ToCome, Goes, Ends, Begins, Stops, StopsBy}
+use Rattle.h264_verify.specs.Session.{Standing, ToCome, Goes, Ends, Begins, Stops, StopsBy, stretch}
 use Rattle.h264_verify.proofs.Lacking.{lacks-bytes, lacks-unit, lacks-after}
 use Rattle.h264_verify.proofs.Tellings.{tells-none, tells-both}
 use Rattle.h264_verify.proofs.Ways.{splits-first, way-none, way-push, way-unit, way-both}
@@ -18,7 +19,7 @@ use Rattle.h264_verify.proofs.Ways.{splits-first, way-none, way-push, way-unit, 
 pub comes-along : {State Summary : Type 0} (j : Judging State Summary) (at : ℕ) (s : State) (a b : List ℕ) (o : Outcome Summary) → a ≡ b → Comes j at s a o → Comes j at s b o
 comes-along j at s a b o e c = subst (λ l. Comes j at s l o) e c
 
-unfoldable pub goes-push : {State Summary : Type 0} (j : Judging State Summary) {S : Type 0} (took : S → List Told → Type 0) (old new : Splitting) (state : State) (piece : List ℕ) (n : ℕ) (s : S) → Pushed old new piece n → Goes j took (record { split = old; state = state }) (record { split = new; state = state }) piece (drop n piece) s s
+unfoldable pub goes-push : {State Summary : Type 0} (j : Judging State Summary) {S : Type 0} (took : S → List Told → Type 0) {failures : S → ℕ} (old new : Splitting) (state : State) (piece : List ℕ) (n : ℕ) (s : S) → Pushed old new piece n → Goes j (span took failures s s) (stretch (record { split = old; state = state }) (record { split = new; state = state }) piece (drop n piece))
 goes-push j took old new state piece n s p = record {
   calls = [];
   tells = tells-none took s;
@@ -42,7 +43,7 @@ tail-answer j at state bytes tail o h c =
     let same = same-units at bytes c.units [] c.tail tail c.splits h in
     c.is ∙ ap (λ us. units_outcome j state us c.tail (at + length bytes)) same.units_are ∙ ap (λ t. tail_outcome j state t (at + length bytes)) same.tail_is
 
-pub refused-ends : {State Summary : Type 0} (j : Judging State Summary) {S : Type 0} (took : S → List Told → Type 0) (old : Splitting) (state : State) (piece : List ℕ) (s : S) (stop : Stop) → Refused old.at (old.rest ++ piece) stop → Ends j took (record { split = old; state = state }) piece s s stop
+pub refused-ends : {State Summary : Type 0} (j : Judging State Summary) {S : Type 0} (took : S → List Told → Type 0) {failures : S → ℕ} (old : Splitting) (state : State) (piece : List ℕ) (s : S) (stop : Stop) → Refused old.at (old.rest ++ piece) stop → Ends j (span took failures s s) (record { split = old; state = state }) piece stop
 refused-ends j took old state piece s stop r = record {
   calls = [];
   tells = tells-none took s;
@@ -52,10 +53,10 @@ refused-ends j took old state piece s stop r = record {
 }
 
 -- memory was refused for bytes
-pub memory-stops : {State Summary : Type 0} (j : Judging State Summary) {S : Type 0} (took : S → List Told → Type 0) (failures : S → ℕ) (old : Standing State) (piece : List ℕ) (s : S) → Stops j took failures old piece s s Memory
+pub memory-stops : {State Summary : Type 0} (j : Judging State Summary) {S : Type 0} (took : S → List Told → Type 0) (failures : S → ℕ) (old : Standing State) (piece : List ℕ) (s : S) → Stops j (span took failures s s) old piece Memory
 memory-stops j took failures old piece s = record { stops = (record { calls = []; tells = tells-none took s; after = λ more o c. (o.calls, refl) }, refl, λ more. lacks-bytes j took old.split.at old.state (old.split.rest ++ (piece ++ more)) s) }
 
-pub stops-push : {State Summary : Type 0} (j : Judging State Summary) {S : Type 0} (took : S → List Told → Type 0) (failures : S → ℕ) (old new : Splitting) (state : State) (piece : List ℕ) (s : S) (stop : Stop) → PushStops old new piece stop → Stops j took failures (record { split = old; state = state }) piece s s stop
+pub stops-push : {State Summary : Type 0} (j : Judging State Summary) {S : Type 0} (took : S → List Told → Type 0) (failures : S → ℕ) (old new : Splitting) (state : State) (piece : List ℕ) (s : S) (stop : Stop) → PushStops old new piece stop → Stops j (span took failures s s) (record { split = old; state = state }) piece stop
 stops-push j took failures old new state piece s (No bit rule) p = record { stops = (refused-ends j took old state piece s (No bit rule) p.0, refl) }
 stops-push j took failures old new state piece s (Outside bit feature) p = record { stops = (refused-ends j took old state piece s (Outside bit feature) p.0, refl) }
 stops-push j took failures old new state piece s Memory p = memory-stops j took failures (record { split = old; state = state }) piece s
@@ -89,7 +90,7 @@ pub taken-judged : {State Summary : Type 0} (j : Judging State Summary) (old new
 taken-judged j old new state unit more o t live c = first-judged j old.at state (old.rest ++ more) unit (new.rest ++ more) o (t.decided live more) c
 
 -- a unit was judged, and the input goes on
-unfoldable pub goes-unit : {State Summary : Type 0} (j : Judging State Summary) {S X : Type 0} (took : S → List Told → Type 0) (failures : S → ℕ) (view : X → State) (old new : Splitting) (state : State) (unit : NalUnit) (left : List ℕ) (s s' : S) (x : X) → Taken old new unit → IsFalse old.ended → Plays took failures view (j.unit state unit) s s' (Ok x) → Goes j took (record { split = old; state = state }) (record { split = new; state = view x }) left left s s'
+unfoldable pub goes-unit : {State Summary : Type 0} (j : Judging State Summary) {S X : Type 0} (took : S → List Told → Type 0) (failures : S → ℕ) (view : X → State) (old new : Splitting) (state : State) (unit : NalUnit) (left : List ℕ) (s s' : S) (x : X) → Taken old new unit → IsFalse old.ended → Plays (span took failures s s') view (j.unit state unit) (Ok x) → Goes j (span took failures s s') (stretch (record { split = old; state = state }) (record { split = new; state = view x }) left left)
 unfolding ◌>>=◌
 goes-unit j took failures view old new state unit left s s' x t live p = record {
   calls = (j.unit state unit).calls;
@@ -118,14 +119,14 @@ unit-first j old new state unit more o t live c =
     record { next = λ s. units_outcome j s f.units f.tail (past unit + length (new.rest ++ more)); is = f.is }
 
 -- a unit stopped the session
-pub stops-unit : {State Summary : Type 0} (j : Judging State Summary) {S X : Type 0} (took : S → List Told → Type 0) (failures : S → ℕ) (view : X → State) (old new : Splitting) (state : State) (unit : NalUnit) (left : List ℕ) (s s' : S) (stop : Stop) → Taken old new unit → IsFalse old.ended → (stop ≡ Memory → j.grows state unit) → Plays {X = X} took failures view (j.unit state unit) s s' (Err stop) → Stops j took failures (record { split = old; state = state }) left s s' stop
+pub stops-unit : {State Summary : Type 0} (j : Judging State Summary) {S X : Type 0} (took : S → List Told → Type 0) (failures : S → ℕ) (view : X → State) (old new : Splitting) (state : State) (unit : NalUnit) (left : List ℕ) (s s' : S) (stop : Stop) → Taken old new unit → IsFalse old.ended → (stop ≡ Memory → j.grows state unit) → Plays {X = X} (span took failures s s') view (j.unit state unit) (Err stop) → Stops j (span took failures s s') (record { split = old; state = state }) left stop
 unfolding ◌>>=◌
 stops-unit {State} {Summary} j {S} {X} took failures view old new state unit left s s' stop t live grows p = by stop grows p.plays
   where
-    ends : (e : Stop) → (j.unit state unit).answer ≡ Err e → Tells took s s' (j.unit state unit).calls → Ends j took (record { split = old; state = state }) left s s' e
+    ends : (e : Stop) → (j.unit state unit).answer ≡ Err e → Tells took s s' (j.unit state unit).calls → Ends j (span took failures s s') (record { split = old; state = state }) left e
     ends e a k = record { calls = (j.unit state unit).calls; tells = k; after = λ more o c. let f = unit-first j old new state unit (left ++ more) o t live c in f.is ∙ ap (continued (j.unit state unit).calls f.next) a }
 
-    front : TellsFront took s s' (j.unit state unit).calls → Begins j took (record { split = old; state = state }) left s s'
+    front : TellsFront took s s' (j.unit state unit).calls → Begins j (span took failures s s') (record { split = old; state = state }) left
     front k = record {
       calls = k.front;
       tells = k.tells;
@@ -138,7 +139,7 @@ stops-unit {State} {Summary} j {S} {X} took failures view old new state unit lef
     first : (more : List ℕ) (units : List NalUnit) (tail : Tail) → Splits old.at (old.rest ++ (left ++ more)) units tail → (later : List NalUnit) × (units ≡ unit ∷ later)
     first more units tail sp = let f = splits-first old.at (old.rest ++ (left ++ more)) unit (new.rest ++ (left ++ more)) units tail (t.decided live (left ++ more)) sp in (f.0, f.1)
 
-    by : (stop : Stop) → (stop ≡ Memory → j.grows state unit) → PlaysBy {X = X} took failures view (j.unit state unit) s s' (Err stop) → Stops j took failures (record { split = old; state = state }) left s s' stop
+    by : (stop : Stop) → (stop ≡ Memory → j.grows state unit) → PlaysBy {X = X} (span took failures s s') view (j.unit state unit) (Err stop) → Stops j (span took failures s s') (record { split = old; state = state }) left stop
     by (No bit rule) g p = record { stops = (ends (No bit rule) p.0 p.1, p.2) }
     by (Outside bit feature) g p = record { stops = (ends (Outside bit feature) p.0 p.1, p.2) }
     by Memory g p = record { stops = (front p.0, p.1, λ more. lacks-unit j took old.at state (old.rest ++ (left ++ more)) s s' unit p.0.front (g refl) p.0.tells (first more)) }
@@ -148,7 +149,7 @@ stops-unit {State} {Summary} j {S} {X} took failures view old new state unit lef
 pub with-both : {A : Type 0} (xs ys : List Told) (o : Outcome A) → with_calls (xs ++ ys) o ≡ with_calls xs (with_calls ys o)
 with-both {A} xs ys o = ap (λ (l : List Told). let q : Outcome A = record { calls = l; answer = o.answer } in q) (append_assoc xs ys o.calls)
 
-unfoldable pub goes-both : {State Summary : Type 0} {j : Judging State Summary} {S : Type 0} {took : S → List Told → Type 0} {old mid new : Standing State} {piece left last : List ℕ} {s0 s1 s2 : S} → Goes j took old mid piece left s0 s1 → Goes j took mid new left last s1 s2 → Goes j took old new piece last s0 s2
+unfoldable pub goes-both : {State Summary : Type 0} {j : Judging State Summary} {S : Type 0} {took : S → List Told → Type 0} {failures : S → ℕ} {old mid new : Standing State} {piece left last : List ℕ} {s0 s1 s2 : S} → Goes j (span took failures s0 s1) (stretch old mid piece left) → Goes j (span took failures s1 s2) (stretch mid new left last) → Goes j (span took failures s0 s2) (stretch old new piece last)
 goes-both a b = record {
   calls = a.calls ++ b.calls;
   tells = tells-both a.tells b.tells;
@@ -159,14 +160,14 @@ goes-both a b = record {
       (second.0, second.1, first.2 ∙ ap (with_calls a.calls) second.2 ∙ sym (with-both a.calls b.calls second.0));
 }
 
-unfoldable pub goes-none : {State Summary : Type 0} (j : Judging State Summary) {S : Type 0} (took : S → List Told → Type 0) (old : Standing State) (piece : List ℕ) (s : S) → Goes j took old old piece piece s s
+unfoldable pub goes-none : {State Summary : Type 0} (j : Judging State Summary) {S : Type 0} (took : S → List Told → Type 0) {failures : S → ℕ} (old : Standing State) (piece : List ℕ) (s : S) → Goes j (span took failures s s) (stretch old old piece piece)
 goes-none j took old piece s = record { calls = []; tells = tells-none took s; way = way-none j old piece; after = λ more o c. (o, c, refl) }
 
 -- the input goes on, and then the session stops
-pub stops-after : {State Summary : Type 0} (j : Judging State Summary) {S : Type 0} (took : S → List Told → Type 0) (failures : S → ℕ) (old mid : Standing State) (piece left : List ℕ) (s0 s1 s2 : S) (stop : Stop) → Goes j took old mid piece left s0 s1 → failures s1 ≡ failures s0 → Stops j took failures mid left s1 s2 stop → Stops j took failures old piece s0 s2 stop
+pub stops-after : {State Summary : Type 0} (j : Judging State Summary) {S : Type 0} (took : S → List Told → Type 0) (failures : S → ℕ) (old mid : Standing State) (piece left : List ℕ) (s0 s1 s2 : S) (stop : Stop) → Goes j (span took failures s0 s1) (stretch old mid piece left) → failures s1 ≡ failures s0 → Stops j (span took failures s1 s2) mid left stop → Stops j (span took failures s0 s2) old piece stop
 stops-after {State} {Summary} j {S} took failures old mid piece left s0 s1 s2 stop g k r = by stop r.stops
   where
-    ends : (e : Stop) → Ends j took mid left s1 s2 e → Ends j took old piece s0 s2 e
+    ends : (e : Stop) → Ends j (span took failures s1 s2) mid left e → Ends j (span took failures s0 s2) old piece e
     ends e b = record {
       calls = g.calls ++ b.calls;
       tells = tells-both g.tells b.tells;
@@ -174,7 +175,7 @@ stops-after {State} {Summary} j {S} took failures old mid piece left s0 s1 s2 st
           let first = g.after more o c in first.2 ∙ ap (with_calls g.calls) (b.after more first.0 first.1);
     }
 
-    begins : Begins j took mid left s1 s2 → Begins j took old piece s0 s2
+    begins : Begins j (span took failures s1 s2) mid left → Begins j (span took failures s0 s2) old piece
     begins b = record {
       calls = g.calls ++ b.calls;
       tells = tells-both g.tells b.tells;
@@ -183,12 +184,12 @@ stops-after {State} {Summary} j {S} took failures old mid piece left s0 s1 s2 st
           (second.0, ap (λ r. Outcome.calls r) first.2 ∙ ap (λ l. g.calls ++ l) second.1 ∙ sym (append_assoc g.calls b.calls second.0));
     }
 
-    by : (stop : Stop) → StopsBy j took failures mid left s1 s2 stop → Stops j took failures old piece s0 s2 stop
+    by : (stop : Stop) → StopsBy j (span took failures s1 s2) mid left stop → Stops j (span took failures s0 s2) old piece stop
     by (No bit rule) p = record { stops = (ends (No bit rule) p.0, p.1 ∙ k) }
     by (Outside bit feature) p = record { stops = (ends (Outside bit feature) p.0, p.1 ∙ k) }
     by Memory p = record { stops = (begins p.0, p.1 ∙ k, λ more. lacks-after j took old mid piece left more s0 s1 s2 g (p.2 more)) }
     by Read p = absurd p
     by Write p = record { stops = (begins p.0, p.1 ∙ ap (λ n. n + 1) k) }
 
-unfoldable pub goes-none-taken : {State Summary : Type 0} (j : Judging State Summary) {S : Type 0} (took : S → List Told → Type 0) (old mid new : Splitting) (state : State) (piece : List ℕ) (n : ℕ) (s : S) → Pushed old mid piece n → new ≡ mid → Goes j took (record { split = old; state = state }) (record { split = new; state = state }) piece (drop n piece) s s
+unfoldable pub goes-none-taken : {State Summary : Type 0} (j : Judging State Summary) {S : Type 0} (took : S → List Told → Type 0) {failures : S → ℕ} (old mid new : Splitting) (state : State) (piece : List ℕ) (n : ℕ) (s : S) → Pushed old mid piece n → new ≡ mid → Goes j (span took failures s s) (stretch (record { split = old; state = state }) (record { split = new; state = state }) piece (drop n piece))
 goes-none-taken j took old mid new state piece n s p e = goes-push j took old new state piece n s (subst (λ m. Pushed old m piece n) (sym e) p)

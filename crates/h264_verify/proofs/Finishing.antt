@@ -1,6 +1,7 @@
 -- The end of the input.
 use Rattle.std.proofs.Common.{◌≡◌, ℕ, ◌+◌, ◌*◌, ◌⊎◌, inl, inr, ◌↔◌, Bool, true, false, IsFalse, List, [], ◌∷◌, ◌++◌, length, Some, Result, Ok, Err, refl, ap, sym, ◌∙◌, subst}
 use Rattle.std.proofs.lemmas.List.{append-nil}
+use Rattle.h264_base.specs.Call.{span}
 use Rattle.h264_base.specs.declared.stop.Stop.{Stop}
 use Rattle.h264_base.specs.declared.stop.Stop.TheVariants.{No, Outside, Memory, Read, Write}
 use Rattle.h264_verify.specs.Telling.{Told}
@@ -38,7 +39,7 @@ tail-named (Long p) Write e = cc
 tail-named Cut Write e = cc
 
 -- no write failed, or that is told
-told-by : {X A S : Type 0} (took : S → List Told → Type 0) (failures : S → ℕ) (view : X → A) (o : Outcome A) (s s' : S) (r : Result X Stop) → PlaysBy took failures view o s s' r → (failures s' ≡ failures s) ⊎ (r ≡ Err Write)
+told-by : {X A S : Type 0} (took : S → List Told → Type 0) (failures : S → ℕ) (view : X → A) (o : Outcome A) (s s' : S) (r : Result X Stop) → PlaysBy (span took failures s s') view o r → (failures s' ≡ failures s) ⊎ (r ≡ Err Write)
 told-by took failures view o s s' (Ok x) p = inl p.2
 told-by took failures view o s s' (Err (No bit rule)) p = inl p.2
 told-by took failures view o s s' (Err (Outside bit feature)) p = inl p.2
@@ -60,7 +61,7 @@ pub named-not-memory : (tail : Tail) (stop : Stop) → tail_stop tail ≡ Some s
 named-not-memory tail stop e m = let n : IsNamed Memory = subst IsNamed m (tail-named tail stop e) in n
 
 -- memory was refused for the bytes of the last unit
-pub finish-bytes : {State Summary : Type 0} (j : Judging State Summary) {S : Type 0} (took : S → List Told → Type 0) (failures : S → ℕ) (old : Standing State) (s : S) → Finishes {Summary = Summary} j took failures old s s (Err Memory)
+pub finish-bytes : {State Summary : Type 0} (j : Judging State Summary) {S : Type 0} (took : S → List Told → Type 0) (failures : S → ℕ) (old : Standing State) (s : S) → Finishes {Summary = Summary} j (span took failures s s) old (Err Memory)
 finish-bytes {Summary} j took failures old s = record {
   finishes = λ o c. memory-plays took failures (λ (x : Summary). x) o s;
   no_read = λ e. let n = same-stop {X = Summary} Memory Read e in cc;
@@ -69,25 +70,25 @@ finish-bytes {Summary} j took failures old s = record {
   lacks = λ e. lacks-bytes j took old.split.at old.state (old.split.rest ++ []) s;
 }
 
-pub finish-stops : {State Summary : Type 0} (j : Judging State Summary) {S : Type 0} (took : S → List Told → Type 0) (failures : S → ℕ) (old new : Splitting) (state : State) (s : S) (stop : Stop) → FinishStops old new stop → Finishes j took failures (record { split = old; state = state }) s s (Err stop)
+pub finish-stops : {State Summary : Type 0} (j : Judging State Summary) {S : Type 0} (took : S → List Told → Type 0) (failures : S → ℕ) (old new : Splitting) (state : State) (s : S) (stop : Stop) → FinishStops old new stop → Finishes j (span took failures s s) (record { split = old; state = state }) (Err stop)
 finish-stops {Summary} j took failures old new state s stop f =
-    let p : Plays {X = Summary} took failures (λ (x : Summary). x) (answers (Err stop)) s s (Err stop) = answers-plays took failures stop s (tail-named f.tail stop f.stop_is) in
+    let p : Plays {X = Summary} (span took failures s s) (λ (x : Summary). x) (answers (Err stop)) (Err stop) = answers-plays took failures stop s (tail-named f.tail stop f.stop_is) in
     record {
       finishes = λ o c.
           let e = tail-answer j old.at state old.rest f.tail o f.stands (nothing-more j (record { split = old; state = state }) o c) ∙ tail-stops j state f.tail stop _ f.stop_is in
-          subst (λ r. Plays {X = Summary} took failures (λ (x : Summary). x) r s s (Err stop)) (sym e) p;
+          subst (λ r. Plays {X = Summary} (span took failures s s) (λ (x : Summary). x) r (Err stop)) (sym e) p;
       no_read = plays-not-read took failures (λ (x : Summary). x) _ s s (Err stop) p;
       write = plays-write took failures (λ (x : Summary). x) _ s s (Err stop) p;
       write_told = inl refl;
       lacks = λ e. absurd (named-not-memory f.tail stop f.stop_is (same-stop {X = Summary} stop Memory e));
     }
 
-pub finish-end : {State Summary : Type 0} (j : Judging State Summary) {S : Type 0} (took : S → List Told → Type 0) (failures : S → ℕ) (old mid new : Splitting) (state : State) (s s' : S) (end : ℕ) (r : Result Summary Stop) → Finished old mid → IsFalse mid.waiting → new ≡ mid → end ≡ new.at + length new.rest → (r ≡ Err Memory → ⊥) → Plays took failures (λ (x : Summary). x) (j.end state (8 * end)) s s' r → Finishes j took failures (record { split = old; state = state }) s s' r
+pub finish-end : {State Summary : Type 0} (j : Judging State Summary) {S : Type 0} (took : S → List Told → Type 0) (failures : S → ℕ) (old mid new : Splitting) (state : State) (s s' : S) (end : ℕ) (r : Result Summary Stop) → Finished old mid → IsFalse mid.waiting → new ≡ mid → end ≡ new.at + length new.rest → (r ≡ Err Memory → ⊥) → Plays (span took failures s s') (λ (x : Summary). x) (j.end state (8 * end)) r → Finishes j (span took failures s s') (record { split = old; state = state }) r
 finish-end {Summary} j took failures old mid new state s s' end r f w m n quiet p = record {
   finishes = λ o c.
       let e = tail-answer j old.at state old.rest Zeros o (f.zeros w) (nothing-more j (record { split = old; state = state }) o c) in
       let k = n ∙ ap (λ (z : Splitting). z.at + length z.rest) m ∙ ap (λ a. a + length mid.rest) f.at_is ∙ ap (λ l. old.at + length l) f.rest_is in
-      subst (λ r'. Plays took failures (λ (x : Summary). x) r' s s' r) (ap (λ z. j.end state (8 * z)) k ∙ sym e) p;
+      subst (λ r'. Plays (span took failures s s') (λ (x : Summary). x) r' r) (ap (λ z. j.end state (8 * z)) k ∙ sym e) p;
   no_read = plays-not-read took failures (λ (x : Summary). x) _ s s' r p;
   write = plays-write took failures (λ (x : Summary). x) _ s s' r p;
   write_told = told-by took failures (λ (x : Summary). x) _ s s' r p.plays;
@@ -104,10 +105,10 @@ last-judged j old mid new state unit o f t c =
     ∙ ap (λ tail. j.unit state unit >>= λ s. tail_outcome j s tail (past unit + length new.rest)) same.tail_is
     ∙ ap (λ a. j.unit state unit >>= λ s. j.end s (8 * (a + length new.rest))) (sym t.at_is)
 
-pub finish-unit-stops : {State Summary : Type 0} (j : Judging State Summary) {S X : Type 0} (took : S → List Told → Type 0) (failures : S → ℕ) (view : X → State) (old mid new : Splitting) (state : State) (unit : NalUnit) (s s' : S) (stop : Stop) → Finished old mid → Taken mid new unit → (stop ≡ Memory → j.grows state unit) → Plays {X = X} took failures view (j.unit state unit) s s' (Err stop) → Finishes j took failures (record { split = old; state = state }) s s' (Err stop)
+pub finish-unit-stops : {State Summary : Type 0} (j : Judging State Summary) {S X : Type 0} (took : S → List Told → Type 0) (failures : S → ℕ) (view : X → State) (old mid new : Splitting) (state : State) (unit : NalUnit) (s s' : S) (stop : Stop) → Finished old mid → Taken mid new unit → (stop ≡ Memory → j.grows state unit) → Plays {X = X} (span took failures s s') view (j.unit state unit) (Err stop) → Finishes j (span took failures s s') (record { split = old; state = state }) (Err stop)
 finish-unit-stops {State} {Summary} j {S} {X} took failures view old mid new state unit s s' stop f t grows p = record {
   finishes = λ o c.
-      subst (λ r. Plays {X = Summary} took failures (λ (x : Summary). x) r s s' (Err stop)) (sym (last-judged j old mid new state unit o f t c)) (plays-stops took failures view (λ (x : Summary). x) (j.unit state unit) _ s s' stop p);
+      subst (λ r. Plays {X = Summary} (span took failures s s') (λ (x : Summary). x) r (Err stop)) (sym (last-judged j old mid new state unit o f t c)) (plays-stops took failures view (λ (x : Summary). x) (j.unit state unit) _ s s' stop p);
   no_read = λ e. plays-not-read {X = X} took failures view _ s s' (Err stop) p (err-as {A = Summary} {B = X} stop Read e);
   write = λ e. plays-write {X = X} took failures view _ s s' (Err stop) p (err-as {A = Summary} {B = X} stop Write e);
   write_told = told-as {X = X} {Y = Summary} stop (told-by {X = X} took failures view _ s s' (Err stop) p.plays);
@@ -120,18 +121,18 @@ finish-unit-stops {State} {Summary} j {S} {X} took failures view old mid new sta
         let r = splits-first old.at old.rest unit new.rest units tail n (subst (λ (l : List ℕ). Splits old.at l units tail) (append-nil old.rest) sp) in
         (r.0, r.1)
 
-    by : (e : Stop) → (e ≡ Memory → j.grows state unit) → PlaysBy {X = X} took failures view (j.unit state unit) s s' (Err e) → e ≡ Memory → Lacking j took old.at state (old.rest ++ []) s s'
+    by : (e : Stop) → (e ≡ Memory → j.grows state unit) → PlaysBy {X = X} (span took failures s s') view (j.unit state unit) (Err e) → e ≡ Memory → Lacking j (span took failures s s') old.at state (old.rest ++ [])
     by (No bit rule) g q e = cc
     by (Outside bit feature) g q e = cc
     by Memory g q e = lacks-unit j took old.at state (old.rest ++ []) s s' unit q.0.front (g refl) q.0.tells first
     by Read g q e = cc
     by Write g q e = cc
 
-pub finish-unit : {State Summary : Type 0} (j : Judging State Summary) {S X : Type 0} (took : S → List Told → Type 0) (failures : S → ℕ) (view : X → State) (old mid new : Splitting) (state : State) (unit : NalUnit) (s s' s'' : S) (end : ℕ) (x : X) (r : Result Summary Stop) → Finished old mid → Taken mid new unit → Plays took failures view (j.unit state unit) s s' (Ok x) → end ≡ new.at + length new.rest → (r ≡ Err Memory → ⊥) → Plays took failures (λ (x : Summary). x) (j.end (view x) (8 * end)) s' s'' r → Finishes j took failures (record { split = old; state = state }) s s'' r
+pub finish-unit : {State Summary : Type 0} (j : Judging State Summary) {S X : Type 0} (took : S → List Told → Type 0) (failures : S → ℕ) (view : X → State) (old mid new : Splitting) (state : State) (unit : NalUnit) (s s' s'' : S) (end : ℕ) (x : X) (r : Result Summary Stop) → Finished old mid → Taken mid new unit → Plays (span took failures s s') view (j.unit state unit) (Ok x) → end ≡ new.at + length new.rest → (r ≡ Err Memory → ⊥) → Plays (span took failures s' s'') (λ (x : Summary). x) (j.end (view x) (8 * end)) r → Finishes j (span took failures s s'') (record { split = old; state = state }) r
 finish-unit {Summary} j took failures view old mid new state unit s s' s'' end x r f t p n quiet q = record {
   finishes = λ o c.
-      subst (λ w. Plays took failures (λ (x : Summary). x) w s s'' r) (sym (last-judged j old mid new state unit o f t c))
-      (plays-on took failures view (λ (x : Summary). x) (j.unit state unit) (λ s. j.end s (8 * (new.at + length new.rest))) s s' s'' x r p (subst (λ z. Plays took failures (λ (x : Summary). x) (j.end (view x) (8 * z)) s' s'' r) n q));
+      subst (λ w. Plays (span took failures s s'') (λ (x : Summary). x) w r) (sym (last-judged j old mid new state unit o f t c))
+      (plays-on took failures view (λ (x : Summary). x) (j.unit state unit) (λ s. j.end s (8 * (new.at + length new.rest))) s s' s'' x r p (subst (λ z. Plays (span took failures s' s'') (λ (x : Summary). x) (j.end (view x) (8 * z)) r) n q));
   no_read = plays-not-read took failures (λ (x : Summary). x) _ s' s'' r q;
   write = λ e. plays-write took failures (λ (x : Summary). x) _ s' s'' r q e ∙ ap (λ n. n + 1) p.plays.2;
   write_told = told-after p.plays.2 (told-by took failures (λ (x : Summary). x) _ s' s'' r q.plays);

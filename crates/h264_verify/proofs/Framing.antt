@@ -2,7 +2,7 @@
 use Rattle.std.proofs.Common.{◌≡◌, ℕ, Bool, true, false, List, [], ◌∷◌, length, Option, Some, None, Result, Ok, refl, subst, sym, ap, ◌∙◌, if◌then◌else◌, Err, ◌==◌, eqb-true, ◌<◌, ◌≤◌, ◌^◌, arith}
 use Rattle.h264_base.specs.declared.mode.Mode.{Mode}
 use Rattle.h264_base.specs.declared.mode.Mode.TheVariants as modes
-use Rattle.h264_base.specs.Call.{Call}
+use Rattle.h264_base.specs.Call.{Call, span}
 use Rattle.h264_base.specs.declared.stop.Stop.{Stop}
 use Rattle.h264_plane.specs.declared.frame.Frame.{Frame}
 use Rattle.h264_dpb.specs.declared.ended.Ended.{Ended}
@@ -10,7 +10,7 @@ use Rattle.h264_marking.specs.Frames.{References}
 use Rattle.h264_verify.specs.declared.decoder.Decoder.{Decoder}
 use Rattle.h264_verify.specs.declared.slices.Slices.{Slices}
 use Rattle.h264_verify.specs.declared.picture.OpenPicture.{OpenPicture}
-use Rattle.h264_verify.specs.Telling.{took_with}
+use Rattle.h264_verify.specs.Telling.{took_with, frame_span}
 use Rattle.h264_verify.specs.History.{History}
 use Rattle.h264_verify.specs.Pictures.{CodedPicture, last_slice, picture_size, bit_after, goes_on, open_of, runs_of, held_after}
 use Rattle.h264_verify.specs.Buffering.{ended_picture, end_frames}
@@ -28,7 +28,7 @@ use Rattle.h264_base.specs.declared.rule.Rule.TheVariants.{Incomplete}
 use Rattle.h264_verify.specs.Steps.{Step}
 use Rattle.h264_dpb.specs.Ending.{ended_of}
 use Rattle.h264_verify.specs.StepOutcome.{steps_outcome}
-use Rattle.h264_verify.specs.Framing.{EndsFrames}
+use Rattle.h264_verify.specs.Framing.{EndsFrames, closing}
 use Rattle.h264_verify.proofs.Playing.{gives-plays}
 use Rattle.h264_verify.proofs.Made.{MakesNone, some-made, full-made, quiet-made}
 
@@ -85,11 +85,11 @@ some-end slices decoder d o is e k =
 -- the picture that goes on has ended
 module _ {S : Type 0} (took : S → List Call → Type 0) (failures : S → ℕ) (frames : ℕ → Frame) (new : Option Decoder) (s s' : S) (r : Result (Unit {0}) Stop) where
   pub ends-open : (on : Bool) (pictures : List CodedPicture) (o : OpenPicture) (i : IsOpen on pictures o) →
-      EndsFrames modes.Full took failures frames true true (i.p ∷ i.ps) (steps_outcome (end_frames modes.Full (i.p ∷ i.ps))) new s s' r →
-      EndsFrames modes.Full took failures frames on true pictures (steps_outcome (if on then end_frames modes.Full pictures else [])) new s s' r
+      EndsFrames modes.Full (frame_span took failures frames s s') (closing true true (i.p ∷ i.ps)) (steps_outcome (end_frames modes.Full (i.p ∷ i.ps))) new r →
+      EndsFrames modes.Full (frame_span took failures frames s s') (closing on true pictures) (steps_outcome (if on then end_frames modes.Full pictures else [])) new r
   ends-open on pictures o i h =
-      subst (λ (b : Bool). EndsFrames modes.Full took failures frames b true pictures (steps_outcome (if b then end_frames modes.Full pictures else [])) new s s' r) (sym i.goes)
-      (subst (λ (ps : List CodedPicture). EndsFrames modes.Full took failures frames true true ps (steps_outcome (end_frames modes.Full ps)) new s s' r) (sym i.are) h)
+      subst (λ (b : Bool). EndsFrames modes.Full (frame_span took failures frames s s') (closing b true pictures) (steps_outcome (if b then end_frames modes.Full pictures else [])) new r) (sym i.goes)
+      (subst (λ (ps : List CodedPicture). EndsFrames modes.Full (frame_span took failures frames s s') (closing true true ps) (steps_outcome (end_frames modes.Full ps)) new r) (sym i.are) h)
 
 pub keeps-open : (frames : ℕ → Frame) (on : Bool) (pictures : List CodedPicture) (o : OpenPicture) (d : Decoder) (i : IsOpen on pictures o) → KeepsFrames frames on false pictures d → KeepsFrames frames true false (i.p ∷ i.ps) d
 keeps-open frames on pictures o d i k = subst (λ (ps : List CodedPicture). KeepsFrames frames true false ps d) i.are (subst (λ (b : Bool). KeepsFrames frames b false pictures d) i.goes k)
@@ -107,13 +107,13 @@ is-whole on pictures o i e =
     whole-of i.p i.ps (subst (λ (ps : List CodedPicture). answers {A = Unit {0}} (Ok tt) ≡ steps_outcome (whole_picture ps)) i.are (subst (λ (b : Bool). answers {A = Unit {0}} (Ok tt) ≡ steps_outcome (if b then whole_picture pictures else [])) i.goes e))
 
 -- nothing ends
-pub none-ends : {S : Type 0} (took : S → List Call → Type 0) (failures : S → ℕ) (frames : ℕ → Frame) (d : Decoder) (s : S) (on : Bool) (pictures : List CodedPicture) (kept : Option OpenPicture) → kept ≡ None → HoldsOpen (open_of on pictures) kept → KeepsFrames frames on false pictures d → EndsFrames modes.Full took failures frames on true pictures (steps_outcome (if on then end_frames modes.Full pictures else [])) (Some d) s s (Ok tt)
+pub none-ends : {S : Type 0} (took : S → List Call → Type 0) (failures : S → ℕ) (frames : ℕ → Frame) (d : Decoder) (s : S) (on : Bool) (pictures : List CodedPicture) (kept : Option OpenPicture) → kept ≡ None → HoldsOpen (open_of on pictures) kept → KeepsFrames frames on false pictures d → EndsFrames modes.Full (frame_span took failures frames s s) (closing on true pictures) (steps_outcome (if on then end_frames modes.Full pictures else [])) (Some d) (Ok tt)
 none-ends took failures frames d s on pictures kept e h k =
     let n = none-open on pictures kept e h frames d k in
     record {
       made = frames;
       same = λ i j. refl;
-      plays = subst (λ (steps : List Step). Plays (took_with frames took) failures (λ (x : Unit {0}). x) (steps_outcome steps) s s (Ok tt)) (sym n.1) (gives-plays (took_with frames took) failures (λ (x : Unit {0}). x) tt s);
+      plays = subst (λ (steps : List Step). Plays (span (took_with frames took) failures s s) (λ (x : Unit {0}). x) (steps_outcome steps) (Ok tt)) (sym n.1) (gives-plays (took_with frames took) failures (λ (x : Unit {0}). x) tt s);
       keeps = full-made _ modes.Full d refl n.0;
     }
 
@@ -137,11 +137,11 @@ quiet-steps modes.Headers q true (p ∷ ps) = refl
 quiet-steps modes.Headers q false pictures = refl
 quiet-steps modes.Full q on pictures = absurd q
 
-pub quiet-ends : {S : Type 0} (mode : Mode) → MakesNone mode → (took : S → List Call → Type 0) (failures : S → ℕ) (frames : ℕ → Frame) (decoder : Option Decoder) → decoder ≡ None → (s : S) (on ends : Bool) (pictures : List CodedPicture) → EndsFrames mode took failures frames on ends pictures (steps_outcome (if ends then (if on then end_frames mode pictures else []) else [])) decoder s s (Ok tt)
+pub quiet-ends : {S : Type 0} (mode : Mode) → MakesNone mode → (took : S → List Call → Type 0) (failures : S → ℕ) (frames : ℕ → Frame) (decoder : Option Decoder) → decoder ≡ None → (s : S) (on ends : Bool) (pictures : List CodedPicture) → EndsFrames mode (frame_span took failures frames s s) (closing on ends pictures) (steps_outcome (if ends then (if on then end_frames mode pictures else []) else [])) decoder (Ok tt)
 quiet-ends mode q took failures frames decoder n s on ends pictures = record {
   made = frames;
   same = λ i j. refl;
-  plays = subst (λ (steps : List Step). Plays (took_with frames took) failures (λ (x : Unit {0}). x) (steps_outcome steps) s s (Ok tt)) (sym (none ends)) (gives-plays (took_with frames took) failures (λ (x : Unit {0}). x) tt s);
+  plays = subst (λ (steps : List Step). Plays (span (took_with frames took) failures s s) (λ (x : Unit {0}). x) (steps_outcome steps) (Ok tt)) (sym (none ends)) (gives-plays (took_with frames took) failures (λ (x : Unit {0}). x) tt s);
   keeps = quiet-made _ mode decoder n q;
 }
   where

@@ -438,9 +438,12 @@ data-ends mode before unit contents.Passed bit found e = record { same = cc; any
 
 -- ---- the rules of a slice
 
-gap-rules-of : (n : ℕ) (mode : Mode) (idr reference gaps_allowed : Bool) (bit prev : ℕ) (current : Numbering) (refs : References) (b : Buffered Shown) → Each (IsFirst n) b.entries → StepsOf n (gap_rules mode idr reference gaps_allowed bit prev current refs b)
-gap-rules-of n mode idr reference gaps_allowed bit prev current refs b h =
-    steps-both n (missing_steps mode bit current (unused_short_term_frame_nums idr prev current) refs b) (needs (new_num_demand idr reference bit prev current refs ∷ []))
+gap-rules-of : (n : ℕ) (mode : Mode) (s : CodedSlice) (prev : ℕ) (refs : References) (b : Buffered Shown) → Each (IsFirst n) b.entries → StepsOf n (gap_rules mode s prev refs b)
+gap-rules-of n mode s prev refs b h =
+    let idr = is_idr s.header in
+    let bit = s.header.frame_num.bit in
+    let current = numbering_of s.sps s.header in
+    steps-both n (missing_steps mode bit current (unused_short_term_frame_nums idr prev current) refs b) (needs (new_num_demand idr (is_reference s.header) bit prev current refs ∷ []))
     (gap-of n mode bit current (unused_short_term_frame_nums idr prev current) refs b h) tt
 
 -- where a slice begins a picture, the pictures before it are among the first
@@ -450,8 +453,8 @@ Begins n begins pictures = begins ≡ true → length pictures ≤ n
 first-of : (n : ℕ) (mode : Mode) (pictures : List CodedPicture) (s : CodedSlice) → length pictures ≤ n → StepsOf n (first_slice_rules mode pictures s)
 first-of n mode pictures s l =
     steps-both n
-    (gap_rules mode (is_idr s.header) (is_reference s.header) s.sps.gaps_in_frame_num_value_allowed_flag s.header.frame_num.bit (prev_ref_frame_num_of pictures) (numbering_of s.sps s.header) (held_after pictures) (after_all pictures).buffer) _
-    (gap-rules-of n mode (is_idr s.header) (is_reference s.header) s.sps.gaps_in_frame_num_value_allowed_flag s.header.frame_num.bit (prev_ref_frame_num_of pictures) (numbering_of s.sps s.header) (held_after pictures) (after_all pictures).buffer (each-more (length pictures) n (after_all pictures).buffer.entries l (after-of pictures).1)) tt
+    (gap_rules mode s (prev_ref_frame_num_of pictures) (held_after pictures) (after_all pictures).buffer) _
+    (gap-rules-of n mode s (prev_ref_frame_num_of pictures) (held_after pictures) (after_all pictures).buffer (each-more (length pictures) n (after_all pictures).buffer.entries l (after-of pictures).1)) tt
 
 rules-of : (n : ℕ) (mode : Mode) (begins due : Bool) (maps : Maps) (pictures : List CodedPicture) (s : CodedSlice) → Begins n begins pictures → StepsOf n (rules_of mode begins due maps pictures s)
 rules-of n mode true due maps pictures s l = steps-both n (needs (first_mb_demands mode 0 s.header)) _ (needs-of n (first_mb_demands mode 0 s.header)) (first-of n mode pictures s (l refl))

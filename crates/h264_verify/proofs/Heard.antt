@@ -1,10 +1,12 @@
 -- A source whose bytes are not known: what it gave so far is judged as a stream of those bytes.
 use Rattle.std.proofs.Common.{◌≡◌, ℕ, zero, suc, List, [], ◌∷◌, ◌++◌, take, drop, Some, refl, ap, sym, ◌∙◌, subst, Err}
 use Rattle.std.proofs.lemmas.List.{append-nil}
+use Rattle.h264_verify.specs.Session.{stretch, standing}
+use Rattle.h264_verify.specs.Telling.{frame_span}
 use Rattle.h264_verify.specs.declared.state.Terms.{Terms}
 use Rattle.h264_base.specs.declared.stop.Stop.{Stop}
 use Rattle.h264_base.specs.declared.stop.Stop.TheVariants.{Read}
-use Rattle.h264_base.specs.Call.{Call}
+use Rattle.h264_base.specs.Call.{Call, span}
 use Rattle.h264_verify.specs.Progress.{Progress}
 use Rattle.h264_verify.specs.Feeding.{standing_after, GoesOn, StopsOn, FedOn, JudgesWith}
 use Rattle.h264_verify.proofs.Verdicts.{fed-more, fed-halts, fed-fails}
@@ -25,7 +27,7 @@ read-whole n xs left e =
     (l ∙ sym (append-nil (take n xs)) ∙ ap (λ k. take n xs ++ k) (sym none), ap Some (sym none))
 
 -- These bytes are still to come.
-unfoldable pub fed-ahead : {S : Type 0} {terms : Terms} {took : S → List Call → Type 0} {bytes : List ℕ} {session : Progress} {s s' : S} (more : List ℕ) → FedOn terms took (Some []) bytes session s s' → FedOn terms took (Some more) (bytes ++ more) session s s'
+unfoldable pub fed-ahead : {S : Type 0} {terms : Terms} {took : S → List Call → Type 0} {failures : S → ℕ} {bytes : List ℕ} {session : Progress} {s s' : S} (more : List ℕ) → FedOn terms (span took failures s s') (Some []) bytes session → FedOn terms (span took failures s s') (Some more) (bytes ++ more) session
 fed-ahead {bytes = bytes} more f = record {
   terms_is = f.terms_is;
   frames = f.frames;
@@ -36,19 +38,19 @@ fed-ahead {bytes = bytes} more f = record {
 }
 
 -- a piece more
-pub heard-more : {S : Type 0} {terms : Terms} {took : S → List Call → Type 0} {bytes : List ℕ} {old new : Progress} {s0 s1 s2 : S} (piece : List ℕ) (n : ℕ) → new.terms ≡ old.terms → (f : FedOn terms took (Some []) bytes old s0 s1) → GoesOn old.terms took f.frames (standing_after old.split f.after) new.split new.state (take n piece) [] s1 s2 → FedOn terms took (Some []) (bytes ++ take n piece) new s0 s2
+pub heard-more : {S : Type 0} {terms : Terms} {took : S → List Call → Type 0} {failures : S → ℕ} {bytes : List ℕ} {old new : Progress} {s0 s1 s2 : S} (piece : List ℕ) (n : ℕ) → new.terms ≡ old.terms → (f : FedOn terms (span took failures s0 s1) (Some []) bytes old) → GoesOn old.terms (frame_span took failures f.frames s1 s2) (stretch (standing_after old.split f.after) (standing new.split new.state) (take n piece) []) → FedOn terms (span took failures s0 s2) (Some []) (bytes ++ take n piece) new
 unfolding fed-ahead
 heard-more piece n m f q = fed-more (Some []) piece n m (read-whole n piece) (fed-ahead (take n piece) f) q
 
 -- a stop at one
-pub heard-halts : {S : Type 0} {terms : Terms} {took : S → List Call → Type 0} {failures : S → ℕ} {bytes : List ℕ} {old : Progress} {s0 s1 s2 : S} {stop : Stop} (piece : List ℕ) (n : ℕ) → (f : FedOn terms took (Some []) bytes old s0 s1) → failures s1 ≡ failures s0 → StopsOn old.terms took failures f.frames (standing_after old.split f.after) (take n piece) s1 s2 stop → JudgesWith terms took failures (bytes ++ take n piece) s0 s2 (Err stop)
+pub heard-halts : {S : Type 0} {terms : Terms} {took : S → List Call → Type 0} {failures : S → ℕ} {bytes : List ℕ} {old : Progress} {s0 s1 s2 : S} {stop : Stop} (piece : List ℕ) (n : ℕ) → (f : FedOn terms (span took failures s0 s1) (Some []) bytes old) → failures s1 ≡ failures s0 → StopsOn old.terms (frame_span took failures f.frames s1 s2) (standing_after old.split f.after) (take n piece) stop → JudgesWith terms (span took failures s0 s2) (bytes ++ take n piece) (Err stop)
 unfolding fed-ahead
 heard-halts piece n f k q = fed-halts (Some []) piece n (read-whole n piece) (fed-ahead (take n piece) f) k q
 
 -- none
-pub heard-none : {S : Type 0} {terms : Terms} {took : S → List Call → Type 0} {bytes : List ℕ} {session : Progress} {s s' : S} → FedOn terms took (Some []) bytes session s s' → FedOn terms took (Some []) (bytes ++ []) session s s'
-heard-none {S} {terms} {took} {bytes} {session} {s} {s'} f = subst (λ l. FedOn terms took (Some []) l session s s') (sym (append-nil bytes)) f
+pub heard-none : {S : Type 0} {terms : Terms} {took : S → List Call → Type 0} {failures : S → ℕ} {bytes : List ℕ} {session : Progress} {s s' : S} → FedOn terms (span took failures s s') (Some []) bytes session → FedOn terms (span took failures s s') (Some []) (bytes ++ []) session
+heard-none {S} {terms} {took} {failures} {bytes} {session} {s} {s'} f = subst (λ l. FedOn terms (span took failures s s') (Some []) l session) (sym (append-nil bytes)) f
 
 -- the source failed
-pub heard-fails : {S : Type 0} {terms : Terms} {took : S → List Call → Type 0} {failures : S → ℕ} {bytes : List ℕ} {session : Progress} {s s' : S} → FedOn terms took (Some []) bytes session s s' → failures s' ≡ failures s → JudgesWith terms took failures (bytes ++ []) s s' (Err Read)
-heard-fails {S} {terms} {took} {failures} {bytes} {session} {s} {s'} f k = subst (λ l. JudgesWith terms took failures l s s' (Err Read)) (sym (append-nil bytes)) (fed-fails f k)
+pub heard-fails : {S : Type 0} {terms : Terms} {took : S → List Call → Type 0} {failures : S → ℕ} {bytes : List ℕ} {session : Progress} {s s' : S} → FedOn terms (span took failures s s') (Some []) bytes session → failures s' ≡ failures s → JudgesWith terms (span took failures s s') (bytes ++ []) (Err Read)
+heard-fails {S} {terms} {took} {failures} {bytes} {session} {s} {s'} f k = subst (λ l. JudgesWith terms (span took failures s s') l (Err Read)) (sym (append-nil bytes)) (fed-fails f k)

@@ -4,9 +4,9 @@ use native.Mathlib.Numerals.{unary_clauses}
 use Rattle.h264_base.specs.declared.mode.Mode.{Mode}
 use Rattle.h264_base.specs.declared.mode.Mode.TheVariants as modes
 use Rattle.h264_base.specs.declared.stop.Stop.{Stop}
-use Rattle.h264_base.specs.Call.{Call}
+use Rattle.h264_base.specs.Call.{Call, span}
 use Rattle.h264_plane.specs.declared.frame.Frame.{Frame}
-use Rattle.h264_verify.specs.Telling.{took_with, Agree}
+use Rattle.h264_verify.specs.Telling.{took_with, Agree, frame_span}
 use Rattle.h264_verify.specs.declared.decoder.Decoder.{Decoder}
 use Rattle.h264_units.specs.Stream.{NalUnit}
 use Rattle.h264_verify.specs.declared.state.State.{State}
@@ -37,7 +37,7 @@ use Rattle.h264_verify.proofs.Made.{made-then, some-made, none-made}
 
 module _ {S : Type 0} (mode : Mode) (frames : ℕ → Frame) (took : S → List Call → Type 0) (failures : S → ℕ) (ended : ℕ) (before : History) (unit : NalUnit) (content : Outcome Content) (new : State) where
   -- what was read is judged, and frames were made
-  pub joins-made : {X : Type 0} (made : ℕ → Frame) → Agree ended frames made → (view : X → Content) (s s1 s2 : S) (x : X) (r : Result (Unit {0}) Stop) → Plays (took_with made took) failures view content s s1 (Ok x) → Plays (took_with made took) failures (λ (u : Unit {0}). u) (steps_outcome (content_steps mode before unit (view x))) s1 s2 r → OnOk r (Keeps mode made (record { unit = unit; content = view x } ∷ before) new) → Joins mode took failures frames ended (joined mode before unit content) new s s2 r
+  pub joins-made : {X : Type 0} (made : ℕ → Frame) → Agree ended frames made → (view : X → Content) (s s1 s2 : S) (x : X) (r : Result (Unit {0}) Stop) → Plays (span (took_with made took) failures s s1) view content (Ok x) → Plays (span (took_with made took) failures s1 s2) (λ (u : Unit {0}). u) (steps_outcome (content_steps mode before unit (view x))) r → OnOk r (Keeps mode made (record { unit = unit; content = view x } ∷ before) new) → Joins mode (frame_span took failures frames s s2) ended (joined mode before unit content) new r
   joins-made made a view s s1 s2 x r p q k = record {
     made = made;
     same = a;
@@ -47,11 +47,11 @@ module _ {S : Type 0} (mode : Mode) (frames : ℕ → Frame) (took : S → List 
   }
 
   -- what was read is judged
-  pub joins-on : {X : Type 0} (view : X → Content) (s s1 s2 : S) (x : X) (r : Result (Unit {0}) Stop) → Plays (took_with frames took) failures view content s s1 (Ok x) → Plays (took_with frames took) failures (λ (u : Unit {0}). u) (steps_outcome (content_steps mode before unit (view x))) s1 s2 r → OnOk r (Keeps mode frames (record { unit = unit; content = view x } ∷ before) new) → Joins mode took failures frames ended (joined mode before unit content) new s s2 r
+  pub joins-on : {X : Type 0} (view : X → Content) (s s1 s2 : S) (x : X) (r : Result (Unit {0}) Stop) → Plays (span (took_with frames took) failures s s1) view content (Ok x) → Plays (span (took_with frames took) failures s1 s2) (λ (u : Unit {0}). u) (steps_outcome (content_steps mode before unit (view x))) r → OnOk r (Keeps mode frames (record { unit = unit; content = view x } ∷ before) new) → Joins mode (frame_span took failures frames s s2) ended (joined mode before unit content) new r
   joins-on view s s1 s2 x r p q k = joins-made frames (λ n h. refl) view s s1 s2 x r p q k
 
   -- it could not be read
-  pub joins-stops : {X : Type 0} (view : X → Content) (s s' : S) (e : Stop) → Plays {X = X} (took_with frames took) failures view content s s' (Err e) → Joins {X = Unit {0}} mode took failures frames ended (joined mode before unit content) new s s' (Err e)
+  pub joins-stops : {X : Type 0} (view : X → Content) (s s' : S) (e : Stop) → Plays {X = X} (span (took_with frames took) failures s s') view content (Err e) → Joins {X = Unit {0}} mode (frame_span took failures frames s s') ended (joined mode before unit content) new (Err e)
   joins-stops view s s' e p = record {
     made = frames;
     same = λ n h. refl;

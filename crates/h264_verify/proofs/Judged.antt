@@ -1,5 +1,6 @@
 -- A slice is judged: what comes to pass, one part after another.
 use Rattle.std.proofs.Common.{◌≡◌, ℕ, ◌*◌, Bool, true, false, List, [], ◌++◌, Option, Some, Result, Ok, Err, refl, ap, sym, ◌∙◌, subst, append_assoc, if◌then◌else◌}
+use Rattle.h264_base.specs.Call.{span}
 use Rattle.h264_base.specs.declared.mode.Mode.{Mode}
 use Rattle.h264_base.specs.declared.stop.Stop.{Stop}
 use Rattle.h264_units.specs.Stream.{NalUnit}
@@ -33,7 +34,7 @@ use Rattle.h264_verify.proofs.Made.{made-then}
 
 module _ {S : Type 0} (took : S → List Told → Type 0) (failures : S → ℕ) (mode : Mode) (before : History) (unit : NalUnit) (h : Header) (begins : Bool) (b : begins ≡ begins_at before h) where
   abbrev PlaysOf : Outcome (Unit {0}) → S → S → Result (Unit {0}) Stop → Type 0
-  PlaysOf o s s' r = Plays took failures (λ (x : Unit {0}). x) o s s' r
+  PlaysOf o s s' r = Plays (span took failures s s') (λ (x : Unit {0}). x) o r
 
   abbrev own : Outcome (Unit {0})
   own = steps_outcome (own_steps mode before unit h begins b)

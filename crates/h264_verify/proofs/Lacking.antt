@@ -1,19 +1,20 @@
 -- Where memory was wanting, as a stream is judged in pieces.
 use Rattle.std.proofs.Common.{◌≡◌, ℕ, List, [], ◌∷◌, ◌++◌, Result, Err, refl, ap, sym, ◌∙◌, subst, append_assoc}
+use Rattle.h264_base.specs.Call.{span}
 use Rattle.h264_base.specs.declared.stop.Stop.{Stop}
 use Rattle.h264_base.specs.declared.stop.Stop.TheVariants.{No, Outside, Memory, Read, Write}
 use Rattle.h264_units.specs.Stream.{NalUnit, Tail, Splits}
 use Rattle.h264_verify.specs.Telling.{Told, Tells}
 use Rattle.h264_verify.proofs.Tellings.{tells-none, tells-both}
 use Rattle.h264_verify.specs.Judging.{Judging}
-use Rattle.h264_verify.specs.Session.{Standing, Goes, StopsBy, ForBytes, ForUnit, Lacking}
+use Rattle.h264_verify.specs.Session.{Standing, Goes, StopsBy, ForBytes, ForUnit, Lacking, stretch}
 use Rattle.h264_verify.proofs.Ways.{splits-shown, leads-both}
 
 pub same-stop : {X : Type 0} (a b : Stop) → (let r : Result X Stop = Err a in r ≡ Err b) → a ≡ b
 same-stop a b e = cc
 
 -- for bytes, with nothing told
-pub lacks-bytes : {State Summary : Type 0} (j : Judging State Summary) {S : Type 0} (took : S → List Told → Type 0) (at : ℕ) (state : State) (bytes : List ℕ) (s : S) → Lacking j took at state bytes s s
+pub lacks-bytes : {State Summary : Type 0} (j : Judging State Summary) {S : Type 0} (took : S → List Told → Type 0) {failures : S → ℕ} (at : ℕ) (state : State) (bytes : List ℕ) (s : S) → Lacking j (span took failures s s) at state bytes
 lacks-bytes j took at state bytes s = record {
   calls = [];
   tells = tells-none took s;
@@ -21,7 +22,7 @@ lacks-bytes j took at state bytes s = record {
 }
 
 -- for the first unit
-pub lacks-unit : {State Summary : Type 0} (j : Judging State Summary) {S : Type 0} (took : S → List Told → Type 0) (at : ℕ) (state : State) (bytes : List ℕ) (s s' : S) (unit : NalUnit) (calls : List Told) → j.grows state unit → Tells took s s' calls → ((units : List NalUnit) (tail : Tail) → Splits at bytes units tail → (later : List NalUnit) × (units ≡ unit ∷ later)) → Lacking j took at state bytes s s'
+pub lacks-unit : {State Summary : Type 0} (j : Judging State Summary) {S : Type 0} (took : S → List Told → Type 0) {failures : S → ℕ} (at : ℕ) (state : State) (bytes : List ℕ) (s s' : S) (unit : NalUnit) (calls : List Told) → j.grows state unit → Tells took s s' calls → ((units : List NalUnit) (tail : Tail) → Splits at bytes units tail → (later : List NalUnit) × (units ≡ unit ∷ later)) → Lacking j (span took failures s s') at state bytes
 lacks-unit j took at state bytes s s' unit calls g t first = record {
   calls = calls;
   tells = t;
@@ -29,7 +30,7 @@ lacks-unit j took at state bytes s s' unit calls g t first = record {
 }
 
 -- after units that were taken
-pub lacks-after : {State Summary : Type 0} (j : Judging State Summary) {S : Type 0} (took : S → List Told → Type 0) (old mid : Standing State) (piece left more : List ℕ) (s0 s1 s2 : S) → Goes j took old mid piece left s0 s1 → Lacking j took mid.split.at mid.state (mid.split.rest ++ (left ++ more)) s1 s2 → Lacking j took old.split.at old.state (old.split.rest ++ (piece ++ more)) s0 s2
+pub lacks-after : {State Summary : Type 0} (j : Judging State Summary) {S : Type 0} (took : S → List Told → Type 0) {failures : S → ℕ} (old mid : Standing State) (piece left more : List ℕ) (s0 s1 s2 : S) → Goes j (span took failures s0 s1) (stretch old mid piece left) → Lacking j (span took failures s1 s2) mid.split.at mid.state (mid.split.rest ++ (left ++ more)) → Lacking j (span took failures s0 s2) old.split.at old.state (old.split.rest ++ (piece ++ more))
 lacks-after j took old mid piece left more s0 s1 s2 g b = record {
   calls = g.calls ++ b.calls;
   tells = tells-both g.tells b.tells;
@@ -50,7 +51,7 @@ lacks-after j took old mid piece left more s0 s1 s2 g b = record {
 }
 
 -- a stop for want of memory
-pub stops-lacks : {State Summary : Type 0} (j : Judging State Summary) {S : Type 0} (took : S → List Told → Type 0) (failures : S → ℕ) (old : Standing State) (piece more : List ℕ) (s s' : S) (stop : Stop) → StopsBy j took failures old piece s s' stop → stop ≡ Memory → Lacking j took old.split.at old.state (old.split.rest ++ (piece ++ more)) s s'
+pub stops-lacks : {State Summary : Type 0} (j : Judging State Summary) {S : Type 0} (took : S → List Told → Type 0) (failures : S → ℕ) (old : Standing State) (piece more : List ℕ) (s s' : S) (stop : Stop) → StopsBy j (span took failures s s') old piece stop → stop ≡ Memory → Lacking j (span took failures s s') old.split.at old.state (old.split.rest ++ (piece ++ more))
 stops-lacks j took failures old piece more s s' (No bit rule) p e = cc
 stops-lacks j took failures old piece more s s' (Outside bit feature) p e = cc
 stops-lacks j took failures old piece more s s' Memory p e = p.2 more

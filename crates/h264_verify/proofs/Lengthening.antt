@@ -56,7 +56,7 @@ module _ (fits : CodedMacroblock → Bool) (width : ℕ) (slice : SliceContext) 
   unfolding unskipped
   unskipped-adds left picture = gives-following _ _ (AddsOne picture) (λ a. gives-following _ _ (AddsOne picture) (λ u. gives-following _ _ (AddsOne picture) (λ m. gives-following _ _ (AddsOne picture) (λ v. length-append picture _))))
 
-  after-adds : (left : ℕ) (picture : List CodedMacroblock) (bit n : ℕ) → Gives (after_run fits width slice left picture bit n) (AddsOne picture)
+  after-adds : (left : ℕ) (picture : List CodedMacroblock) (bit n : ℕ) → Gives (after_run fits width slice left picture (Skipping bit n)) (AddsOne picture)
   unfolding after_run
   after-adds left picture bit zero = unskipped-adds left picture
   after-adds left picture bit (suc k) = skip-adds picture bit k

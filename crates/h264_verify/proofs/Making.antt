@@ -1,7 +1,7 @@
 -- The samples of a picture, slice by slice.
 use Rattle.std.proofs.Common.{◌≡◌, ◌≢◌, ℕ, ◌+◌, ◌<◌, Bool, true, false, List, [], ◌∷◌, length, get_or, Option, Some, None, Result, Ok, Err, ℤ, refl, ap, sym, ◌∙◌, subst, arith}
 use Rattle.std.specs.Option.{option_map_or}
-use Rattle.h264_base.specs.Call.{Call}
+use Rattle.h264_base.specs.Call.{Call, span}
 use Rattle.h264_base.specs.Run.{run}
 use Rattle.h264_base.specs.declared.stop.Stop.{Stop}
 use Rattle.h264_base.specs.declared.stop.Stop.TheVariants.{No, Outside, Memory, Read, Write}
@@ -29,6 +29,7 @@ use Rattle.h264_picture.specs.Places.{first_place, places, is_active_place, HasB
 use Rattle.h264_dpb.specs.Turns.{Turn}
 use Rattle.h264_dpb.specs.declared.output.Output.{Output}
 use Rattle.h264_dpb.specs.Kept.{is_occupied}
+use Rattle.h264_verify.specs.Telling.{frame_span}
 use Rattle.h264_verify.specs.declared.decoder.Decoder.{Decoder}
 use Rattle.h264_verify.specs.declared.decoder.Format.{Format}
 use Rattle.h264_verify.specs.Pictures.{CodedSlice, CodedPicture, picture_size}
@@ -153,7 +154,7 @@ module _ {S X : Type 0} (frames : ℕ → Frame) (took : S → List Call → Typ
   abbrev Held : X → List CodedMacroblock → Type 0
   Held x after = HoldsMacroblocks width size after work
 
-  slice-by : (r : Result X Stop) → MeetsBy took failures Held g body i j s s' r → AnswersBy took failures Held g body i j s s' r → ((making : Making) → P making → MeetsBy took failures (Made making) g body i j s s' r) → ReadsSlice took failures frames (structure_from g body i) K s s' r
+  slice-by : (r : Result X Stop) → MeetsBy (span took failures s s') Held g (record { body = body; at = i }) j r → AnswersBy (span took failures s s') Held g (record { body = body; at = i }) j r → ((making : Making) → P making → MeetsBy (span took failures s s') (Made making) g (record { body = body; at = i }) j r) → ReadsSlice (frame_span took failures frames s s') (structure_from g body i) K r
   slice-by (Ok x) m a f = record {
     macroblocks = m.0;
     end = j;
@@ -168,6 +169,6 @@ module _ {S X : Type 0} (frames : ℕ → Frame) (took : S → List Call → Typ
 
 pub reads-slice : {S X : Type 0} (frames : ℕ → Frame) (took : S → List Call → Type 0) (failures : S → ℕ) (g : Grammar (List CodedMacroblock)) (width size : ℕ) (work : Work) (old new : Reader) (s s' : S) (r : Result X Stop)
     (P : Making → Type 0) (K : List CodedMacroblock → Type 0) → ((after : List CodedMacroblock) → (run g old.body old.at).answer ≡ Ok (after, new.at) → HoldsMacroblocks width size after work → ((making : Making) → P making → HoldsSamples width size making after work) → K after) →
-    Meets took failures (λ (x : X) after. HoldsMacroblocks width size after work) g old new s s' r → Answers took failures (λ (x : X) after. HoldsMacroblocks width size after work) g old new s s' r →
-    ((making : Making) → P making → Meets took failures (λ (x : X) after. HoldsSamples width size making after work) g old new s s' r) → ReadsSlice took failures frames (structure_from g old.body old.at) K s s' r
+    Meets (span took failures s s') (λ (x : X) after. HoldsMacroblocks width size after work) g old new r → Answers (span took failures s s') (λ (x : X) after. HoldsMacroblocks width size after work) g old new r →
+    ((making : Making) → P making → Meets (span took failures s s') (λ (x : X) after. HoldsSamples width size making after work) g old new r) → ReadsSlice (frame_span took failures frames s s') (structure_from g old.body old.at) K r
 reads-slice frames took failures g width size work old new s s' r P K goes m a f = slice-by frames took failures g old.body old.at new.at width size work s s' P K goes r m.meets a (λ making p. (f making p).meets)

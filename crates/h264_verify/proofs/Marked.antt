@@ -3,7 +3,7 @@ use Rattle.std.proofs.Common.{◌≡◌, ℕ, ◌==◌, ◌||◌, nat_lt, not, B
 use Rattle.std.proofs.lemmas.Bool.Decides.{nat_tests}
 use Rattle.std.specs.Option.{is_some}
 use Rattle.h264_base.specs.Body.{Body}
-use Rattle.h264_base.specs.Call.{Call}
+use Rattle.h264_base.specs.Call.{Call, span}
 use Rattle.h264_base.specs.declared.stop.Stop.{Stop}
 use Rattle.h264_base.specs.Grammar.{Grammar, Says}
 use Rattle.h264_base.specs.Run.{run}
@@ -81,7 +81,7 @@ marked-of byte u h e fits k =
     }
 
 -- a header that was read is marked so
-pub read-marked : {S X : Type 0} (took : S → List Call → Type 0) (failures : S → ℕ) (sets : ℕ → Option (Pps × Sps)) (u : SliceUnit) (byte : ℕ) (h : Header) (old new : Reader) (s s' : S) (r : Result X Stop) → u ≡ slice_unit_of byte → fits_kind (nal_unit_type byte) (nal_ref_idc byte) ≡ true → Meets took failures (Is (λ (x : X). h)) (header sets u) old new s s' r → OnOk r (IsMarked h)
+pub read-marked : {S X : Type 0} (took : S → List Call → Type 0) (failures : S → ℕ) (sets : ℕ → Option (Pps × Sps)) (u : SliceUnit) (byte : ℕ) (h : Header) (old new : Reader) (s s' : S) (r : Result X Stop) → u ≡ slice_unit_of byte → fits_kind (nal_unit_type byte) (nal_ref_idc byte) ≡ true → Meets (span took failures s s') (Is (λ (x : X). h)) (header sets u) old new r → OnOk r (IsMarked h)
 read-marked took failures sets u byte h old new s s' (Err x) e fits m = tt
 read-marked took failures sets u byte h old new s s' (Ok x) e fits m =
     let k = m.meets in

@@ -6,7 +6,7 @@ use Rattle.h264_base.specs.declared.mode.Mode.{Mode}
 use Rattle.h264_base.specs.declared.mode.Mode.TheVariants as modes
 use Rattle.h264_base.specs.declared.stop.Stop.{Stop}
 use Rattle.h264_base.specs.declared.stop.Stop.TheVariants.{No, Outside, Memory, Read, Write}
-use Rattle.h264_base.specs.Call.{Call}
+use Rattle.h264_base.specs.Call.{Call, span}
 use Rattle.h264_base.specs.Body.{Body}
 use Rattle.h264_base.specs.Grammar.{Grammar}
 use Rattle.h264_base.specs.Meets.{Reader, Meets, Answers, Is}
@@ -35,8 +35,8 @@ use Rattle.h264_verify.specs.Memory.{reads_slices, is_kind_read, bytes_of, HasAn
 use Rattle.h264_verify.proofs.Joining.{units-other, passed-other}
 
 -- a reader wants no memory
-pub answers-memory : {X A S : Type 0} (took : S → List Call → Type 0) (failures : S → ℕ) (R : X → A → Type 0) (g : Grammar A) (old new : Reader) (s s' : S) (r : Result X Stop) → Meets took failures R g old new s s' r → Answers took failures R g old new s s' r → IsErrOf r Memory → ⊥
-answers-memory {X} took failures R g old new s s' r read a m = subst (λ (q : Result X Stop). Answers took failures R g old new s s' q) m a
+pub answers-memory : {X A S : Type 0} (took : S → List Call → Type 0) (failures : S → ℕ) (R : X → A → Type 0) (g : Grammar A) (old new : Reader) (s s' : S) (r : Result X Stop) → Meets (span took failures s s') R g old new r → Answers (span took failures s s') R g old new r → IsErrOf r Memory → ⊥
+answers-memory {X} took failures R g old new s s' r read a m = subst (λ (q : Result X Stop). Answers (span took failures s s') R g old new q) m a
 
 -- nor does a rule that is not met
 pub named-memory : {X : Type 0} (e : Stop) → IsNamed e → (let r : Result X Stop = Err e in IsErrOf r Memory) → ⊥
@@ -109,12 +109,12 @@ is-another frames on pictures (Some old) new sps k e never = another-by frames o
 
 -- the slice of this header begins such a picture
 module _ {X S : Type 0} (took : S → List Call → Type 0) (failures : S → ℕ) (before : History) (unit : NalUnit) (maps : Maps) (maps-are : maps ≡ maps_of before) (byte : ℕ) (byte-is : byte ≡ header_of unit) (of : SliceUnit) (of-is : of ≡ slice_unit_of byte) (h : Header) where
-  pub begins-another : (old new : Reader) (s s' : S) (x : X) → old ≡ record { body = body_of unit; at = 0 } → Meets took failures (Is (λ (y : X). h)) (header_syntax (sets_of maps) of) old new s s' (let r : Result X Stop = Ok x in r) → Answers took failures (Is (λ (y : X). h)) (header_syntax (sets_of maps) of) old new s s' (let r : Result X Stop = Ok x in r) → (sets : Pps × Sps) → sets_of maps h.pic_parameter_set_id.value ≡ Some sets → begins_at before h ≡ true → HasAnotherFormat (runs_of before) sets.1 → BeginsAnotherFormat before unit
+  pub begins-another : (old new : Reader) (s s' : S) (x : X) → old ≡ record { body = body_of unit; at = 0 } → Meets (span took failures s s') (Is (λ (y : X). h)) (header_syntax (sets_of maps) of) old new (let r : Result X Stop = Ok x in r) → Answers (span took failures s s') (Is (λ (y : X). h)) (header_syntax (sets_of maps) of) old new (let r : Result X Stop = Ok x in r) → (sets : Pps × Sps) → sets_of maps h.pic_parameter_set_id.value ≡ Some sets → begins_at before h ≡ true → HasAnotherFormat (runs_of before) sets.1 → BeginsAnotherFormat before unit
   begins-another old new s s' x first read answers sets names begins another =
       let unit-is : of ≡ slice_unit unit = of-is ∙ ap (λ (b : ℕ). slice_unit_of b) byte-is in
-      let a = subst (λ (o : Reader). Answers took failures (Is (λ (y : X). h)) (header_syntax (sets_of maps) of) o new s s' (let r : Result X Stop = Ok x in r)) first answers in
-      let b = subst (λ (m : Maps). Answers took failures (Is (λ (y : X). h)) (header_syntax (sets_of m) of) (record { body = body_of unit; at = 0 }) new s s' (let r : Result X Stop = Ok x in r)) maps-are a in
-      let d = subst (λ (u : SliceUnit). Answers took failures (Is (λ (y : X). h)) (header_syntax (sets_of (maps_of before)) u) (record { body = body_of unit; at = 0 }) new s s' (let r : Result X Stop = Ok x in r)) unit-is b in
+      let a = subst (λ (o : Reader). Answers (span took failures s s') (Is (λ (y : X). h)) (header_syntax (sets_of maps) of) o new (let r : Result X Stop = Ok x in r)) first answers in
+      let b = subst (λ (m : Maps). Answers (span took failures s s') (Is (λ (y : X). h)) (header_syntax (sets_of m) of) (record { body = body_of unit; at = 0 }) new (let r : Result X Stop = Ok x in r)) maps-are a in
+      let d = subst (λ (u : SliceUnit). Answers (span took failures s s') (Is (λ (y : X). h)) (header_syntax (sets_of (maps_of before)) u) (record { body = body_of unit; at = 0 }) new (let r : Result X Stop = Ok x in r)) unit-is b in
       record {
         header = d.1;
         elements = d.0;

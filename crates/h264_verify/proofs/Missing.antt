@@ -8,7 +8,7 @@ use Rattle.h264_base.specs.declared.mode.Mode.{Mode}
 use Rattle.h264_base.specs.declared.rule.Rule.TheVariants.{FrameNum}
 use Rattle.h264_base.specs.declared.stop.Stop.{Stop}
 use Rattle.h264_base.specs.declared.stop.Stop.TheVariants.{No}
-use Rattle.h264_base.specs.Call.{Call}
+use Rattle.h264_base.specs.Call.{Call, span}
 use Rattle.h264_plane.specs.declared.frame.Frame.{Frame}
 use Rattle.h264_marking.specs.declared.frame.ReferenceFrame.{ReferenceFrame}
 use Rattle.h264_marking.specs.declared.frame.Numbering.{Numbering}
@@ -73,7 +73,7 @@ with-both : {A : Type 0} (xs ys : List Told) (o : Outcome A) → with_calls xs (
 with-both xs ys o = ap (λ (l : List Told). record { calls = l; answer = o.answer }) (sym (append_assoc xs ys o.calls))
 
 -- what is played after what was told
-after-plays : {A S X : Type 0} (took : S → List Told → Type 0) (failures : S → ℕ) (view : X → A) (told : List Told) (o : Outcome A) (s0 s1 s2 : S) (r : Result X Stop) → Tells took s0 s1 told → failures s1 ≡ failures s0 → Plays took failures view o s1 s2 r → Plays took failures view (with_calls told o) s0 s2 r
+after-plays : {A S X : Type 0} (took : S → List Told → Type 0) (failures : S → ℕ) (view : X → A) (told : List Told) (o : Outcome A) (s0 s1 s2 : S) (r : Result X Stop) → Tells took s0 s1 told → failures s1 ≡ failures s0 → Plays (span took failures s1 s2) view o r → Plays (span took failures s0 s2) view (with_calls told o) r
 unfolding ◌>>=◌
 after-plays took failures view told o s0 s1 s2 r t k p = plays-on took failures (λ (x : Unit {0}). x) view (record { calls = told; answer = Ok tt }) (λ _. o) s0 s1 s2 tt r (record { plays = (refl, t, k) }) p
 
@@ -142,10 +142,10 @@ module _ {S : Type 0} (mode : Mode) (bit : ℕ) (n : Numbering) (count prev : �
     number = (last + 1) % n.max_frame_num
 
     -- it cannot be filled
-    pub fills-refused : {X : Type 0} (view : X → Unit {0}) (e : Stop) → filled (record n { frame_num = number }) now ≡ None → e ≡ No bit FrameNum → Plays {X = X} (took_with frames took) failures view (steps_outcome all_steps) old new (Err e)
+    pub fills-refused : {X : Type 0} (view : X → Unit {0}) (e : Stop) → filled (record n { frame_num = number }) now ≡ None → e ≡ No bit FrameNum → Plays {X = X} (span (took_with frames took) failures old new) view (steps_outcome all_steps) (Err e)
     fills-refused {X} view e none is =
-        subst (λ (o : Outcome (Unit {0})). Plays {X = X} (took_with frames took) failures view o old new (Err e)) (sym (f.steps ∙ ap (with_calls f.told) (steps-none mode bit n number (following n k number) now f.turn.buffer none)))
-        (subst (λ (x : Stop). Plays {X = X} (took_with frames took) failures view (with_calls f.told (answers (Err (No bit FrameNum)))) old new (Err x)) (sym is)
+        subst (λ (o : Outcome (Unit {0})). Plays {X = X} (span (took_with frames took) failures old new) view o (Err e)) (sym (f.steps ∙ ap (with_calls f.told) (steps-none mode bit n number (following n k number) now f.turn.buffer none)))
+        (subst (λ (x : Stop). Plays {X = X} (span (took_with frames took) failures old new) view (with_calls f.told (answers (Err (No bit FrameNum)))) (Err x)) (sym is)
         (after-plays (took_with frames took) failures view f.told (answers (Err (No bit FrameNum))) old new new (Err (No bit FrameNum)) f.tells quiet (record { plays = (refl, tells-none (took_with frames took) new, refl) })))
 
     module _ (then_held : References) (fits : filled (record n { frame_num = number }) now ≡ Some then_held) where
@@ -159,13 +159,13 @@ module _ {S : Type 0} (mode : Mode) (bit : ℕ) (n : Numbering) (count prev : �
       steps-are = f.steps ∙ ap (with_calls f.told) (steps-some mode bit n number (following n k number) now then_held f.turn.buffer fits)
 
       -- its frame is not told
-      pub fills-stopped : {X : Type 0} (view : X → Unit {0}) (s : S) (e : Stop) → Plays {X = Unit {0}} (took_with frames took) failures (λ (x : Unit {0}). x) frame_steps new s (Err e) → Plays {X = X} (took_with frames took) failures view (steps_outcome all_steps) old s (Err e)
+      pub fills-stopped : {X : Type 0} (view : X → Unit {0}) (s : S) (e : Stop) → Plays {X = Unit {0}} (span (took_with frames took) failures new s) (λ (x : Unit {0}). x) frame_steps (Err e) → Plays {X = X} (span (took_with frames took) failures old s) view (steps_outcome all_steps) (Err e)
       fills-stopped {X} view s e p =
-          subst (λ (o : Outcome (Unit {0})). Plays {X = X} (took_with frames took) failures view o old s (Err e)) (sym steps-are)
+          subst (λ (o : Outcome (Unit {0})). Plays {X = X} (span (took_with frames took) failures old s) view o (Err e)) (sym steps-are)
           (after-plays (took_with frames took) failures view f.told (frame_steps >>= λ _. rest) old new s (Err e) f.tells quiet (plays-stops (took_with frames took) failures (λ (x : Unit {0}). x) view frame_steps (λ _. rest) new s e p))
 
       -- one more is filled
-      pub fills-next : (s : S) (d' : Option Decoder) (x : Unit {0}) → Plays {X = Unit {0}} (took_with frames took) failures (λ (x : Unit {0}). x) frame_steps new s (Ok x) → WhereMade mode (FillsFrames frames (turn_then f.turn (missing_turn then_held)) next) d' → Fills k number then_held s d'
+      pub fills-next : (s : S) (d' : Option Decoder) (x : Unit {0}) → Plays {X = Unit {0}} (span (took_with frames took) failures new s) (λ (x : Unit {0}). x) frame_steps (Ok x) → WhereMade mode (FillsFrames frames (turn_then f.turn (missing_turn then_held)) next) d' → Fills k number then_held s d'
       fills-next s d' x p kept = record {
         turn = turn_then f.turn (missing_turn then_held);
         told = f.told ++ frame_steps.calls;
@@ -176,9 +176,9 @@ module _ {S : Type 0} (mode : Mode) (bit : ℕ) (n : Numbering) (count prev : �
       }
 
   -- none is left
-  pub fills-last : (last : ℕ) (now : References) (new : S) (d : Option Decoder) → Fills 0 last now new d → failures new ≡ failures old → Plays (took_with frames took) failures (λ (x : ℕ). tt) (steps_outcome all_steps) old new (Ok last)
+  pub fills-last : (last : ℕ) (now : References) (new : S) (d : Option Decoder) → Fills 0 last now new d → failures new ≡ failures old → Plays (span (took_with frames took) failures old new) (λ (x : ℕ). tt) (steps_outcome all_steps) (Ok last)
   fills-last last now new d f quiet =
-      subst (λ (o : Outcome (Unit {0})). Plays (took_with frames took) failures (λ (x : ℕ). tt) o old new (Ok last)) (sym f.steps)
+      subst (λ (o : Outcome (Unit {0})). Plays (span (took_with frames took) failures old new) (λ (x : ℕ). tt) o (Ok last)) (sym f.steps)
       (after-plays (took_with frames took) failures (λ (x : ℕ). tt) f.told (gives tt) old new new (Ok last) f.tells quiet (gives-plays (took_with frames took) failures (λ (x : ℕ). tt) last new))
 
   pub fills-kept : (last : ℕ) (now : References) (new : S) (d : Option Decoder) → Fills 0 last now new d → WhereMade mode (FillsFrames frames (turn_then t (gaps_turn n (following n count prev) held)) next) d

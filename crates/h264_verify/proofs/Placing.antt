@@ -24,7 +24,7 @@ use Rattle.h264_verify.specs.Buffering.{ended_picture, within_newest, after_all}
 use Rattle.h264_verify.specs.Keeping.{format_of, HasFormat, IsRoomFor, IsSized, KeepsFrames}
 use Rattle.h264_verify.proofs.Lending.{each-lent, ready-lent}
 use Rattle.h264_verify.proofs.PictureEnding.{with_frame, frame-at, with-agrees, frames-agree, rectangle-fits, making, is-decoded, decoded-as}
-use Rattle.h264_base.specs.Call.{Call}
+use Rattle.h264_base.specs.Call.{Call, span}
 use Rattle.h264_base.specs.declared.stop.Stop.{Stop}
 use Rattle.h264_picture.specs.Making.{IsDecodedIn}
 use Rattle.h264_picture.specs.Holds.{Serves}
@@ -195,16 +195,16 @@ module _ {S : Type 0} (made : ℕ → Frame) (took : S → List Call → Type 0)
   abbrev told_steps : List Step
   told_steps = (step.Tells (Decodes (p ∷ ps)) ∷ []) ++ told_frames modes.Full (end_turn (ended_picture p ps) (held_after (p ∷ ps)) b).written
 
-  decoded-first : (s s' : S) (r : Result (Unit {0}) Stop) → Plays (took_with made took) failures (λ (x : Unit {0}). x) (steps_outcome (told_frames modes.Full (way_turn e b).written) >>= λ _. steps_outcome (told_frames modes.Full (store_turn e held (way_turn e b).buffer).written)) s s' r → Plays (took_with made took) failures (λ (x : Unit {0}). x) (steps_outcome told_steps) s s' r
-  decoded-first s s' r q = subst (λ (o : Outcome (Unit {0})). Plays (took_with made took) failures (λ (x : Unit {0}). x) o s s' r) (sym turns-are) (plays-on (took_with made took) failures (λ (x : Unit {0}). x) (λ (x : Unit {0}). x) (tells (Decodes (p ∷ ps))) _ s s s' tt r (decodes-plays made took failures s (p ∷ ps) d) q)
+  decoded-first : (s s' : S) (r : Result (Unit {0}) Stop) → Plays (span (took_with made took) failures s s') (λ (x : Unit {0}). x) (steps_outcome (told_frames modes.Full (way_turn e b).written) >>= λ _. steps_outcome (told_frames modes.Full (store_turn e held (way_turn e b).buffer).written)) r → Plays (span (took_with made took) failures s s') (λ (x : Unit {0}). x) (steps_outcome told_steps) r
+  decoded-first s s' r q = subst (λ (o : Outcome (Unit {0})). Plays (span (took_with made took) failures s s') (λ (x : Unit {0}). x) o r) (sym turns-are) (plays-on (took_with made took) failures (λ (x : Unit {0}). x) (λ (x : Unit {0}). x) (tells (Decodes (p ∷ ps))) _ s s s' tt r (decodes-plays made took failures s (p ∷ ps) d) q)
 
-  pub way-stops : (s s' : S) (x : Stop) → Writes {X = Unit {0}} took failures (shown_calls made (way_turn e b).written) s s' (Err x) → Plays (took_with made took) failures (λ (x : Unit {0}). x) (steps_outcome told_steps) s s' (Err x)
+  pub way-stops : (s s' : S) (x : Stop) → Writes {X = Unit {0}} took failures (shown_calls made (way_turn e b).written) s s' (Err x) → Plays (span (took_with made took) failures s s') (λ (x : Unit {0}). x) (steps_outcome told_steps) (Err x)
   way-stops s s' x w = decoded-first s s' (Err x) (plays-stops (took_with made took) failures (λ (x : Unit {0}). x) (λ (x : Unit {0}). x) (steps_outcome (told_frames modes.Full (way_turn e b).written)) _ s s' x (writes-plays made took failures (way_turn e b).written s s' (Err x) w))
 
-  pub way-on : (s s' s'' : S) (u : Unit {0}) (r : Result (Unit {0}) Stop) → Writes {X = Unit {0}} took failures (shown_calls made (way_turn e b).written) s s' (Ok u) → Plays (took_with made took) failures (λ (x : Unit {0}). x) (steps_outcome (told_frames modes.Full (store_turn e held (way_turn e b).buffer).written)) s' s'' r → Plays (took_with made took) failures (λ (x : Unit {0}). x) (steps_outcome told_steps) s s'' r
+  pub way-on : (s s' s'' : S) (u : Unit {0}) (r : Result (Unit {0}) Stop) → Writes {X = Unit {0}} took failures (shown_calls made (way_turn e b).written) s s' (Ok u) → Plays (span (took_with made took) failures s' s'') (λ (x : Unit {0}). x) (steps_outcome (told_frames modes.Full (store_turn e held (way_turn e b).buffer).written)) r → Plays (span (took_with made took) failures s s'') (λ (x : Unit {0}). x) (steps_outcome told_steps) r
   way-on s s' s'' u r w q = decoded-first s s'' r (plays-on (took_with made took) failures (λ (x : Unit {0}). x) (λ (x : Unit {0}). x) (steps_outcome (told_frames modes.Full (way_turn e b).written)) _ s s' s'' u r (writes-plays made took failures (way_turn e b).written s s' (Ok u) w) q)
 
-  pub way-store : (s s' s'' : S) (u : Unit {0}) (r : Result (Unit {0}) Stop) → Writes {X = Unit {0}} took failures (shown_calls made (way_turn e b).written) s s' (Ok u) → Writes {X = Unit {0}} took failures (shown_calls made (store_turn e held (way_turn e b).buffer).written) s' s'' r → Plays (took_with made took) failures (λ (x : Unit {0}). x) (steps_outcome told_steps) s s'' r
+  pub way-store : (s s' s'' : S) (u : Unit {0}) (r : Result (Unit {0}) Stop) → Writes {X = Unit {0}} took failures (shown_calls made (way_turn e b).written) s s' (Ok u) → Writes {X = Unit {0}} took failures (shown_calls made (store_turn e held (way_turn e b).buffer).written) s' s'' r → Plays (span (took_with made took) failures s s'') (λ (x : Unit {0}). x) (steps_outcome told_steps) r
   way-store s s' s'' u r w q = way-on s s' s'' u r w (writes-plays made took failures _ s' s'' r q)
 
 -- as many frames are held as the buffer has places

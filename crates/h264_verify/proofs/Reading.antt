@@ -18,6 +18,7 @@ use Rattle.h264_picture.specs.Context.{slice_context}
 use Rattle.h264_picture.specs.Levels.{transform_fits}
 use Rattle.h264_picture.specs.Filter.{slice_filter}
 use Rattle.h264_picture.specs.Weights.{slice_weights}
+use Rattle.h264_verify.specs.Telling.{frame_span}
 use Rattle.h264_verify.specs.Lists.{context_in, list_in, list_of}
 use Rattle.h264_verify.specs.declared.head.SlicePlace.{SlicePlace}
 use Rattle.h264_verify.specs.declared.slices.Slice.{Slice}
@@ -45,12 +46,9 @@ context-same : (pps : Pps) (sps : Sps) (h : Header) (m : Option (Found Marking))
 unfolding slice_context
 context-same pps sps h m list = refl
 
-pub syntax-is : (width size : ℕ) (pps : Pps) (sps : Sps) (h : Header) (list : List RefSlot) (picture : List CodedMacroblock) (c : SliceContext) → c ≡ slice_context pps sps h list → slice_data (transform_fits c) width size c picture ≡ slice_syntax width size pps sps h list picture
+syntax-is : (width size : ℕ) (c : SliceContext) (picture : List CodedMacroblock) → slice_data (transform_fits c) width size c picture ≡ slice_syntax width size c picture
 unfolding slice_syntax
-syntax-is width size pps sps h list picture c e = ap (λ (x : SliceContext). slice_data (transform_fits x) width size x picture) e
-
-syntax-same : (width size : ℕ) (pps : Pps) (sps : Sps) (h : Header) (m : Option (Found Marking)) (list : List RefSlot) (picture : List CodedMacroblock) → slice_syntax width size pps sps (record h { marking = m }) list picture ≡ slice_syntax width size pps sps h list picture
-syntax-same width size pps sps h m list picture = sym (syntax-is width size pps sps (record h { marking = m }) list picture _ refl) ∙ syntax-is width size pps sps h list picture _ (context-same pps sps h m list)
+syntax-is width size c picture = refl
 
 pub usable_size : (sps : Sps) → is_usable sps ≡ true → is_frame_size sps.frame_size ≡ true
 unfolding is_usable
@@ -70,17 +68,6 @@ listed pictures s held list h e = sym (ap (λ (r : Result (List RefSlot) ℕ). r
 
 -- what the code reads slice data by is what the units so far give
 module _ (place : SlicePlace) (kept : Slice) (pictures : List CodedPicture) (s : CodedSlice) (is : IsRead place kept pictures s) where
-  pub data-same : slice_syntax (picture_set place.begins s pictures).frame_size.width (picture_size (picture_set place.begins s pictures)) place.pps.now place.sps.now kept.header kept.list.items (coded_so_far place.begins pictures) ≡ data_in place.begins pictures s
-  data-same =
-      let width = (picture_set place.begins s pictures).frame_size.width in
-      let size = picture_size (picture_set place.begins s pictures) in
-      let coded = coded_so_far place.begins pictures in
-      ap (λ (x : Pps). slice_syntax width size x place.sps.now kept.header kept.list.items coded) is.pps
-      ∙ ap (λ (x : Sps). slice_syntax width size s.pps x kept.header kept.list.items coded) is.sps
-      ∙ ap (λ (x : Header). slice_syntax width size s.pps s.sps x kept.list.items coded) is.header
-      ∙ syntax-same width size s.pps s.sps s.header kept.header.marking kept.list.items coded
-      ∙ ap (λ (l : List RefSlot). slice_syntax width size s.pps s.sps s.header l coded) is.list
-
   pub context-is : (c : SliceContext) → c ≡ slice_context place.pps.now place.sps.now kept.header kept.list.items → c ≡ context_in (joined_to place.begins s pictures) s
   context-is c e =
       e ∙ ap (λ (x : Pps). slice_context x place.sps.now kept.header kept.list.items) is.pps
@@ -88,6 +75,13 @@ module _ (place : SlicePlace) (kept : Slice) (pictures : List CodedPicture) (s :
       ∙ ap (λ (x : Header). slice_context s.pps s.sps x kept.list.items) is.header
       ∙ context-same s.pps s.sps s.header kept.header.marking kept.list.items
       ∙ ap (λ (l : List RefSlot). slice_context s.pps s.sps s.header l) is.list
+
+  pub data-same : (c : SliceContext) → c ≡ slice_context place.pps.now place.sps.now kept.header kept.list.items → slice_data (transform_fits c) (picture_set place.begins s pictures).frame_size.width (picture_size (picture_set place.begins s pictures)) c (coded_so_far place.begins pictures) ≡ data_in place.begins pictures s
+  data-same c e =
+      let width = (picture_set place.begins s pictures).frame_size.width in
+      let size = picture_size (picture_set place.begins s pictures) in
+      let coded = coded_so_far place.begins pictures in
+      syntax-is width size c coded ∙ ap (λ (x : SliceContext). slice_syntax width size x coded) (context-is c e)
 
   pub filter-is : slice_filter place.pps.now kept.header ≡ slice_filter s.pps s.header
   filter-is = ap (λ (x : Pps). slice_filter x kept.header) is.pps ∙ ap (λ (x : Header). slice_filter s.pps x) is.header ∙ filter-same s.pps s.header kept.header.marking
@@ -135,18 +129,18 @@ later-kept : (frames : ℕ → Frame) (s : CodedSlice) (p : CodedPicture) (ps : 
 later-kept frames s p ps ms d h = record { format = h.0.format; output = h.1; picture = begun-later frames s p ps ms d h.0 }
 
 module _ {S X : Type 0} (took : S → List Call → Type 0) (failures : S → ℕ) (frames : ℕ → Frame) (new : Decoder) (s s' : S) (r : Result X Stop) (slice : CodedSlice) where
-  pub first-read : (o : Outcome (List CodedMacroblock × ℕ)) (pictures : List CodedPicture) → ReadsSlice took failures frames o (λ ms. HoldsBegun frames (record { first = slice; later = [] }) pictures (slice ∷ []) ms new × KeepsOutput frames (within_newest (record { first = slice; later = [] } ∷ pictures)) (length pictures) new) s s' r → ReadsData took failures frames o (λ ms. joined_to true (record slice { macroblocks = ms }) pictures) new s s' r
+  pub first-read : (o : Outcome (List CodedMacroblock × ℕ)) (pictures : List CodedPicture) → ReadsSlice (frame_span took failures frames s s') o (λ ms. HoldsBegun frames (record { first = slice; later = [] }) pictures (slice ∷ []) ms new × KeepsOutput frames (within_newest (record { first = slice; later = [] } ∷ pictures)) (length pictures) new) r → ReadsData (frame_span took failures frames s s') o (λ ms. joined_to true (record slice { macroblocks = ms }) pictures) new r
   first-read o pictures k = record { macroblocks = k.macroblocks; end = k.end; plays = k.plays; keeps = where-ok r (first-kept frames slice pictures k.macroblocks new) k.keeps }
 
-  pub later-read : (o : Outcome (List CodedMacroblock × ℕ)) (p : CodedPicture) (ps : List CodedPicture) → ReadsSlice took failures frames o (λ ms. HoldsBegun frames p ps (slice ∷ slices_of p) ms new × KeepsOutput frames (within_newest (p ∷ ps)) (length ps) new) s s' r → ReadsData took failures frames o (λ ms. joined_to false (record slice { macroblocks = ms }) (p ∷ ps)) new s s' r
+  pub later-read : (o : Outcome (List CodedMacroblock × ℕ)) (p : CodedPicture) (ps : List CodedPicture) → ReadsSlice (frame_span took failures frames s s') o (λ ms. HoldsBegun frames p ps (slice ∷ slices_of p) ms new × KeepsOutput frames (within_newest (p ∷ ps)) (length ps) new) r → ReadsData (frame_span took failures frames s s') o (λ ms. joined_to false (record slice { macroblocks = ms }) (p ∷ ps)) new r
   later-read o p ps k = record { macroblocks = k.macroblocks; end = k.end; plays = k.plays; keeps = where-ok r (later-kept frames slice p ps k.macroblocks new) k.keeps }
 
 -- the slice data of a slice after what is kept before them
 pub read-after : {S X : Type 0} (took : S → List Call → Type 0) (failures : S → ℕ) (frames : ℕ → Frame) (old new : Decoder) (s s' : S) (r : Result X Stop) (begins : Bool) (pictures : List CodedPicture) (slice : CodedSlice) (c : SliceContext) (body : Body) (at : ℕ) →
     c ≡ context_in (joined_to begins slice pictures) slice → slice.header.first_mb_in_slice.value ≡ length (coded_so_far begins pictures) → (begins ≡ false → HasPps slice.pps pictures) → BeginsFrames frames begins slice pictures old →
     ((p : CodedPicture) (ps : List CodedPicture) (slices : List CodedSlice) (ms : List CodedMacroblock) (t : Turn) → c ≡ context_in (p ∷ ps) slice → slice.header.first_mb_in_slice.value ≡ length ms → slice.pps ≡ p.first.pps → KeepsOutput frames t (length ps) old → HoldsBegun frames p ps slices ms old →
-    ReadsSlice took failures frames (structure_from (slice_data (transform_fits c) p.first.sps.frame_size.width (picture_size p.first.sps) c ms) body at) (λ ms'. HoldsBegun frames p ps (slice ∷ slices) ms' new × KeepsOutput frames t (length ps) new) s s' r) →
-    ReadsData took failures frames (structure_from (slice_data (transform_fits c) (picture_set begins slice pictures).frame_size.width (picture_size (picture_set begins slice pictures)) c (coded_so_far begins pictures)) body at) (λ ms. joined_to begins (record slice { macroblocks = ms }) pictures) new s s' r
+    ReadsSlice (frame_span took failures frames s s') (structure_from (slice_data (transform_fits c) p.first.sps.frame_size.width (picture_size p.first.sps) c ms) body at) (λ ms'. HoldsBegun frames p ps (slice ∷ slices) ms' new × KeepsOutput frames t (length ps) new) r) →
+    ReadsData (frame_span took failures frames s s') (structure_from (slice_data (transform_fits c) (picture_set begins slice pictures).frame_size.width (picture_size (picture_set begins slice pictures)) c (coded_so_far begins pictures)) body at) (λ ms. joined_to begins (record slice { macroblocks = ms }) pictures) new r
 read-after took failures frames old new s s' r true pictures slice c body at is n set k f = first-read took failures frames new s s' r slice _ pictures (f (record { first = slice; later = [] }) pictures [] [] (within_newest (record { first = slice; later = [] } ∷ pictures)) is n refl k.output k.picture)
 read-after took failures frames old new s s' r false [] slice c body at is n set k f = absurd k
 read-after took failures frames old new s s' r false (p ∷ ps) slice c body at is n set k f = later-read took failures frames new s s' r slice _ p ps (f p ps (slices_of p) (last_slice p).macroblocks (within_newest (p ∷ ps)) is n (sym (set refl)) k.output k.picture)

@@ -52,10 +52,10 @@ some-begun true slices d b k h = some-ended slices d k h
 some-begun false slices d b k h = cc
 
 -- the rules of a picture's first slice
-pub first-rules : (mode : Mode) (on : Bool) (pictures : List CodedPicture) (slices : Slices) (pps : Pps) (sps : Sps) (h : Header) (unit : NalUnit) (bit : ℕ) → KeepsPictures on true pictures slices → bit ≡ 8 * unit.from →
-    first_by mode slices (map counted pictures) (after_all pictures).buffer pps sps h bit ≡ first_slice_rules mode pictures (with_sets unit h [] (pps, sps))
-first-rules mode true pictures slices pps sps h unit bit k e = rw (k.newest_idr, k.prev_ref, k.held, e) refl
-first-rules mode false pictures slices pps sps h unit bit k e = rw (k.newest_idr, k.prev_ref, k.held, e) refl
+pub first-rules : (mode : Mode) (on : Bool) (pictures : List CodedPicture) (slices : Slices) (s : CodedSlice) → KeepsPictures on true pictures slices →
+    first_by mode slices (map counted pictures) (after_all pictures).buffer s ≡ first_slice_rules mode pictures s
+first-rules mode true pictures slices s k = rw (k.newest_idr, k.prev_ref, k.held) refl
+first-rules mode false pictures slices s k = rw (k.newest_idr, k.prev_ref, k.held) refl
 
 -- what is true wherever there is a decoder, of a picture that is no IDR picture
 idr-some : (idr : Bool) (P : Decoder → Type 0) (d : Option Decoder) → (idr ≡ false → IfSome d P) → IfSome d (λ (x : Decoder). idr ≡ false → P x)

@@ -1,6 +1,6 @@
 -- Frames that a sink is told, as a part of what comes to pass.
 use Rattle.std.proofs.Common.{IfErr, OnOk, ◌≡◌, ℕ, List, [], ◌∷◌, ◌++◌, map, Result, Ok, Err, refl, ap, sym, ◌∙◌, subst}
-use Rattle.h264_base.specs.Call.{Call}
+use Rattle.h264_base.specs.Call.{Call, span}
 use Rattle.h264_base.specs.Call.{Tells as CallsTell, TellsFront as CallsFront}
 use Rattle.h264_base.specs.declared.stop.Stop.{Stop}
 use Rattle.h264_base.specs.declared.stop.Stop.TheVariants.{No, Outside, Memory, Read, Write}
@@ -76,10 +76,10 @@ abbrev all_shown : List (Entry Shown) → Outcome (Unit {0})
 all_shown written = record { calls = map Shows written; answer = Ok tt }
 
 -- frames that were written
-pub writes-plays : {S : Type 0} (frames : ℕ → Frame) (took : S → List Call → Type 0) (failures : S → ℕ) (written : List (Entry Shown)) (s s' : S) (r : Result (Unit {0}) Stop) → Writes took failures (shown_calls frames written) s s' r → Plays (took_with frames took) failures (λ (x : Unit {0}). x) (steps_outcome (told_frames modes.Full written)) s s' r
-writes-plays {S} frames took failures written s s' r w = subst (λ (o : Outcome (Unit {0})). Plays (took_with frames took) failures (λ (x : Unit {0}). x) o s s' r) (sym (shows-outcome written)) (record { plays = by r w.writes })
+pub writes-plays : {S : Type 0} (frames : ℕ → Frame) (took : S → List Call → Type 0) (failures : S → ℕ) (written : List (Entry Shown)) (s s' : S) (r : Result (Unit {0}) Stop) → Writes took failures (shown_calls frames written) s s' r → Plays (span (took_with frames took) failures s s') (λ (x : Unit {0}). x) (steps_outcome (told_frames modes.Full written)) r
+writes-plays {S} frames took failures written s s' r w = subst (λ (o : Outcome (Unit {0})). Plays (span (took_with frames took) failures s s') (λ (x : Unit {0}). x) o r) (sym (shows-outcome written)) (record { plays = by r w.writes })
   where
-    by : (r : Result (Unit {0}) Stop) → WritesBy took failures (shown_calls frames written) s s' r → PlaysBy (took_with frames took) failures (λ (x : Unit {0}). x) (all_shown written) s s' r
+    by : (r : Result (Unit {0}) Stop) → WritesBy took failures (shown_calls frames written) s s' r → PlaysBy (span (took_with frames took) failures s s') (λ (x : Unit {0}). x) (all_shown written) r
     by (Ok x) h = (refl, tells-shown frames took s s' written h.0, h.1)
     by (Err Write) h = (front-shown frames took s s' written h.1, h.2)
     by (Err Memory) h = let e : Memory ≡ Write = h.0 in cc
@@ -119,7 +119,7 @@ decodes-tell : {S : Type 0} (frames : ℕ → Frame) (took : S → List Call →
 unfolding took_with
 decodes-tell frames took s pictures d = record { told = λ before h. (decoded-one frames before pictures d h.0, subst (took s) (sym (calls-decoded frames before pictures)) h.1) }
 
-pub decodes-plays : {S : Type 0} (frames : ℕ → Frame) (took : S → List Call → Type 0) (failures : S → ℕ) (s : S) (pictures : List CodedPicture) → HasFrame frames pictures → Plays (took_with frames took) failures (λ (x : Unit {0}). x) (tells (Decodes pictures)) s s (Ok tt)
+pub decodes-plays : {S : Type 0} (frames : ℕ → Frame) (took : S → List Call → Type 0) (failures : S → ℕ) (s : S) (pictures : List CodedPicture) → HasFrame frames pictures → Plays (span (took_with frames took) failures s s) (λ (x : Unit {0}). x) (tells (Decodes pictures)) (Ok tt)
 decodes-plays frames took failures s pictures d = record { plays = (refl, decodes-tell frames took s pictures d, refl) }
 
 shown-both : (xs ys : List (Entry Shown)) → told_frames modes.Full (xs ++ ys) ≡ told_frames modes.Full xs ++ told_frames modes.Full ys

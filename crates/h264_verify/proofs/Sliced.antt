@@ -2,7 +2,7 @@
 use Rattle.std.proofs.Common.{◌≡◌, ℕ, Bool, true, false, List, [], ◌∷◌, Option, Some, Result, OnOk, sym, subst}
 use Rattle.h264_base.specs.declared.mode.Mode.{Mode}
 use Rattle.h264_base.specs.declared.stop.Stop.{Stop}
-use Rattle.h264_base.specs.Call.{Call}
+use Rattle.h264_base.specs.Call.{Call, span}
 use Rattle.h264_units.specs.Stream.{NalUnit}
 use Rattle.h264_plane.specs.declared.frame.Frame.{Frame}
 use Rattle.h264_near.specs.Coded.{CodedMacroblock}
@@ -18,21 +18,21 @@ use Rattle.h264_marking.specs.Gaps.{all_filled, unused_short_term_frame_nums}
 use Rattle.h264_verify.specs.declared.decoder.Decoder.{Decoder}
 use Rattle.h264_verify.specs.declared.slices.Slices.{Slices}
 use Rattle.h264_verify.specs.declared.state.State.{State}
-use Rattle.h264_verify.specs.Telling.{took_with}
+use Rattle.h264_verify.specs.Telling.{took_with, frame_span}
 use Rattle.h264_verify.specs.Outcome.{Plays}
 use Rattle.h264_verify.specs.StepOutcome.{steps_outcome}
 use Rattle.h264_verify.specs.Content as contents
 use Rattle.h264_verify.specs.History.{History, maps_of}
 use Rattle.h264_verify.specs.Pictures.{CodedSlice, with_sets, begins_at, joined_to, goes_on, runs_of}
 use Rattle.h264_verify.specs.Keeping.{KeepsSlices, KeepsPictures, WhereMade, EntersBy, GoesWith, KeepsSomeRules, told_rules}
-use Rattle.h264_verify.specs.Framing.{JudgesSlice, PlacesSlice}
+use Rattle.h264_verify.specs.Framing.{JudgesSlice, PlacesSlice, slice_after}
 use Rattle.h264_verify.specs.Sound.{IsMarked, NamesSet, AreSound}
 use Rattle.h264_verify.proofs.Entering.{slice-keeps}
 use Rattle.h264_verify.proofs.Ruling.{goes-with}
 use Rattle.h264_verify.proofs.Standing.{stands-if, before-active, joined-sound, gap-filled, joined-active, joined-named}
 use Rattle.h264_verify.proofs.Judged.{closed-on, own-then}
 
-module _ {S : Type 0} (mode : Mode) (took : S → List Call → Type 0) (failures : S → ℕ) (frames : ℕ → Frame) (before : History) (unit : NalUnit) (h : Header) (begins : Bool) (old mid : State) (s s1 : S) (placed : PlacesSlice mode took failures frames before unit h begins old mid s s1) where
+module _ {S : Type 0} (mode : Mode) (took : S → List Call → Type 0) (failures : S → ℕ) (frames : ℕ → Frame) (before : History) (unit : NalUnit) (h : Header) (begins : Bool) (old mid : State) (s s1 : S) (placed : PlacesSlice mode (frame_span took failures frames s s1) (slice_after before unit h begins) old mid) where
   -- there are pictures of which this is kept before its rules
   pub some-rules : KeepsSomeRules begins mid.slices mid.decoder
   some-rules = record { mode = mode; frames = placed.closes.made; before = before; slices_are = placed.ended; keeps = placed.closes.keeps }
@@ -49,7 +49,7 @@ module _ {S : Type 0} (mode : Mode) (took : S → List Call → Type 0) (failure
 
     module _ (b : begins ≡ begins_at before h) where
       -- what comes to pass of it
-      pub judges-rules : (new : Option Decoder) (s2 : S) (r : Result (Unit {0}) Stop) → Plays (took_with placed.closes.made took) failures (λ (x : Unit {0}). x) (steps_outcome (told_rules mode begins (runs_of before) (slice []))) s1 s2 r → OnOk r (WhereMade mode (EntersBy placed.closes.made begins (slice []) (goes_on before) (runs_of before)) new) → JudgesSlice mode took failures frames before unit h (pps, sps) begins new s s2 r
+      pub judges-rules : (new : Option Decoder) (s2 : S) (r : Result (Unit {0}) Stop) → Plays (span (took_with placed.closes.made took) failures s1 s2) (λ (x : Unit {0}). x) (steps_outcome (told_rules mode begins (runs_of before) (slice []))) r → OnOk r (WhereMade mode (EntersBy placed.closes.made begins (slice []) (goes_on before) (runs_of before)) new) → JudgesSlice mode (frame_span took failures frames s s2) (slice_after before unit h begins) (pps, sps) new r
       judges-rules new s2 r plays enters = record {
         made = placed.closes.made;
         same = placed.closes.same;

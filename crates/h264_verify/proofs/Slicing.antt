@@ -1,6 +1,7 @@
 -- Rules one after another, and the sets of a slice.
 use Rattle.std.proofs.Common.{OnOk, IsTrue, IsFalse, ◌⊎◌, inl, inr, IfNone, ◌≡◌, ℕ, ◌*◌, Bool, true, false, List, [], ◌∷◌, ◌++◌, Option, Some, None, Result, Ok, Err, refl, ap, sym, ◌∙◌, subst, append_assoc, ◌||◌, if◌then◌else◌}
 use Rattle.std.specs.Option.{is_some, option_map}
+use Rattle.h264_base.specs.Call.{span}
 use Rattle.h264_base.specs.declared.rule.Rule.TheVariants.{SetChanged}
 use Rattle.h264_base.specs.declared.stop.Stop.{Stop}
 use Rattle.h264_base.specs.declared.stop.Stop.TheVariants.{No}
@@ -145,8 +146,8 @@ ok-true true x e h = refl
 ok-true false x e h = cc
 
 -- a stop that these steps come to
-pub refused : {S : Type 0} (took : S → List Told → Type 0) (failures : S → ℕ) (steps : List Step) (s : S) (e : Stop) → steps_outcome steps ≡ answers (Err e) → IsNamed e → Plays took failures (λ (x : Unit {0}). x) (steps_outcome steps) s s (Err e)
-refused took failures steps s e h n = subst (λ (o : Outcome (Unit {0})). Plays took failures (λ (x : Unit {0}). x) o s s (Err e)) (sym h) (answers-plays took failures e s n)
+pub refused : {S : Type 0} (took : S → List Told → Type 0) (failures : S → ℕ) (steps : List Step) (s : S) (e : Stop) → steps_outcome steps ≡ answers (Err e) → IsNamed e → Plays (span took failures s s) (λ (x : Unit {0}). x) (steps_outcome steps) (Err e)
+refused took failures steps s e h n = subst (λ (o : Outcome (Unit {0})). Plays (span took failures s s) (λ (x : Unit {0}). x) o (Err e)) (sym h) (answers-plays took failures e s n)
 
 -- The steps of a slice, after what is kept of the units before it.
 module _ (mode : Mode) (before : History) (unit : NalUnit) (h : Header) (begins : Bool) (b : begins ≡ begins_at before h) where

@@ -31,7 +31,7 @@ use Rattle.h264_verify.specs.Order.{rules_of, steps_by, slice_steps}
 use Rattle.h264_verify.specs.Units.{picture_demand}
 use Rattle.h264_verify.specs.Order.{frames_at, unit_course, end_steps}
 use Rattle.h264_verify.specs.Family.{IsFrontOf}
-use Rattle.h264_verify.specs.Verdict.{IsLegal, AreLegal, IsStopAfter, AtNext, AtTail, AtEnd, Verdict}
+use Rattle.h264_verify.specs.Verdict.{IsLegal, AreLegal, IsStopAfter, AtNext, AtTail, AtEnd, Verdict, remainder}
 use Rattle.h264_verify.proofs.AgreeingUnits.{of-both, of-more, decoded-last, of-front as of-first, calls-both}
 use Rattle.h264_verify.proofs.Family.{same-on, legal-family}
 use Rattle.h264_verify.proofs.Growing.{StepsOf, needs-of, steps-of, elements-of, slice-of, picture-end-of, ended-few, ended-whole, end-of}
@@ -204,7 +204,7 @@ module _ (before : History) (p : CodedPicture) (ps : List CodedPicture) (runs : 
       steps-fair (whole_steps modes.Full before) (needs (closing_demands before) ++ rest) whole-fair
       (steps-fair (needs (closing_demands before)) rest (needs-fair (closing_demands before)) (closing-fair (needs (picture_demand modes.Full before bit ∷ []) ++ last_frames modes.Full (runs_of before))))
 
-  after-fair : (target : Target) (units : List NalUnit) (tail : Tail) (end : ℕ) (stop : Stop) (calls : List Told) → IsStopAfter (terms_of modes.Full target) before units tail end stop calls → IsFair calls
+  after-fair : (target : Target) (units : List NalUnit) (tail : Tail) (end : ℕ) (stop : Stop) (calls : List Told) → IsStopAfter (terms_of modes.Full target) before (remainder units tail end) stop calls → IsFair calls
   after-fair target units tail end stop calls (AtNext unit later e h) = stop-keeps IsFair fair-closed target before unit (fair-unit unit) stop calls h
   after-fair target units tail end stop calls (AtTail e h n) = none-fair calls n
   after-fair target units tail end stop calls (AtEnd e t h) = stop-fair (end_steps modes.Full before (8 * end)) (end-fair (8 * end)) calls stop h
@@ -242,12 +242,12 @@ told-end before bit calls h = record {
 }
 
 -- a stop
-following-of : (target : Target) (before : History) (units : List NalUnit) (tail : Tail) (end : ℕ) (stop : Stop) (calls : List Told) → IsStopAfter (terms_of modes.Full target) before units tail end stop calls → AreOf (length (runs_of before)) calls
+following-of : (target : Target) (before : History) (units : List NalUnit) (tail : Tail) (end : ℕ) (stop : Stop) (calls : List Told) → IsStopAfter (terms_of modes.Full target) before (remainder units tail end) stop calls → AreOf (length (runs_of before)) calls
 following-of target before units tail end stop calls (AtNext unit later e h) = stop-keeps (AreOf (length (runs_of before))) (of-closed (length (runs_of before))) target before unit (of-unit target before unit) stop calls h
 following-of target before units tail end stop calls (AtTail e h n) = subst (AreOf (length (runs_of before))) (sym n) tt
 following-of target before units tail end stop calls (AtEnd e t h) = subst (AreOf (length (runs_of before))) (ap (λ (o : Outcome (Unit {0})). o.calls) (stop-is (end_steps modes.Full before (8 * end)) calls stop h)) (end-of modes.Full before (8 * end))
 
-told-stop : (target : Target) (before : History) (units : List NalUnit) (tail : Tail) (end : ℕ) (stop : Stop) (calls : List Told) → IsStopAfter (terms_of modes.Full target) before units tail end stop calls → IsTold before calls
+told-stop : (target : Target) (before : History) (units : List NalUnit) (tail : Tail) (end : ℕ) (stop : Stop) (calls : List Told) → IsStopAfter (terms_of modes.Full target) before (remainder units tail end) stop calls → IsTold before calls
 told-stop target before units tail end stop calls h = record {
   of = following-of target before units tail end stop calls h;
   fair = λ p ps runs on. after-fair before p ps runs on target units tail end stop calls h;

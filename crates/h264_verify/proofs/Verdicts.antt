@@ -6,9 +6,9 @@ use Rattle.h264_verify.specs.declared.state.Terms.{Terms}
 use Rattle.h264_base.specs.declared.rule.Rule.TheVariants.{Emulation}
 use Rattle.h264_base.specs.declared.stop.Stop.{Stop}
 use Rattle.h264_base.specs.declared.stop.Stop.TheVariants.{No, Outside, Memory, Read, Write}
-use Rattle.h264_base.specs.Call.{Call}
+use Rattle.h264_base.specs.Call.{Call, span}
 use Rattle.h264_plane.specs.declared.frame.Frame.{Frame}
-use Rattle.h264_verify.specs.Telling.{Told, Tells, TellsFront, took_with}
+use Rattle.h264_verify.specs.Telling.{Told, Tells, TellsFront, took_with, frame_span}
 use Rattle.h264_units.specs.Stream.{NalUnit, IsUndecided, Tail, Zeros, Stray, Bare, Long, Cut, Splits}
 use Rattle.h264_units.specs.Splitting.{Splitting, at_start}
 use Rattle.h264_rbsp.specs.Emulation.{IsFault, IsFirstFault, emulation_checked}
@@ -19,7 +19,7 @@ use Rattle.h264_verify.specs.declared.state.Summary.{Summary}
 use Rattle.h264_verify.specs.Content.{Content}
 use Rattle.h264_verify.specs.Outcome.{Outcome, ◌>>=◌, with_calls, answers, Plays}
 use Rattle.h264_verify.specs.Judging.{unless, tail_outcome, units_outcome, Comes, judging}
-use Rattle.h264_verify.specs.Session.{Standing, ToCome, ShowsUnits, Leads, Way, Goes, RansBy, LacksNext, Lacks, Lacking}
+use Rattle.h264_verify.specs.Session.{Standing, ToCome, ShowsUnits, Leads, Way, Goes, RansBy, LacksNext, Lacks, Lacking, stretch, standing}
 use Rattle.h264_verify.specs.Session as lacking
 use Rattle.h264_units.proofs.Total.{some-split}
 use Rattle.h264_verify.proofs.Lacking.{same-stop, stops-lacks}
@@ -33,7 +33,7 @@ use Rattle.h264_verify.specs.StepOutcome.{steps_outcome, course_outcome}
 use Rattle.h264_verify.specs.UnitOutcome.{unit_outcome, end_outcome}
 use Rattle.h264_verify.specs.Progress.{Progress, IsFresh}
 use Rattle.h264_verify.specs.Feeding.{standing_after, GoesOn, StopsOn, FinishesOn, FedOn, JudgesWith, WasFed, IsFed}
-use Rattle.h264_verify.specs.Verdict.{IsSound, IsLegal, IsStop, AtBytes, InCourse, in_order, AreLegal, Holds, IsStopAfter, AtNext, AtTail, AtEnd, StopsAt, Verdict, Whole, Front, IsWanting, BeforeNext, ForPicture, WantsAt, Wanting, JudgedBy, Judged}
+use Rattle.h264_verify.specs.Verdict.{IsSound, IsLegal, IsStop, AtBytes, InCourse, in_order, AreLegal, Holds, IsStopAfter, AtNext, AtTail, AtEnd, StopsAt, Verdict, Whole, Front, IsWanting, BeforeNext, ForPicture, WantsAt, Wanting, JudgedBy, Judged, remainder}
 use Rattle.h264_verify.proofs.Tellings.{tells-none}
 use Rattle.h264_verify.proofs.AgreeingUnits.{of-both, of-more}
 use Rattle.h264_verify.proofs.Feeding.{with-both, goes-both}
@@ -140,7 +140,7 @@ holds-comes terms bytes calls summary h = record {
     at-length : (n : ℕ) → end_outcome terms.mode h.units (8 * (0 + n)) ≡ end_outcome terms.mode h.units (8 * n)
     at-length n = let e : 0 + n ≡ n = omega arith in ap (λ k. end_outcome terms.mode h.units (8 * k)) e
 
-stop-after : (terms : Terms) (before : History) (units : List NalUnit) (tail : Tail) (end : ℕ) (stop : Stop) (calls : List Told) → IsStopAfter terms before units tail end stop calls → units_outcome (judging terms) before units tail end ≡ record { calls = calls; answer = Err stop }
+stop-after : (terms : Terms) (before : History) (units : List NalUnit) (tail : Tail) (end : ℕ) (stop : Stop) (calls : List Told) → IsStopAfter terms before (remainder units tail end) stop calls → units_outcome (judging terms) before units tail end ≡ record { calls = calls; answer = Err stop }
 unfolding ◌>>=◌
 stop-after terms before units tail end stop calls (AtNext unit later e h) =
     ap (λ us. units_outcome (judging terms) before us tail end) e
@@ -176,7 +176,7 @@ verdict-comes terms bytes calls (Err stop) h = stops-comes terms bytes calls sto
 -- all is legal, or the verdict falls somewhere
 data Among (terms : Terms) (units : List NalUnit) (tail : Tail) (end : ℕ) : Type 0 where
   AllLegal : (reads : History) (first last : List Told) → units ≡ in_order reads [] → tail ≡ Zeros → AreLegal terms reads first → AreMet (end_steps terms.mode reads (8 * end)) last → Among terms units tail end
-  Falls : (before : History) (rest : List NalUnit) (first last : List Told) (stop : Stop) → units ≡ in_order before rest → AreLegal terms before first → IsStopAfter terms before rest tail end stop last → Among terms units tail end
+  Falls : (before : History) (rest : List NalUnit) (first last : List Told) (stop : Stop) → units ≡ in_order before rest → AreLegal terms before first → IsStopAfter terms before (remainder rest tail end) stop last → Among terms units tail end
 
 among-end : (terms : Terms) (before : History) (earlier : List Told) (end : ℕ) → AreLegal terms before earlier → stepping.Either (end_steps terms.mode before (8 * end)) → Among terms (in_order before []) Zeros end
 among-end terms before earlier end l (inl h) = AllLegal before earlier h.0 refl refl l h.1
@@ -254,18 +254,18 @@ wants-at terms bytes before told all units tail calls l s e k =
       calls_are = ap (λ c. told ++ c) k.calls_are ∙ sym (append_assoc told k.first k.last);
     }
 
-wanting : {S : Type 0} (terms : Terms) (took : S → List Told → Type 0) (bytes : List ℕ) (before : History) (told : List Told) (at : ℕ) (rest : List ℕ) (s s' : S) → AreLegal terms before told → ((all : List NalUnit) (tail : Tail) → Splits 0 bytes all tail → (units : List NalUnit) × (all ≡ in_order before [] ++ units) × Splits at rest units tail) → Lacking (judging terms) took at before rest s s' → Wanting terms took bytes told s s'
-wanting terms took bytes before told at rest s s' l cut k =
+wanting : {S : Type 0} (terms : Terms) (took : S → List Told → Type 0) (failures : S → ℕ) (bytes : List ℕ) (before : History) (told : List Told) (at : ℕ) (rest : List ℕ) (s s' : S) → AreLegal terms before told → ((all : List NalUnit) (tail : Tail) → Splits 0 bytes all tail → (units : List NalUnit) × (all ≡ in_order before [] ++ units) × Splits at rest units tail) → Lacking (judging terms) (span took failures s s') at before rest → Wanting terms (span took failures s s') bytes told
+wanting terms took failures bytes before told at rest s s' l cut k =
     let all = some-split 0 bytes (omega arith) in
     let u = cut all.units all.tail all.splits in
     record { more = k.calls; tells = k.tells; wants = wants-at terms bytes before told all.units u.0 all.tail k.calls l all.splits u.1 (k.lacks u.0 all.tail u.2) }
 
 -- What was played of the stream's outcome, after what a sink was told before, is its verdict.
 module _ {S : Type 0} (terms : Terms) (took : S → List Told → Type 0) (failures : S → ℕ) (bytes : List ℕ) (calls : List Told) (later : Outcome Summary) (s s' : S) (v : (answer : Result Summary Stop) → later.answer ≡ answer → Verdict terms bytes (calls ++ later.calls) answer) where
-  whole : (answer : Result Summary Stop) → later.answer ≡ answer → Tells took s s' later.calls → Whole terms took bytes calls s s' answer
+  whole : (answer : Result Summary Stop) → later.answer ≡ answer → Tells took s s' later.calls → Whole terms (span took failures s s') bytes calls answer
   whole answer e t = record { more = later.calls; tells = t; verdict = v answer e }
 
-  front : TellsFront took s s' later.calls → Front terms took bytes calls s s'
+  front : TellsFront took s s' later.calls → Front terms (span took failures s s') bytes calls
   front t = record {
     more = t.front;
     tells = t.tells;
@@ -274,7 +274,7 @@ module _ {S : Type 0} (terms : Terms) (took : S → List Told → Type 0) (failu
     verdict = subst (λ l. Verdict terms bytes l later.answer) (ap (λ l. calls ++ l) t.whole ∙ sym (append_assoc calls t.front t.rest)) (v later.answer refl);
   }
 
-  judged-by : (result : Result Summary Stop) → RansBy took failures later s s' result → (result ≡ Err Memory → Wanting terms took bytes calls s s') → JudgedBy terms took failures bytes calls s s' result
+  judged-by : (result : Result Summary Stop) → RansBy (span took failures s s') later result → (result ≡ Err Memory → Wanting terms (span took failures s s') bytes calls) → JudgedBy terms (span took failures s s') bytes calls result
   judged-by (Ok x) p w = (whole (Ok x) p.plays.0 p.plays.1, p.plays.2)
   judged-by (Err (No bit rule)) p w = (whole (Err (No bit rule)) p.plays.0 p.plays.1, p.plays.2)
   judged-by (Err (Outside bit feature)) p w = (whole (Err (Outside bit feature)) p.plays.0 p.plays.1, p.plays.2)
@@ -283,17 +283,17 @@ module _ {S : Type 0} (terms : Terms) (took : S → List Told → Type 0) (failu
   judged-by (Err Write) p w = (front p.plays.0, p.plays.1)
 
 -- what was judged by the fold has this verdict
-pub judges-judged : {S : Type 0} (terms : Terms) (took : S → List Call → Type 0) (failures : S → ℕ) (bytes : List ℕ) (frames : ℕ → Frame) (s s' : S) (result : Result Summary Stop) → JudgesWith terms took failures bytes s s' result → Judged terms took failures bytes frames [] s s' result
+pub judges-judged : {S : Type 0} (terms : Terms) (took : S → List Call → Type 0) (failures : S → ℕ) (bytes : List ℕ) (frames : ℕ → Frame) (s s' : S) (result : Result Summary Stop) → JudgesWith terms (span took failures s s') bytes result → Judged terms (span took failures s s') bytes frames [] result
 judges-judged terms took failures bytes frames s s' result w =
     let j = w.judges in
     record {
       made = w.frames;
       same = record { calls = refl; decoded = λ x. x };
       judged = judged-by terms (took_with w.frames took) failures bytes [] j.outcome s s' (λ answer e. subst (Verdict terms bytes j.outcome.calls) e (comes-verdict terms bytes j.outcome j.comes)) result j.ran
-          (λ e. wanting terms (took_with w.frames took) bytes [] [] 0 bytes s s' refl (λ all tail sp. (all, refl, sp)) (j.lacks e));
+          (λ e. wanting terms (took_with w.frames took) failures bytes [] [] 0 bytes s s' refl (λ all tail sp. (all, refl, sp)) (j.lacks e));
     }
 
-plays-rans : {S : Type 0} (took : S → List Told → Type 0) (failures : S → ℕ) (o : Outcome Summary) (s s' : S) (r : Result Summary Stop) → Plays took failures (λ (x : Summary). x) o s s' r → RansBy took failures o s s' r
+plays-rans : {S : Type 0} (took : S → List Told → Type 0) (failures : S → ℕ) (o : Outcome Summary) (s s' : S) (r : Result Summary Stop) → Plays (span took failures s s') (λ (x : Summary). x) o r → RansBy (span took failures s s') o r
 plays-rans took failures o s s' (Ok x) p = p
 plays-rans took failures o s s' (Err (No bit rule)) p = p
 plays-rans took failures o s s' (Err (Outside bit feature)) p = p
@@ -324,17 +324,17 @@ fed-later {terms} {session} {bytes} {told} w more o c =
 pub keeps-as : {frames : ℕ → Frame} {before : History} {state : State} {t t' : Terms} → t ≡ t' → Keeps t.mode frames before state → Keeps t'.mode frames before state
 keeps-as {frames} {before} {state} e k = subst (λ (t : Terms). Keeps t.mode frames before state) e k
 
-pub goes-as : {S : Type 0} {took : S → List Call → Type 0} {frames : ℕ → Frame} {old : Standing History} {split : Splitting} {state : State} {piece left : List ℕ} {s s' : S} {t t' : Terms} → t ≡ t' → GoesOn t took frames old split state piece left s s' → GoesOn t' took frames old split state piece left s s'
-goes-as {took} {frames} {old} {split} {state} {piece} {left} {s} {s'} e f = subst (λ t. GoesOn t took frames old split state piece left s s') e f
+pub goes-as : {S : Type 0} {took : S → List Call → Type 0} {failures : S → ℕ} {frames : ℕ → Frame} {old : Standing History} {split : Splitting} {state : State} {piece left : List ℕ} {s s' : S} {t t' : Terms} → t ≡ t' → GoesOn t (frame_span took failures frames s s') (stretch old (standing split state) piece left) → GoesOn t' (frame_span took failures frames s s') (stretch old (standing split state) piece left)
+goes-as {took} {failures} {frames} {old} {split} {state} {piece} {left} {s} {s'} e f = subst (λ t. GoesOn t (frame_span took failures frames s s') (stretch old (standing split state) piece left)) e f
 
-pub stops-as : {S : Type 0} {took : S → List Call → Type 0} {failures : S → ℕ} {frames : ℕ → Frame} {old : Standing History} {piece : List ℕ} {s s' : S} {stop : Stop} {t t' : Terms} → t ≡ t' → StopsOn t took failures frames old piece s s' stop → StopsOn t' took failures frames old piece s s' stop
-stops-as {took} {failures} {frames} {old} {piece} {s} {s'} {stop} e f = subst (λ t. StopsOn t took failures frames old piece s s' stop) e f
+pub stops-as : {S : Type 0} {took : S → List Call → Type 0} {failures : S → ℕ} {frames : ℕ → Frame} {old : Standing History} {piece : List ℕ} {s s' : S} {stop : Stop} {t t' : Terms} → t ≡ t' → StopsOn t (frame_span took failures frames s s') old piece stop → StopsOn t' (frame_span took failures frames s s') old piece stop
+stops-as {took} {failures} {frames} {old} {piece} {s} {s'} {stop} e f = subst (λ t. StopsOn t (frame_span took failures frames s s') old piece stop) e f
 
-pub finishes-as : {S : Type 0} {took : S → List Call → Type 0} {failures : S → ℕ} {frames : ℕ → Frame} {old : Standing History} {s s' : S} {r : Result Summary Stop} {t t' : Terms} → t ≡ t' → FinishesOn t took failures frames old s s' r → FinishesOn t' took failures frames old s s' r
-finishes-as {took} {failures} {frames} {old} {s} {s'} {r} e f = subst (λ t. FinishesOn t took failures frames old s s' r) e f
+pub finishes-as : {S : Type 0} {took : S → List Call → Type 0} {failures : S → ℕ} {frames : ℕ → Frame} {old : Standing History} {s s' : S} {r : Result Summary Stop} {t t' : Terms} → t ≡ t' → FinishesOn t (frame_span took failures frames s s') old r → FinishesOn t' (frame_span took failures frames s s') old r
+finishes-as {took} {failures} {frames} {old} {s} {s'} {r} e f = subst (λ t. FinishesOn t (frame_span took failures frames s s') old r) e f
 
 -- a piece more
-fed-piece : {S : Type 0} (terms : Terms) (took : S → List Call → Type 0) (failures : S → ℕ) (old new : Progress) (bytes piece : List ℕ) (frames : ℕ → Frame) (told : List Told) (s s' : S) (w : WasFed terms old bytes frames told) → new.terms ≡ old.terms → new.stop ≡ None → IsUndecided new.split.rest → GoesOn terms took frames (standing_after old.split w.before) new.split new.state piece [] s s' → failures s' ≡ failures s → IsFed terms took failures new (bytes ++ piece) frames told s s'
+fed-piece : {S : Type 0} (terms : Terms) (took : S → List Call → Type 0) (failures : S → ℕ) (old new : Progress) (bytes piece : List ℕ) (frames : ℕ → Frame) (told : List Told) (s s' : S) (w : WasFed terms old bytes frames told) → new.terms ≡ old.terms → new.stop ≡ None → IsUndecided new.split.rest → GoesOn terms (frame_span took failures frames s s') (stretch (standing_after old.split w.before) (standing new.split new.state) piece []) → failures s' ≡ failures s → IsFed terms (span took failures s s') new (bytes ++ piece) frames told
 fed-piece terms took failures old new bytes piece frames told s s' w m runs u on k =
     let g = on.goes in
     let legal = leads-legal terms on.after w.before g.way.units g.calls told g.way.led w.legal in
@@ -366,55 +366,55 @@ fed-piece terms took failures old new bytes piece frames told s s' w m runs u on
         (shows-both 0 (bytes ++ piece) (in_order w.before []) units old.split.at new.split.at (old.split.rest ++ piece) new.split.rest (shows-more 0 bytes (in_order w.before []) old.split.at old.split.rest piece a) (shows-as old.split.at new.split.at units _ _ _ _ refl (append-nil new.split.rest) b))
 
 -- a stop, however the input goes on
-fed-stop : {S : Type 0} (terms : Terms) (took : S → List Call → Type 0) (failures : S → ℕ) (old : Progress) (bytes piece : List ℕ) (frames : ℕ → Frame) (told : List Told) (s s' : S) (stop : Stop) (w : WasFed terms old bytes frames told) → StopsOn terms took failures frames (standing_after old.split w.before) piece s s' stop → (later : List ℕ) → Judged terms took failures ((bytes ++ piece) ++ later) frames told s s' (Err stop)
+fed-stop : {S : Type 0} (terms : Terms) (took : S → List Call → Type 0) (failures : S → ℕ) (old : Progress) (bytes piece : List ℕ) (frames : ℕ → Frame) (told : List Told) (s s' : S) (stop : Stop) (w : WasFed terms old bytes frames told) → StopsOn terms (frame_span took failures frames s s') (standing_after old.split w.before) piece stop → (later : List ℕ) → Judged terms (span took failures s s') ((bytes ++ piece) ++ later) frames told (Err stop)
 fed-stop terms took failures old bytes piece frames told s s' stop w p later =
     let o = some-outcome (judging terms) [] (bytes ++ (piece ++ later)) in
     let f = fed-later w (piece ++ later) o.0 o.1 in
     let cut = λ (all : List NalUnit) (tail : Tail) (sp : Splits 0 (bytes ++ (piece ++ later)) all tail). splits-shown 0 bytes (in_order w.before []) old.split.at old.split.rest (piece ++ later) all tail w.shown sp in
-    subst (λ l. Judged terms took failures l frames told s s' (Err stop)) (sym (append_assoc bytes piece later))
+    subst (λ l. Judged terms (span took failures s s') l frames told (Err stop)) (sym (append_assoc bytes piece later))
     (record {
       made = p.made;
       same = told-agree (ended_in w.before) frames p.made told p.same w.of;
       judged = judged-by terms (took_with p.made took) failures (bytes ++ (piece ++ later)) told f.0 s s' f.2 (Err stop) (stops-plays (judging terms) (took_with p.made took) failures (standing_after old.split w.before) piece later s s' stop f.0 p.stops.stops f.1)
-          (λ e. wanting terms (took_with p.made took) (bytes ++ (piece ++ later)) w.before told old.split.at (old.split.rest ++ (piece ++ later)) s s' w.legal cut (stops-lacks (judging terms) (took_with p.made took) failures (standing_after old.split w.before) piece later s s' stop p.stops.stops (same-stop stop Memory e)));
+          (λ e. wanting terms (took_with p.made took) failures (bytes ++ (piece ++ later)) w.before told old.split.at (old.split.rest ++ (piece ++ later)) s s' w.legal cut (stops-lacks (judging terms) (took_with p.made took) failures (standing_after old.split w.before) piece later s s' stop p.stops.stops (same-stop stop Memory e)));
     })
 
 -- the end of the input
-pub fed-end : {S : Type 0} (terms : Terms) (took : S → List Call → Type 0) (failures : S → ℕ) (session : Progress) (bytes : List ℕ) (frames : ℕ → Frame) (told : List Told) (s s' : S) (r : Result Summary Stop) (w : WasFed terms session bytes frames told) → FinishesOn session.terms took failures frames (standing_after session.split w.before) s s' r → Judged terms took failures bytes frames told s s' r
+pub fed-end : {S : Type 0} (terms : Terms) (took : S → List Call → Type 0) (failures : S → ℕ) (session : Progress) (bytes : List ℕ) (frames : ℕ → Frame) (told : List Told) (s s' : S) (r : Result Summary Stop) (w : WasFed terms session bytes frames told) → FinishesOn session.terms (frame_span took failures frames s s') (standing_after session.split w.before) r → Judged terms (span took failures s s') bytes frames told r
 fed-end terms took failures session bytes frames told s s' r w q =
     let p = finishes-as w.terms_is q in
     let o = some-outcome (judging terms) [] (bytes ++ []) in
     let f = fed-later w [] o.0 o.1 in
     let cut = λ (all : List NalUnit) (tail : Tail) (sp : Splits 0 (bytes ++ []) all tail). splits-shown 0 bytes (in_order w.before []) session.split.at session.split.rest [] all tail w.shown sp in
-    subst (λ l. Judged terms took failures l frames told s s' r) (append-nil bytes)
+    subst (λ l. Judged terms (span took failures s s') l frames told r) (append-nil bytes)
     (record {
       made = p.made;
       same = told-agree (ended_in w.before) frames p.made told p.same w.of;
       judged = judged-by terms (took_with p.made took) failures (bytes ++ []) told f.0 s s' f.2 r (plays-rans (took_with p.made took) failures f.0 s s' r (p.finishes.finishes f.0 f.1))
-          (λ e. wanting terms (took_with p.made took) (bytes ++ []) w.before told session.split.at (session.split.rest ++ []) s s' w.legal cut (p.finishes.lacks e));
+          (λ e. wanting terms (took_with p.made took) failures (bytes ++ []) w.before told session.split.at (session.split.rest ++ []) s s' w.legal cut (p.finishes.lacks e));
     })
 
 -- as the answer of a call
-pub fed-ok : {S : Type 0} (terms : Terms) (took : S → List Call → Type 0) (failures : S → ℕ) (old new : Progress) (bytes piece : List ℕ) (frames : ℕ → Frame) (told : List Told) (s s' : S) (r : Result (Unit {0}) Stop) (w : WasFed terms old bytes frames told) → new.terms ≡ old.terms → OnOk r (new.stop ≡ None) → OnOk r (IsUndecided old.split.rest → IsUndecided new.split.rest) → OnOk r (GoesOn old.terms took frames (standing_after old.split w.before) new.split new.state piece [] s s') → OnOk r (failures s' ≡ failures s) → OnOk r (IsFed terms took failures new (bytes ++ piece) frames told s s')
+pub fed-ok : {S : Type 0} (terms : Terms) (took : S → List Call → Type 0) (failures : S → ℕ) (old new : Progress) (bytes piece : List ℕ) (frames : ℕ → Frame) (told : List Told) (s s' : S) (r : Result (Unit {0}) Stop) (w : WasFed terms old bytes frames told) → new.terms ≡ old.terms → OnOk r (new.stop ≡ None) → OnOk r (IsUndecided old.split.rest → IsUndecided new.split.rest) → OnOk r (GoesOn old.terms (frame_span took failures frames s s') (stretch (standing_after old.split w.before) (standing new.split new.state) piece [])) → OnOk r (failures s' ≡ failures s) → OnOk r (IsFed terms (span took failures s s') new (bytes ++ piece) frames told)
 fed-ok terms took failures old new bytes piece frames told s s' (Ok x) w m runs u g k = fed-piece terms took failures old new bytes piece frames told s s' w m runs (u w.undecided) (goes-as w.terms_is g) k
 fed-ok terms took failures old new bytes piece frames told s s' (Err e) w m runs u g k = tt
 
-pub fed-err : {S : Type 0} (terms : Terms) (took : S → List Call → Type 0) (failures : S → ℕ) (old : Progress) (bytes piece : List ℕ) (frames : ℕ → Frame) (told : List Told) (s s' : S) (r : Result (Unit {0}) Stop) (w : WasFed terms old bytes frames told) → IfErr r (StopsOn old.terms took failures frames (standing_after old.split w.before) piece s s') → IfErr r (λ stop. (later : List ℕ) → Judged terms took failures ((bytes ++ piece) ++ later) frames told s s' (Err stop))
+pub fed-err : {S : Type 0} (terms : Terms) (took : S → List Call → Type 0) (failures : S → ℕ) (old : Progress) (bytes piece : List ℕ) (frames : ℕ → Frame) (told : List Told) (s s' : S) (r : Result (Unit {0}) Stop) (w : WasFed terms old bytes frames told) → IfErr r (StopsOn old.terms (frame_span took failures frames s s') (standing_after old.split w.before) piece) → IfErr r (λ stop. (later : List ℕ) → Judged terms (span took failures s s') ((bytes ++ piece) ++ later) frames told (Err stop))
 fed-err terms took failures old bytes piece frames told s s' (Ok x) w p = tt
 fed-err terms took failures old bytes piece frames told s s' (Err stop) w p = fed-stop terms took failures old bytes piece frames told s s' stop w (stops-as w.terms_is p)
 
 -- ---- a source
 
 -- before its first read
-none-yet : {S : Type 0} (terms : Terms) (took : S → List Told → Type 0) (split : Splitting) (s : S) → split ≡ at_start → Goes (judging terms) took (standing_after at_start []) (standing_after split []) [] [] s s
+none-yet : {S : Type 0} (terms : Terms) (took : S → List Told → Type 0) {failures : S → ℕ} (split : Splitting) (s : S) → split ≡ at_start → Goes (judging terms) (span took failures s s) (stretch (standing_after at_start []) (standing_after split []) [] [])
 none-yet terms took split s e = record {
   calls = [];
   tells = tells-none took s;
-  way = subst (λ (w : Splitting). Way (judging terms) (standing_after at_start []) (standing_after w []) [] [] []) (sym e) (way-none (judging terms) (standing_after at_start []) []);
+  way = subst (λ (w : Splitting). Way (judging terms) (stretch (standing_after at_start []) (standing_after w []) [] []) []) (sym e) (way-none (judging terms) (standing_after at_start []) []);
   after = λ more o c. (o, subst (λ (w : Splitting). ToCome (judging terms) (standing_after w []) more o) (sym e) c, refl);
 }
 
-pub fed-first : {S : Type 0} (terms : Terms) (took : S → List Call → Type 0) (known : Option (List ℕ)) (bytes : List ℕ) (session : Progress) (frames : ℕ → Frame) (s : S) → IsFresh session terms → known ≡ Some bytes → FedOn terms took known bytes session s s
+pub fed-first : {S : Type 0} (terms : Terms) (took : S → List Call → Type 0) {failures : S → ℕ} (known : Option (List ℕ)) (bytes : List ℕ) (session : Progress) (frames : ℕ → Frame) (s : S) → IsFresh session terms → known ≡ Some bytes → FedOn terms (span took failures s s) known bytes session
 unfolding none-yet
 fed-first terms took known bytes session frames s f h = record {
   terms_is = f.terms_is;
@@ -426,7 +426,7 @@ fed-first terms took known bytes session frames s f h = record {
 }
 
 -- an interrupted read took no byte
-pub fed-again : {S : Type 0} {terms : Terms} {took : S → List Call → Type 0} {known : Option (List ℕ)} {bytes : List ℕ} {session : Progress} {s s' : S} (known' : Option (List ℕ)) → ((left : List ℕ) → known ≡ Some left → known' ≡ Some left) → FedOn terms took known bytes session s s' → FedOn terms took known' bytes session s s'
+pub fed-again : {S : Type 0} {terms : Terms} {took : S → List Call → Type 0} {failures : S → ℕ} {known : Option (List ℕ)} {bytes : List ℕ} {session : Progress} {s s' : S} (known' : Option (List ℕ)) → ((left : List ℕ) → known ≡ Some left → known' ≡ Some left) → FedOn terms (span took failures s s') known bytes session → FedOn terms (span took failures s s') known' bytes session
 unfolding fed-same
 fed-again {terms} {took} {known} {bytes} {session} {s} {s'} known' r f = record {
   terms_is = f.terms_is;
@@ -438,7 +438,7 @@ fed-again {terms} {took} {known} {bytes} {session} {s} {s'} known' r f = record 
 }
 
 -- a piece more
-pub fed-more : {S : Type 0} {terms : Terms} {took : S → List Call → Type 0} {known : Option (List ℕ)} {bytes : List ℕ} {old new : Progress} {s0 s1 s2 : S} (known' : Option (List ℕ)) (piece : List ℕ) (n : ℕ) → new.terms ≡ old.terms → ((left : List ℕ) → known ≡ Some left → (left ≡ take n piece ++ drop n left) × (known' ≡ Some (drop n left))) → (f : FedOn terms took known bytes old s0 s1) → GoesOn old.terms took f.frames (standing_after old.split f.after) new.split new.state (take n piece) [] s1 s2 → FedOn terms took known' bytes new s0 s2
+pub fed-more : {S : Type 0} {terms : Terms} {took : S → List Call → Type 0} {failures : S → ℕ} {known : Option (List ℕ)} {bytes : List ℕ} {old new : Progress} {s0 s1 s2 : S} (known' : Option (List ℕ)) (piece : List ℕ) (n : ℕ) → new.terms ≡ old.terms → ((left : List ℕ) → known ≡ Some left → (left ≡ take n piece ++ drop n left) × (known' ≡ Some (drop n left))) → (f : FedOn terms (span took failures s0 s1) known bytes old) → GoesOn old.terms (frame_span took failures f.frames s1 s2) (stretch (standing_after old.split f.after) (standing new.split new.state) (take n piece) []) → FedOn terms (span took failures s0 s2) known' bytes new
 unfolding fed-on fed-agree goes-agree goes-then goes-both goes-more
 fed-more {terms} {took} {known} {bytes} {old} {new} {s0} {s1} {s2} known' piece n m r f q =
     let g = goes-as f.terms_is q in
@@ -452,7 +452,7 @@ fed-more {terms} {took} {known} {bytes} {old} {new} {s0} {s1} {s2} known' piece 
     }
 
 -- a stop at a piece
-pub fed-halts : {S : Type 0} {terms : Terms} {took : S → List Call → Type 0} {failures : S → ℕ} {known : Option (List ℕ)} {bytes : List ℕ} {old : Progress} {s0 s1 s2 : S} {stop : Stop} (known' : Option (List ℕ)) (piece : List ℕ) (n : ℕ) → ((left : List ℕ) → known ≡ Some left → (left ≡ take n piece ++ drop n left) × (known' ≡ Some (drop n left))) → (f : FedOn terms took known bytes old s0 s1) → failures s1 ≡ failures s0 → StopsOn old.terms took failures f.frames (standing_after old.split f.after) (take n piece) s1 s2 stop → JudgesWith terms took failures bytes s0 s2 (Err stop)
+pub fed-halts : {S : Type 0} {terms : Terms} {took : S → List Call → Type 0} {failures : S → ℕ} {known : Option (List ℕ)} {bytes : List ℕ} {old : Progress} {s0 s1 s2 : S} {stop : Stop} (known' : Option (List ℕ)) (piece : List ℕ) (n : ℕ) → ((left : List ℕ) → known ≡ Some left → (left ≡ take n piece ++ drop n left) × (known' ≡ Some (drop n left))) → (f : FedOn terms (span took failures s0 s1) known bytes old) → failures s1 ≡ failures s0 → StopsOn old.terms (frame_span took failures f.frames s1 s2) (standing_after old.split f.after) (take n piece) stop → JudgesWith terms (span took failures s0 s2) bytes (Err stop)
 fed-halts {terms} {took} {failures} {known} {bytes} {old} {s0} {s1} {s2} {stop} known' piece n r f k q =
     let p = stops-as f.terms_is q in
     record {
@@ -461,11 +461,11 @@ fed-halts {terms} {took} {failures} {known} {bytes} {old} {s0} {s1} {s2} {stop} 
     }
 
 -- the source failed
-pub fed-fails : {S : Type 0} {terms : Terms} {took : S → List Call → Type 0} {failures : S → ℕ} {known : Option (List ℕ)} {bytes : List ℕ} {session : Progress} {s s' : S} → FedOn terms took known bytes session s s' → failures s' ≡ failures s → JudgesWith terms took failures bytes s s' (Err Read)
+pub fed-fails : {S : Type 0} {terms : Terms} {took : S → List Call → Type 0} {failures : S → ℕ} {known : Option (List ℕ)} {bytes : List ℕ} {session : Progress} {s s' : S} → FedOn terms (span took failures s s') known bytes session → failures s' ≡ failures s → JudgesWith terms (span took failures s s') bytes (Err Read)
 fed-fails {terms} {took} {failures} {known} {bytes} {session} {s} {s'} f k = record { frames = f.frames; judges = fed-read (judging terms) [] (took_with f.frames took) failures known bytes (standing_after session.split f.after) s s' f.fed k }
 
 -- it has no more bytes
-pub fed-last : {S : Type 0} (terms : Terms) (took : S → List Call → Type 0) (failures : S → ℕ) (known : Option (List ℕ)) (bytes : List ℕ) (old new : Progress) (s0 s1 s1' s2 : S) (r : Result Summary Stop) → new ≡ old → s1' ≡ s1 → ((left : List ℕ) → known ≡ Some left → left ≡ []) → FedOn terms took known bytes old s0 s1 → failures s1 ≡ failures s0 → ((frames : ℕ → Frame) (before : History) → Keeps new.terms.mode frames before new.state → FinishesOn new.terms took failures frames (standing_after new.split before) s1' s2 r) → JudgesWith terms took failures bytes s0 s2 r
+pub fed-last : {S : Type 0} (terms : Terms) (took : S → List Call → Type 0) (failures : S → ℕ) (known : Option (List ℕ)) (bytes : List ℕ) (old new : Progress) (s0 s1 s1' s2 : S) (r : Result Summary Stop) → new ≡ old → s1' ≡ s1 → ((left : List ℕ) → known ≡ Some left → left ≡ []) → FedOn terms (span took failures s0 s1) known bytes old → failures s1 ≡ failures s0 → ((frames : ℕ → Frame) (before : History) → Keeps new.terms.mode frames before new.state → FinishesOn new.terms (frame_span took failures frames s1' s2) (standing_after new.split before) r) → JudgesWith terms (span took failures s0 s2) bytes r
 fed-last terms took failures known bytes old new s0 s1 s1' s2 r e d none f k p =
     let keeps = subst (λ (w : Progress). Keeps w.terms.mode f.frames f.after w.state) (sym e) f.keeps in
     let m : new.terms ≡ terms = ap (λ (w : Progress). w.terms) e ∙ f.terms_is in
@@ -476,36 +476,36 @@ fed-last terms took failures known bytes old new s0 s1 s1' s2 r e d none f k p =
     }
 
 -- nothing was fed: memory was refused at once
-pub none-judged : {S : Type 0} (terms : Terms) (took : S → List Call → Type 0) (failures : S → ℕ) (bytes : List ℕ) (frames : ℕ → Frame) (s : S) → JudgesWith terms took failures bytes s s (Err Memory)
+pub none-judged : {S : Type 0} (terms : Terms) (took : S → List Call → Type 0) (failures : S → ℕ) (bytes : List ℕ) (frames : ℕ → Frame) (s : S) → JudgesWith terms (span took failures s s) bytes (Err Memory)
 none-judged terms took failures bytes frames s = record { frames = frames; judges = judges-memory (judging terms) [] (took_with frames took) failures bytes s }
 
 -- ---- pieces
 
 -- no piece yet
-pub pieces-first : {S : Type 0} (terms : Terms) (took : S → List Call → Type 0) (session : Progress) (frames : ℕ → Frame) (s : S) → IsFresh session terms → GoesOn terms took frames (standing_after at_start []) session.split session.state [] [] s s
-pieces-first terms took session frames s f =
-    subst (λ (split : Splitting). GoesOn terms took frames (standing_after at_start []) split session.state [] [] s s) (sym f.split)
+pub pieces-first : {S : Type 0} (terms : Terms) (took : S → List Call → Type 0) {failures : S → ℕ} (session : Progress) (frames : ℕ → Frame) (s : S) → IsFresh session terms → GoesOn terms (frame_span took failures frames s s) (stretch (standing_after at_start []) (standing session.split session.state) [] [])
+pieces-first terms took {failures} session frames s f =
+    subst (λ (split : Splitting). GoesOn terms (frame_span took failures frames s s) (stretch (standing_after at_start []) (standing split session.state) [] [])) (sym f.split)
     (on-none terms took frames at_start [] session.state [] s (keeps-as f.terms_is (f.keeps frames)))
 
 -- one more
-pub pieces-on : {S X : Type 0} {terms : Terms} {took : S → List Call → Type 0} {frames : ℕ → Frame} {mid split : Splitting} {first state : State} {s0 s1 s2 : S} (f : X → List ℕ) (xs : List X) (i : ℕ) (x : X) (piece : List ℕ) → i < length xs → x ≡ get_or xs i x → piece ≡ f x → (a : GoesOn terms took frames (standing_after at_start []) mid first (flat_map f (take i xs)) [] s0 s1) → GoesOn terms took a.made (standing_after mid a.after) split state piece [] s1 s2 → GoesOn terms took frames (standing_after at_start []) split state (flat_map f (take (i + 1) xs)) [] s0 s2
-pieces-on {terms} {took} {frames} {mid} {split} {first} {state} {s0} {s2} f xs i x piece h e p a b =
-    subst (λ (l : List ℕ). GoesOn terms took frames (standing_after at_start []) split state l [] s0 s2) (piece-more f xs i x piece h e p) (on-then a b)
+pub pieces-on : {S X : Type 0} {terms : Terms} {took : S → List Call → Type 0} {failures : S → ℕ} {frames : ℕ → Frame} {mid split : Splitting} {first state : State} {s0 s1 s2 : S} (f : X → List ℕ) (xs : List X) (i : ℕ) (x : X) (piece : List ℕ) → i < length xs → x ≡ get_or xs i x → piece ≡ f x → (a : GoesOn terms (frame_span took failures frames s0 s1) (stretch (standing_after at_start []) (standing mid first) (flat_map f (take i xs)) [])) → GoesOn terms (frame_span took failures a.made s1 s2) (stretch (standing_after mid a.after) (standing split state) piece []) → GoesOn terms (frame_span took failures frames s0 s2) (stretch (standing_after at_start []) (standing split state) (flat_map f (take (i + 1) xs)) [])
+pieces-on {terms} {took} {failures} {frames} {mid} {split} {first} {state} {s0} {s2} f xs i x piece h e p a b =
+    subst (λ (l : List ℕ). GoesOn terms (frame_span took failures frames s0 s2) (stretch (standing_after at_start []) (standing split state) l [])) (piece-more f xs i x piece h e p) (on-then a b)
 
 -- a stop at one
-pub pieces-halt : {S : Type 0} {terms : Terms} {took : S → List Call → Type 0} {failures : S → ℕ} {frames : ℕ → Frame} {mid : Splitting} {first : State} {s0 s1 s2 : S} {stop : Stop} (bytes before piece later : List ℕ) → bytes ≡ before ++ (piece ++ later) → (a : GoesOn terms took frames (standing_after at_start []) mid first before [] s0 s1) → failures s1 ≡ failures s0 → StopsOn terms took failures a.made (standing_after mid a.after) piece s1 s2 stop → JudgesWith terms took failures bytes s0 s2 (Err stop)
+pub pieces-halt : {S : Type 0} {terms : Terms} {took : S → List Call → Type 0} {failures : S → ℕ} {frames : ℕ → Frame} {mid : Splitting} {first : State} {s0 s1 s2 : S} {stop : Stop} (bytes before piece later : List ℕ) → bytes ≡ before ++ (piece ++ later) → (a : GoesOn terms (frame_span took failures frames s0 s1) (stretch (standing_after at_start []) (standing mid first) before [])) → failures s1 ≡ failures s0 → StopsOn terms (frame_span took failures a.made s1 s2) (standing_after mid a.after) piece stop → JudgesWith terms (span took failures s0 s2) bytes (Err stop)
 pieces-halt {terms} {took} {failures} {frames} {mid} {s0} {s1} {s2} {stop} bytes before piece later e a k p = record {
   frames = p.made;
   judges = pieces-stop (judging terms) [] (took_with p.made took) failures bytes before piece later (standing_after mid a.after) s0 s1 s2 stop e (goes-agree took (ended_in a.after) a.made p.made p.same a.goes a.of) k p.stops;
 }
 
 -- all of them
-pub pieces-end : {S X : Type 0} {terms : Terms} {took : S → List Call → Type 0} {failures : S → ℕ} {frames : ℕ → Frame} {mid : Splitting} {first : State} {s0 s1 s2 : S} {r : Result Summary Stop} (f : X → List ℕ) (xs : List X) (n : ℕ) → n ≡ length xs → (a : GoesOn terms took frames (standing_after at_start []) mid first (flat_map f (take n xs)) [] s0 s1) → failures s1 ≡ failures s0 → FinishesOn terms took failures a.made (standing_after mid a.after) s1 s2 r → JudgesWith terms took failures (flat_map f xs) s0 s2 r
+pub pieces-end : {S X : Type 0} {terms : Terms} {took : S → List Call → Type 0} {failures : S → ℕ} {frames : ℕ → Frame} {mid : Splitting} {first : State} {s0 s1 s2 : S} {r : Result Summary Stop} (f : X → List ℕ) (xs : List X) (n : ℕ) → n ≡ length xs → (a : GoesOn terms (frame_span took failures frames s0 s1) (stretch (standing_after at_start []) (standing mid first) (flat_map f (take n xs)) [])) → failures s1 ≡ failures s0 → FinishesOn terms (frame_span took failures a.made s1 s2) (standing_after mid a.after) r → JudgesWith terms (span took failures s0 s2) (flat_map f xs) r
 pieces-end {terms} {took} {failures} {frames} {mid} {s0} {s1} {s2} {r} f xs n e a k p = record {
   frames = p.made;
   judges = pieces-finish (judging terms) [] (took_with p.made took) failures (flat_map f xs) (standing_after mid a.after) s0 s1 s2 r (goes-all f xs n e (goes-agree took (ended_in a.after) a.made p.made p.same a.goes a.of)) k p.finishes;
 }
 
 -- the same terms
-pub fed-as : {S : Type 0} {took : S → List Call → Type 0} {known : Option (List ℕ)} {bytes : List ℕ} {session : Progress} {s s' : S} {t t' : Terms} → t ≡ t' → FedOn t took known bytes session s s' → FedOn t' took known bytes session s s'
-fed-as {took} {known} {bytes} {session} {s} {s'} e f = subst (λ t. FedOn t took known bytes session s s') e f
+pub fed-as : {S : Type 0} {took : S → List Call → Type 0} {failures : S → ℕ} {known : Option (List ℕ)} {bytes : List ℕ} {session : Progress} {s s' : S} {t t' : Terms} → t ≡ t' → FedOn t (span took failures s s') known bytes session → FedOn t' (span took failures s s') known bytes session
+fed-as {took} {failures} {known} {bytes} {session} {s} {s'} e f = subst (λ t. FedOn t (span took failures s s') known bytes session) e f

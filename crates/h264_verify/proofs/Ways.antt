@@ -8,7 +8,7 @@ use Rattle.h264_units.proofs.Streams.{same-first, first-not-tail, splits-after}
 use Rattle.h264_units.specs.Splitting.{Splitting, Pushed, Taken}
 use Rattle.h264_verify.specs.Outcome.{Outcome}
 use Rattle.h264_verify.specs.Judging.{Judging}
-use Rattle.h264_verify.specs.Session.{Standing, ShowsUnits, Leads, Way}
+use Rattle.h264_verify.specs.Session.{Standing, ShowsUnits, Leads, Way, stretch}
 
 -- the same bytes, and the same rest
 pub shows-as : (at end : ℕ) (units : List NalUnit) (a b r s : List ℕ) → a ≡ b → r ≡ s → ShowsUnits at a units end r → ShowsUnits at b units end s
@@ -44,17 +44,17 @@ pub leads-both : {State Summary : Type 0} (j : Judging State Summary) (old mid n
 leads-both j old mid new [] vs xs ys a b = subst (λ l. Leads j old vs (l ++ ys) new) (sym a.0) (subst (λ s. Leads j s vs ys new) a.1 b)
 leads-both j old mid new (u ∷ us) vs xs ys a b = (a.0, a.1, a.2 ++ ys, a.3, leads-both j a.0 mid new us vs a.2 ys a.4 b, ap (λ l. l ++ ys) a.5 ∙ append_assoc a.1 a.2 ys)
 
-pub way-none : {State Summary : Type 0} (j : Judging State Summary) (old : Standing State) (piece : List ℕ) → Way j old old piece piece []
+pub way-none : {State Summary : Type 0} (j : Judging State Summary) (old : Standing State) (piece : List ℕ) → Way j (stretch old old piece piece) []
 way-none j old piece = record { units = []; shown = (refl, refl); led = (refl, refl) }
 
-pub way-push : {State Summary : Type 0} (j : Judging State Summary) (old new : Splitting) (state : State) (piece : List ℕ) (n : ℕ) → Pushed old new piece n → Way j (record { split = old; state = state }) (record { split = new; state = state }) piece (drop n piece) []
+pub way-push : {State Summary : Type 0} (j : Judging State Summary) (old new : Splitting) (state : State) (piece : List ℕ) (n : ℕ) → Pushed old new piece n → Way j (stretch (record { split = old; state = state }) (record { split = new; state = state }) piece (drop n piece)) []
 way-push j old new state piece n p = record {
   units = [];
   shown = (p.at_is, ap (λ l. l ++ drop n piece) p.rest_is ∙ append_assoc old.rest (take n piece) (drop n piece) ∙ ap (λ l. old.rest ++ l) (take-append-drop n piece));
   led = (refl, refl);
 }
 
-pub way-unit : {State Summary : Type 0} (j : Judging State Summary) (old new : Splitting) (state after : State) (unit : NalUnit) (left : List ℕ) → Taken old new unit → IsFalse old.ended → (j.unit state unit).answer ≡ Ok after → Way j (record { split = old; state = state }) (record { split = new; state = after }) left left (j.unit state unit).calls
+pub way-unit : {State Summary : Type 0} (j : Judging State Summary) (old new : Splitting) (state after : State) (unit : NalUnit) (left : List ℕ) → Taken old new unit → IsFalse old.ended → (j.unit state unit).answer ≡ Ok after → Way j (stretch (record { split = old; state = state }) (record { split = new; state = after }) left left) (j.unit state unit).calls
 way-unit {State} j old new state after unit left t live e = record {
   units = unit ∷ [];
   shown = (new.rest ++ left, λ more. moved more (t.decided live (left ++ more)), (t.at_is, refl));
@@ -64,7 +64,7 @@ way-unit {State} j old new state after unit left t live e = record {
     moved : (more : List ℕ) → Next old.at (old.rest ++ (left ++ more)) unit (new.rest ++ (left ++ more)) → Next old.at ((old.rest ++ left) ++ more) unit ((new.rest ++ left) ++ more)
     moved more n = subst (λ l. Next old.at l unit ((new.rest ++ left) ++ more)) (sym (append_assoc old.rest left more)) (subst (λ l. Next old.at (old.rest ++ (left ++ more)) unit l) (sym (append_assoc new.rest left more)) n)
 
-pub way-both : {State Summary : Type 0} {j : Judging State Summary} {old mid new : Standing State} {piece left last : List ℕ} {xs ys : List Told} → Way j old mid piece left xs → Way j mid new left last ys → Way j old new piece last (xs ++ ys)
+pub way-both : {State Summary : Type 0} {j : Judging State Summary} {old mid new : Standing State} {piece left last : List ℕ} {xs ys : List Told} → Way j (stretch old mid piece left) xs → Way j (stretch mid new left last) ys → Way j (stretch old new piece last) (xs ++ ys)
 way-both {j} {old} {mid} {new} {piece} {left} {last} {xs} {ys} a b = record {
   units = a.units ++ b.units;
   shown = shows-both old.split.at (old.split.rest ++ piece) a.units b.units mid.split.at new.split.at (mid.split.rest ++ left) (new.split.rest ++ last) a.shown b.shown;
@@ -72,7 +72,7 @@ way-both {j} {old} {mid} {new} {piece} {left} {last} {xs} {ys} a b = record {
 }
 
 -- bytes that come later come later
-pub way-more : {State Summary : Type 0} {j : Judging State Summary} {old new : Standing State} {a : List ℕ} {calls : List Told} (b : List ℕ) → Way j old new a [] calls → Way j old new (a ++ b) b calls
+pub way-more : {State Summary : Type 0} {j : Judging State Summary} {old new : Standing State} {a : List ℕ} {calls : List Told} (b : List ℕ) → Way j (stretch old new a []) calls → Way j (stretch old new (a ++ b) b) calls
 way-more {j} {old} {new} {a} b w = record {
   units = w.units;
   shown = shows-as old.split.at new.split.at w.units _ _ _ _ (append_assoc old.split.rest a b) (ap (λ l. l ++ b) (append-nil new.split.rest)) (shows-more old.split.at (old.split.rest ++ a) w.units new.split.at (new.split.rest ++ []) b w.shown);

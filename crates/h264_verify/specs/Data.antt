@@ -5,14 +5,13 @@ use Rattle.h264_units.specs.Stream.{NalUnit}
 use Rattle.h264_sps.specs.declared.sps.Sps.{Sps}
 use Rattle.h264_pps.specs.declared.Pps.{Pps}
 use Rattle.h264_header.specs.declared.header.Header.{Header}
-use Rattle.h264_lists.specs.declared.slot.RefSlot.{RefSlot}
 use Rattle.h264_near.specs.Coded.{CodedMacroblock}
+use Rattle.h264_vectors.specs.declared.slice.SliceContext.{SliceContext}
 use Rattle.h264_mbsyntax.specs.Slice.{slice_data}
-use Rattle.h264_picture.specs.Context.{slice_context}
 use Rattle.h264_picture.specs.Levels.{transform_fits}
 use Rattle.h264_verify.specs.History.{History}
 use Rattle.h264_verify.specs.Pictures.{CodedSlice, CodedPicture, coded_of, picture_size, with_sets, sets_at, joined_to, runs_of, begins_at}
-use Rattle.h264_verify.specs.Lists.{list_in}
+use Rattle.h264_verify.specs.Lists.{context_in}
 
 -- the sequence parameter set by which a picture is as large as it is: that of its first slice
 abbrev pub picture_set : Bool → CodedSlice → List CodedPicture → Sps
@@ -25,15 +24,15 @@ abbrev pub coded_so_far : Bool → List CodedPicture → List CodedMacroblock
 coded_so_far true pictures = []
 coded_so_far false pictures = coded_of pictures
 
--- slice data by the parameter sets, the header and the reference list, after the macroblocks so far of a picture of this size
-unfoldable pub slice_syntax : ℕ → ℕ → Pps → Sps → Header → List RefSlot → List CodedMacroblock → Grammar (List CodedMacroblock)
-slice_syntax width size pps sps h list picture = slice_data (transform_fits (slice_context pps sps h list)) width size (slice_context pps sps h list) picture
+-- slice data of a slice of this context, after the macroblocks so far of a picture of this size
+unfoldable pub slice_syntax : ℕ → ℕ → SliceContext → List CodedMacroblock → Grammar (List CodedMacroblock)
+slice_syntax width size slice picture = slice_data (transform_fits slice) width size slice picture
 
 -- slice data of a slice that begins a picture after these pictures, or belongs to the newest
 abbrev pub data_in : Bool → List CodedPicture → CodedSlice → Grammar (List CodedMacroblock)
 data_in begins pictures s =
-    slice_syntax (picture_set begins s pictures).frame_size.width (picture_size (picture_set begins s pictures)) s.pps s.sps s.header
-    (list_in (joined_to begins s pictures) s) (coded_so_far begins pictures)
+    slice_syntax (picture_set begins s pictures).frame_size.width (picture_size (picture_set begins s pictures))
+    (context_in (joined_to begins s pictures) s) (coded_so_far begins pictures)
 
 abbrev pub data_by : Option (Pps × Sps) → History → NalUnit → Header → Grammar (List CodedMacroblock)
 data_by None before unit h = Done []

@@ -13,7 +13,7 @@ use Rattle.h264_pps.specs.declared.Pps.{Pps}
 use Rattle.h264_sps.specs.declared.sps.Sps.{Sps}
 use Rattle.h264_header.specs.declared.header.Header.{Header}
 use Rattle.h264_header.specs.declared.header.Marking.{Marking}
-use Rattle.h264_header.specs.Picture.{begins_picture, picture_elements, is_idr, is_reference}
+use Rattle.h264_header.specs.Picture.{begins_picture, picture_elements, is_idr}
 use Rattle.h264_sets.specs.Sets.{Maps}
 use Rattle.h264_verify.specs.declared.frame_num.Gap.{Gap}
 use Rattle.h264_verify.specs.declared.head.SlicePlace.{SlicePlace}
@@ -50,7 +50,7 @@ use Rattle.h264_poc.specs.OfSlice.{picture_of}
 use Rattle.h264_marking.specs.Ended.{numbering_of}
 use Rattle.h264_verify.specs.Telling.{Said}
 use Rattle.h264_verify.specs.Steps.{Step, Tells, needs}
-use Rattle.h264_verify.specs.Slices.{is_i, has_i, has_p, states_type, is_idr_due, newest_idr_of, idr_demand, set_demand, type_demand, idr_num_demand}
+use Rattle.h264_verify.specs.Slices.{is_i, has_i, has_p, states_type, is_idr_due, newest_idr_of, idr_demand, set_demand, type_demand, idr_num_demand, first_bit}
 use Rattle.h264_verify.specs.Slices.{id_demand, count_demand, qp_demand, list_demand, marking_demand, slice_call}
 use Rattle.h264_verify.specs.Order.{first_slice_rules, later_slice_rules, gap_rules}
 use Rattle.h264_verify.specs.Lists.{list_of, list_in, named_in}
@@ -431,15 +431,15 @@ pub record KeepsSomeSlice (slices : Slices) (sets : Maps) (decoder : Option Deco
   pub keeps : WhereMade mode (KeepsFrames frames (goes_on before) false (runs_of before)) decoder
 
 -- The rules of a picture's first slice from its type on, by what is kept of the pictures before it.
-abbrev pub first_by : Mode → Slices → List Picture → Buffered Shown → Pps → Sps → Header → ℕ → List Step
-first_by mode slices pictures b pps sps h bit =
-    needs (type_demand sps h ∷ idr_num_demand h ∷ [])
-    ++ (gap_rules mode (is_idr h) (is_reference h) sps.gaps_in_frame_num_value_allowed_flag h.frame_num.bit slices.prev_ref_frame_num
-    (numbering_of sps h) slices.held b
-    ++ needs (id_demand slices.newest_idr h
-    ∷ count_demand (picture_of sps h ∷ pictures) bit
-    ∷ qp_demand pps h
-    ∷ list_demand (list_of h.kind.value (numbering_of sps h) (entered (is_idr h) slices.prev_ref_frame_num (numbering_of sps h) slices.held))
+abbrev pub first_by : Mode → Slices → List Picture → Buffered Shown → CodedSlice → List Step
+first_by mode slices pictures b s =
+    needs (type_demand s.sps s.header ∷ idr_num_demand s.header ∷ [])
+    ++ (gap_rules mode s slices.prev_ref_frame_num slices.held b
+    ++ needs (id_demand slices.newest_idr s.header
+    ∷ count_demand (picture_of s.sps s.header ∷ pictures) (first_bit s)
+    ∷ qp_demand s.pps s.header
+    ∷ list_demand (list_of s.header.kind.value (numbering_of s.sps s.header)
+    (entered (is_idr s.header) slices.prev_ref_frame_num (numbering_of s.sps s.header) slices.held))
     ∷ []))
 
 -- where one says so, the slices of the picture that may go on have one type

@@ -11,7 +11,6 @@ use Rattle.h264_header.specs.declared.header.Header.{Header}
 use Rattle.h264_marking.specs.Ended.{numbering_of}
 use Rattle.h264_marking.specs.Frames.{References}
 use Rattle.h264_marking.specs.Gaps.{unused_short_term_frame_nums}
-use Rattle.h264_marking.specs.declared.frame.Numbering.{Numbering}
 use Rattle.h264_poc.specs.OfSlice.{picture_of}
 use Rattle.h264_pps.specs.Pps.{pps}
 use Rattle.h264_pps.specs.declared.Pps.{Pps}
@@ -82,20 +81,20 @@ frames_at mode kind before = if ends_picture kind then closing_frames mode befor
 
 -- ---- the first slice of a picture
 
--- The rules on frame_num of a picture that begins, and between them the missing numbers before it, each of which is filled, where these
--- frames are held.
-abbrev pub gap_rules : Mode → Bool → Bool → Bool → ℕ → ℕ → Numbering → References → Buffered Shown → List Step
-gap_rules mode idr reference gaps_allowed bit prev n refs b =
-    needs (gap_demand idr gaps_allowed bit prev n ∷ [])
-    ++ (missing_steps mode bit n (unused_short_term_frame_nums idr prev n) refs b
-    ++ needs (new_num_demand idr reference bit prev n refs ∷ []))
+-- The rules on frame_num of a picture that this slice begins, and between them the missing numbers before it, each of which is filled,
+-- where PrevRefFrameNum, the held frames and the picture buffer are these.
+abbrev pub gap_rules : Mode → CodedSlice → ℕ → References → Buffered Shown → List Step
+gap_rules mode s prev refs b =
+    needs (gap_demand (is_idr s.header) s.sps.gaps_in_frame_num_value_allowed_flag s.header.frame_num.bit prev (numbering_of s.sps s.header) ∷ [])
+    ++ (missing_steps mode s.header.frame_num.bit (numbering_of s.sps s.header)
+    (unused_short_term_frame_nums (is_idr s.header) prev (numbering_of s.sps s.header)) refs b
+    ++ needs (new_num_demand (is_idr s.header) (is_reference s.header) s.header.frame_num.bit prev (numbering_of s.sps s.header) refs ∷ []))
 
 -- The rules of a picture's first slice after these pictures, the newest of which has ended, from its type on.
 abbrev pub first_slice_rules : Mode → List CodedPicture → CodedSlice → List Step
 first_slice_rules mode pictures s =
     needs (type_demand s.sps s.header ∷ idr_num_demand s.header ∷ [])
-    ++ (gap_rules mode (is_idr s.header) (is_reference s.header) s.sps.gaps_in_frame_num_value_allowed_flag s.header.frame_num.bit
-    (prev_ref_frame_num_of pictures) (numbering_of s.sps s.header) (held_after pictures) (after_all pictures).buffer
+    ++ (gap_rules mode s (prev_ref_frame_num_of pictures) (held_after pictures) (after_all pictures).buffer
     ++ needs (id_demand (newest_idr_of pictures) s.header
     ∷ count_demand (picture_of s.sps s.header ∷ map counted pictures) (first_bit s)
     ∷ qp_demand s.pps s.header

@@ -3,6 +3,7 @@ use Rattle.std.specs.Prelude.{◌≡◌, ℕ, ◌+◌, Bool, List, [], ◌∷◌
 use Rattle.h264_base.specs.declared.rule.Rule.{Rule}
 use Rattle.h264_base.specs.declared.stop.Stop.{Stop}
 use Rattle.h264_base.specs.declared.stop.Stop.TheVariants.{No, Outside, Memory, Read, Write}
+use Rattle.h264_base.specs.Call.{SinkSpan}
 use Rattle.h264_base.specs.Body.{Body}
 use Rattle.h264_base.specs.Grammar.{Grammar}
 use Rattle.h264_base.specs.Run.{run}
@@ -55,14 +56,14 @@ abbrev pub structure_outcome : {A : Type 0} → Grammar A → Body → Outcome A
 structure_outcome g body = record { calls = map (said_of body) (run g body 0).elements; answer = value_of (run g body 0).answer }
 
 -- The sink was told this, and this was answered; or the sink failed, or memory was refused, with only the first calls made.
-abbrev pub PlaysBy : {X A S : Type 0} → (S → List Told → Type 0) → (S → ℕ) → (X → A) → Outcome A → S → S → Result X Stop → Type 0
-PlaysBy took failures view o s s' (Ok x) = (o.answer ≡ Ok (view x)) × Tells took s s' o.calls × (failures s' ≡ failures s)
-PlaysBy took failures view o s s' (Err Write) = TellsFront took s s' o.calls × (failures s' ≡ failures s + 1)
-PlaysBy took failures view o s s' (Err Memory) = TellsFront took s s' o.calls × (failures s' ≡ failures s)
-PlaysBy took failures view o s s' (Err Read) = ⊥
-PlaysBy took failures view o s s' (Err (No bit rule)) = (o.answer ≡ Err (No bit rule)) × Tells took s s' o.calls × (failures s' ≡ failures s)
-PlaysBy took failures view o s s' (Err (Outside bit feature)) = (o.answer ≡ Err (Outside bit feature)) × Tells took s s' o.calls × (failures s' ≡ failures s)
+abbrev pub PlaysBy : {X A S : Type 0} → SinkSpan S Told → (X → A) → Outcome A → Result X Stop → Type 0
+PlaysBy w view o (Ok x) = (o.answer ≡ Ok (view x)) × Tells w.took w.old w.new o.calls × (w.failures w.new ≡ w.failures w.old)
+PlaysBy w view o (Err Write) = TellsFront w.took w.old w.new o.calls × (w.failures w.new ≡ w.failures w.old + 1)
+PlaysBy w view o (Err Memory) = TellsFront w.took w.old w.new o.calls × (w.failures w.new ≡ w.failures w.old)
+PlaysBy w view o (Err Read) = ⊥
+PlaysBy w view o (Err (No bit rule)) = (o.answer ≡ Err (No bit rule)) × Tells w.took w.old w.new o.calls × (w.failures w.new ≡ w.failures w.old)
+PlaysBy w view o (Err (Outside bit feature)) =
+    (o.answer ≡ Err (Outside bit feature)) × Tells w.took w.old w.new o.calls × (w.failures w.new ≡ w.failures w.old)
 
-pub record Plays {X A S : Type 0} (took : S → List Told → Type 0) (failures : S → ℕ) (view : X → A) (o : Outcome A) (s s' : S)
-    (result : Result X Stop) : Type 0 where
-  pub plays : PlaysBy took failures view o s s' result
+pub record Plays {X A S : Type 0} (w : SinkSpan S Told) (view : X → A) (o : Outcome A) (result : Result X Stop) : Type 0 where
+  pub plays : PlaysBy w view o result

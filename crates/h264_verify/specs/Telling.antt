@@ -1,6 +1,6 @@
 -- What comes to pass as a stream is judged, frames among it, before anything is said of their samples. To be read beside the standard.
 use Rattle.std.specs.Prelude.{◌≡◌, ℕ, ◌<◌, ◌≤◌, List, [], ◌∷◌, ◌++◌, length}
-use Rattle.h264_base.specs.Call.{Call}
+use Rattle.h264_base.specs.Call.{Call, SinkSpan, span}
 use Rattle.h264_base.specs.Body.{Body}
 use Rattle.h264_base.specs.Grammar.{Element}
 use Rattle.h264_base.specs.Run.{call_of}
@@ -48,6 +48,18 @@ AreDecoded frames (Shows e ∷ told) = AreDecoded frames told
 -- With these frames a sink took what is told, and the pictures are decoded.
 unfoldable pub took_with : {S : Type 0} → (ℕ → Frame) → (S → List Call → Type 0) → S → List Told → Type 0
 took_with frames took s told = AreDecoded frames told × took s (calls_of frames told)
+
+-- With these frames a sink's span, in what is told.
+abbrev pub with_frames : {S : Type 0} → (ℕ → Frame) → SinkSpan S Call → SinkSpan S Told
+with_frames frames w = span (took_with frames w.took) w.failures w.old w.new
+
+-- A sink's span, and the frames of the pictures that had ended before it, by their numbers.
+pub record FrameSpan (S : Type 0) : Type 1 where
+  pub sink : SinkSpan S Call
+  pub frames : ℕ → Frame
+
+abbrev pub frame_span : {S : Type 0} → (S → List Call → Type 0) → (S → ℕ) → (ℕ → Frame) → S → S → FrameSpan S
+frame_span took failures frames old new = record { sink = span took failures old new; frames = frames }
 
 -- from old to new this was told, whatever was told before
 pub record Tells {S : Type 0} (took : S → List Told → Type 0) (old new : S) (more : List Told) : Type 0 where

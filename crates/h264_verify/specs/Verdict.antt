@@ -7,9 +7,9 @@ use Rattle.h264_base.specs.declared.rule.Rule.TheVariants.{Emulation}
 use Rattle.h264_base.specs.declared.stop.Feature.{Feature}
 use Rattle.h264_base.specs.declared.stop.Stop.{Stop}
 use Rattle.h264_base.specs.declared.stop.Stop.TheVariants.{No, Outside, Memory, Read, Write}
-use Rattle.h264_base.specs.Call.{Call}
+use Rattle.h264_base.specs.Call.{Call, SinkSpan}
 use Rattle.h264_plane.specs.declared.frame.Frame.{Frame}
-use Rattle.h264_verify.specs.Telling.{Told, Tells, took_with, calls_of, AreDecoded}
+use Rattle.h264_verify.specs.Telling.{Told, Tells, with_frames, calls_of, AreDecoded}
 use Rattle.h264_units.specs.Stream.{NalUnit, Tail, Zeros, Splits, tail_stop}
 use Rattle.h264_rbsp.specs.Emulation.{IsFault, IsFirstFault}
 use Rattle.h264_rbsp.specs.Rbsp.{body_of}
@@ -62,12 +62,22 @@ pub record Holds (terms : Terms) (bytes : List ℕ) (calls : List Told) (summary
   pub summary_is : summary ≡ summary_of terms.mode units
   pub pictures : AreDecodable terms.mode (runs_of units)
 
+-- What is left of a stream: its units, what stands after the last, and the byte where the stream ends.
+pub record Remainder : Type 0 where
+  pub units : List NalUnit
+  pub tail : Tail
+  pub end : ℕ
+
+abbrev pub remainder : List NalUnit → Tail → ℕ → Remainder
+remainder units tail end = record { units = units; tail = tail; end = end }
+
 -- After the legal units the verdict falls at the next, or at what follows the last, or at the end of the input.
-pub data IsStopAfter (terms : Terms) (before : History) (units : List NalUnit) (tail : Tail) (end : ℕ) (stop : Stop) (calls : List Told) : Type 0 where
-  AtNext : (unit : NalUnit) (later : List NalUnit) → units ≡ unit ∷ later → IsStop terms before unit stop calls →
-      IsStopAfter terms before units tail end stop calls
-  AtTail : units ≡ [] → tail_stop tail ≡ Some stop → calls ≡ [] → IsStopAfter terms before units tail end stop calls
-  AtEnd : units ≡ [] → tail ≡ Zeros → IsFirstStop (end_steps terms.mode before (8 * end)) calls stop → IsStopAfter terms before units tail end stop calls
+pub data IsStopAfter (terms : Terms) (before : History) (rest : Remainder) (stop : Stop) (calls : List Told) : Type 0 where
+  AtNext : (unit : NalUnit) (later : List NalUnit) → rest.units ≡ unit ∷ later → IsStop terms before unit stop calls →
+      IsStopAfter terms before rest stop calls
+  AtTail : rest.units ≡ [] → tail_stop rest.tail ≡ Some stop → calls ≡ [] → IsStopAfter terms before rest stop calls
+  AtEnd : rest.units ≡ [] → rest.tail ≡ Zeros → IsFirstStop (end_steps terms.mode before (8 * rest.end)) calls stop →
+      IsStopAfter terms before rest stop calls
 
 -- The units before are legal, and then the verdict falls.
 pub record StopsAt (terms : Terms) (bytes : List ℕ) (calls : List Told) (stop : Stop) : Type 0 where
@@ -78,7 +88,7 @@ pub record StopsAt (terms : Terms) (bytes : List ℕ) (calls : List Told) (stop 
   pub first : List Told
   pub last : List Told
   pub legal : AreLegal terms before first
-  pub stops : IsStopAfter terms before units tail (length bytes) stop last
+  pub stops : IsStopAfter terms before (remainder units tail (length bytes)) stop last
   pub calls_are : calls ≡ first ++ last
 
 -- All rules before this one are met, it fails, and this is its bit.
@@ -95,16 +105,15 @@ Verdict terms bytes calls (Ok summary) = Holds terms bytes calls summary
 Verdict terms bytes calls (Err stop) = StopsAt terms bytes calls stop
 
 -- A sink that took some of a stream's calls has taken some more, and they are all that the stream has up to this verdict.
-pub record Whole {S : Type 0} (terms : Terms) (took : S → List Told → Type 0) (bytes : List ℕ) (calls : List Told) (s s' : S)
-    (answer : Result Summary Stop) : Type 0 where
+pub record Whole {S : Type 0} (terms : Terms) (w : SinkSpan S Told) (bytes : List ℕ) (calls : List Told) (answer : Result Summary Stop) : Type 0 where
   pub more : List Told
-  pub tells : Tells took s s' more
+  pub tells : Tells w.took w.old w.new more
   pub verdict : Verdict terms bytes (calls ++ more) answer
 
 -- They are the first of those that the stream has.
-pub record Front {S : Type 0} (terms : Terms) (took : S → List Told → Type 0) (bytes : List ℕ) (calls : List Told) (s s' : S) : Type 0 where
+pub record Front {S : Type 0} (terms : Terms) (w : SinkSpan S Told) (bytes : List ℕ) (calls : List Told) : Type 0 where
   pub more : List Told
-  pub tells : Tells took s s' more
+  pub tells : Tells w.took w.old w.new more
   pub rest : List Told
   pub answer : Result Summary Stop
   pub verdict : Verdict terms bytes ((calls ++ more) ++ rest) answer
@@ -130,20 +139,18 @@ pub record WantsAt (terms : Terms) (bytes : List ℕ) (calls : List Told) : Type
   pub calls_are : calls ≡ first ++ last
 
 -- A sink that took some of a stream's calls has taken some more, and then memory was wanting.
-pub record Wanting {S : Type 0} (terms : Terms) (took : S → List Told → Type 0) (bytes : List ℕ) (calls : List Told) (s s' : S) : Type 0 where
+pub record Wanting {S : Type 0} (terms : Terms) (w : SinkSpan S Told) (bytes : List ℕ) (calls : List Told) : Type 0 where
   pub more : List Told
-  pub tells : Tells took s s' more
+  pub tells : Tells w.took w.old w.new more
   pub wants : WantsAt terms bytes (calls ++ more)
 
-abbrev pub JudgedBy : {S : Type 0} → Terms → (S → List Told → Type 0) → (S → ℕ) → List ℕ → List Told → S → S → Result Summary Stop → Type 0
-JudgedBy terms took failures bytes calls s s' (Ok summary) = Whole terms took bytes calls s s' (Ok summary) × (failures s' ≡ failures s)
-JudgedBy terms took failures bytes calls s s' (Err (No bit rule)) = Whole terms took bytes calls s s' (Err (No bit rule)) × (failures s' ≡ failures s)
-JudgedBy terms took failures bytes calls s s' (Err (Outside bit feature)) =
-    Whole terms took bytes calls s s' (Err (Outside bit feature)) × (failures s' ≡ failures s)
-JudgedBy terms took failures bytes calls s s' (Err Memory) =
-    Front terms took bytes calls s s' × (failures s' ≡ failures s) × Wanting terms took bytes calls s s'
-JudgedBy terms took failures bytes calls s s' (Err Read) = Front terms took bytes calls s s' × (failures s' ≡ failures s)
-JudgedBy terms took failures bytes calls s s' (Err Write) = Front terms took bytes calls s s' × (failures s' ≡ failures s + 1)
+abbrev pub JudgedBy : {S : Type 0} → Terms → SinkSpan S Told → List ℕ → List Told → Result Summary Stop → Type 0
+JudgedBy terms w bytes calls (Ok summary) = Whole terms w bytes calls (Ok summary) × (w.failures w.new ≡ w.failures w.old)
+JudgedBy terms w bytes calls (Err (No bit rule)) = Whole terms w bytes calls (Err (No bit rule)) × (w.failures w.new ≡ w.failures w.old)
+JudgedBy terms w bytes calls (Err (Outside bit feature)) = Whole terms w bytes calls (Err (Outside bit feature)) × (w.failures w.new ≡ w.failures w.old)
+JudgedBy terms w bytes calls (Err Memory) = Front terms w bytes calls × (w.failures w.new ≡ w.failures w.old) × Wanting terms w bytes calls
+JudgedBy terms w bytes calls (Err Read) = Front terms w bytes calls × (w.failures w.new ≡ w.failures w.old)
+JudgedBy terms w bytes calls (Err Write) = Front terms w bytes calls × (w.failures w.new ≡ w.failures w.old + 1)
 
 -- Of what was told with these frames the same is told with others, and the pictures are decoded as they were.
 pub record SameTold (frames others : ℕ → Frame) (told : List Told) : Type 0 where
@@ -153,8 +160,8 @@ pub record SameTold (frames others : ℕ → Frame) (told : List Told) : Type 0 
 -- Of this stream, of which this was told with these frames, a yes has Holds, a no Breaks, an outside MayStop, and a sink was then told
 -- exactly what comes up to there, with the frames of the pictures, decoded; memory, read and write come with the first of it, memory
 -- only where it is wanting.
-pub record Judged {S : Type 0} (terms : Terms) (took : S → List Call → Type 0) (failures : S → ℕ) (bytes : List ℕ) (frames : ℕ → Frame) (told : List Told)
-    (s s' : S) (answer : Result Summary Stop) : Type 0 where
+pub record Judged {S : Type 0} (terms : Terms) (w : SinkSpan S Call) (bytes : List ℕ) (frames : ℕ → Frame) (told : List Told)
+    (answer : Result Summary Stop) : Type 0 where
   pub made : ℕ → Frame
   pub same : SameTold frames made told
-  pub judged : JudgedBy terms (took_with made took) failures bytes told s s' answer
+  pub judged : JudgedBy terms (with_frames made w) bytes told answer

@@ -5,12 +5,13 @@ ghost use Rattle.std.specs.Prelude.{◌≡◌, ℕ, ◌-◌, ◌<◌, ◌≤◌,
 ghost use Rattle.h264_base.specs.Call.{HasRoom, IsQuiet};
 ghost use Rattle.h264_base.specs.declared.mode.Mode.{Mode};
 ghost use Rattle.h264_plane.specs.declared.frame.Frame.{Frame};
+ghost use Rattle.h264_verify.specs.Telling.{frame_span};
 ghost use Rattle.h264_verify.specs.History.{History};
 ghost use Rattle.h264_verify.specs.Pictures.{goes_on, runs_of};
 ghost use Rattle.h264_verify.specs.Order.{closing_demands};
 ghost use Rattle.h264_verify.specs.Keeping.{KeepsSlices, KeepsFrames, WhereMade, KeepsSomeFrames, close_steps, format_in};
 ghost use Rattle.h264_verify.specs.StepOutcome.{steps_outcome};
-ghost use Rattle.h264_verify.specs.Framing.{EndsFrames};
+ghost use Rattle.h264_verify.specs.Framing.{EndsFrames, closing};
 ghost use Rattle.h264_verify.specs.Demands.{judged};
 ghost use Rattle.h264_verify.specs.Outcome.{IsNamed, answers};
 ghost use Rattle.h264_verify.specs.Order.{whole_steps};
@@ -76,8 +77,8 @@ fn end_frame_if<S: FrameSink>(
     ensures ends { (mode : Mode) (frames : ℕ → Frame) (before : History) → KeepsSlices before ends slices.now →
         answers (Ok tt) ≡ steps_outcome (if ends then whole_steps mode before else []) →
         WhereMade mode (KeepsFrames frames (goes_on before) false (runs_of before)) decoder.old →
-        EndsFrames mode S.took S.failures frames (goes_on before) ends (runs_of before)
-        (steps_outcome (if ends then closing_frames mode before else [])) decoder.new sink.old sink.new result }
+        EndsFrames mode (frame_span S.took S.failures frames sink.old sink.new) (closing (goes_on before) ends (runs_of before))
+        (steps_outcome (if ends then closing_frames mode before else [])) decoder.new result }
     ensures format { format_in decoder.new ≡ format_in decoder.old }
     ensures kept { OnOk result (IsQuiet S.failures sink.old sink.new) }
     ensures no_memory { IfErr result (λ e. e ≡ Stop.Write) }
@@ -108,8 +109,8 @@ pub fn close_if<S: FrameSink>(
     requires kept { KeepsSomeFrames false slices.old decoder.old }
     ensures closes { (mode : Mode) (frames : ℕ → Frame) (before : History) → KeepsSlices before false slices.old →
         WhereMade mode (KeepsFrames frames (goes_on before) false (runs_of before)) decoder.old →
-        EndsFrames mode S.took S.failures frames (goes_on before) ends (runs_of before)
-        (steps_outcome (close_steps mode ends before)) decoder.new sink.old sink.new result }
+        EndsFrames mode (frame_span S.took S.failures frames sink.old sink.new) (closing (goes_on before) ends (runs_of before))
+        (steps_outcome (close_steps mode ends before)) decoder.new result }
     ensures ended { (before : History) → KeepsSlices before false slices.old → OnOk result (KeepsSlices before ends slices.new) }
     ensures others { slices.new ≡ record slices.old { held = slices.new.held } }
     ensures format { format_in decoder.new ≡ format_in decoder.old }

@@ -4,6 +4,7 @@
 ghost use Rattle.std.specs.Prelude.{◌≡◌, ℕ, ◌-◌, ◌<◌, ◌≤◌, ◌^◌, Bool, true, false, Ok, Some, List, [], length, OnOk, IfErr, IsErrOf};
 ghost use Rattle.h264_base.specs.Call.{HasRoom, IsQuiet};
 ghost use Rattle.h264_sps.specs.Usable.{is_usable};
+ghost use Rattle.h264_verify.specs.Telling.{frame_span};
 ghost use Rattle.h264_verify.specs.Pictures.{CodedSlice, CodedPicture, joined_to};
 ghost use Rattle.h264_plane.specs.declared.frame.Frame.{Frame};
 ghost use Rattle.h264_verify.specs.Data.{coded_so_far, data_in};
@@ -55,8 +56,8 @@ pub(crate) fn read_data<S: Elements>(
         s.header.first_mb_in_slice.value ≡ length (coded_so_far place.now.begins pictures) → s.macroblocks ≡ [] →
         (place.now.begins ≡ false → on ≡ true) →
         (place.now.begins ≡ false → HasPps s.pps pictures) → EntersBy frames place.now.begins s on pictures decoder.old →
-        ReadsData S.took S.failures frames (structure_from (data_in place.now.begins pictures s) bits.old.body bits.old.at)
-        (λ ms. joined_to place.now.begins (record s { macroblocks = ms }) pictures) decoder.new sink.old sink.new result }
+        ReadsData (frame_span S.took S.failures frames sink.old sink.new) (structure_from (data_in place.now.begins pictures s) bits.old.body bits.old.at)
+        (λ ms. joined_to place.now.begins (record s { macroblocks = ms }) pictures) decoder.new result }
     ensures no_memory { place.now.begins ≡ false → IsErrOf result Stop.Memory → ⊥ }
     ensures stands { decoder.old.format ≡ Some (format_of place.now.sps.now) → IsErrOf result Stop.Memory → ⊥ }
     ensures kept { OnOk result (IsQuiet S.failures sink.old sink.new) }

@@ -2,7 +2,7 @@
 #![tactic(auto)]
 
 ghost use Rattle.std.specs.Prelude.{◌≡◌};
-ghost use Rattle.h264_base.specs.Call.{HasRoom, IsQuiet};
+ghost use Rattle.h264_base.specs.Call.{HasRoom, IsQuiet, span};
 ghost use Rattle.h264_verify.specs.Keeping.{format_of};
 
 use crate::sink::FrameSink;
@@ -65,7 +65,7 @@ impl Decoder {
     ghost use Rattle.h264_dpb.specs.Bumping.{missing_in};
     ghost use Rattle.h264_dpb.specs.Turns.{Turn, turn_then, names, empties, missing_turn, last_turn, stays};
     ghost use Rattle.h264_dpb.specs.Kept.{KeepsBuffer, size_of};
-    ghost use Rattle.h264_verify.specs.Telling.{took_with};
+    ghost use Rattle.h264_verify.specs.Telling.{with_frames, frame_span};
     ghost use Rattle.h264_verify.specs.Outcome.{Plays};
     ghost use Rattle.h264_verify.specs.Pictures.{CodedSlice, CodedPicture, held_after, last_slice, picture_size};
     ghost use Rattle.h264_verify.specs.Lists.{context_in};
@@ -75,7 +75,7 @@ impl Decoder {
     ghost use Rattle.h264_verify.specs.Keeping.{KeepsFrames, FillsSome, KeepsSomeEnd, EntersFrames, BegunFrames, HoldsBegun, IsNear};
     ghost use Rattle.h264_verify.specs.Keeping.{HasPlace, SlicesSome};
     ghost use Rattle.h264_verify.specs.StepOutcome.{steps_outcome, structure_from};
-    ghost use Rattle.h264_verify.specs.Framing.{EndsFrames, ReadsSlice};
+    ghost use Rattle.h264_verify.specs.Framing.{EndsFrames, ReadsSlice, closing};
 
     /// Before the first picture. It takes no memory.
     pub fn new() -> Decoder
@@ -179,10 +179,11 @@ impl Decoder {
             (macroblocks : List CodedMacroblock) (t : Turn) → slice.now ≡ context_in (p ∷ ps) s →
             slice_filter pps.now header.now ≡ slice_filter s.pps s.header → slice_weights header.now ≡ slice_weights s.header →
             number_of s ≡ length macroblocks → s.pps ≡ p.first.pps → KeepsOutput frames t (length ps) self.old →
-            HoldsBegun frames p ps slices macroblocks self.old → ReadsSlice S.took S.failures frames
+            HoldsBegun frames p ps slices macroblocks self.old →
+            ReadsSlice (frame_span S.took S.failures frames sink.old sink.new)
             (structure_from (slice_data (transform_fits slice.now) p.first.sps.frame_size.width (picture_size p.first.sps) slice.now macroblocks)
-            bits.old.body bits.old.at) (λ ms. HoldsBegun frames p ps (s ∷ slices) ms self.new × KeepsOutput frames t (length ps) self.new) sink.old
-            sink.new result }
+            bits.old.body bits.old.at)
+            (λ ms. HoldsBegun frames p ps (s ∷ slices) ms self.new × KeepsOutput frames t (length ps) self.new) result }
         ensures no_memory { IsErrOf result Stop.Memory → ⊥ }
         ensures kept { OnOk result (IsQuiet S.failures sink.old sink.new) }
     {
@@ -219,8 +220,9 @@ impl Decoder {
         requires kept { KeepsSomeEnd picture.now held.now self.old }
         ensures ends { (frames : ℕ → Frame) (p : CodedPicture) (ps : List CodedPicture) → picture.now ≡ ended_picture p ps →
             held.now ≡ held_after (p ∷ ps) → length (last_slice p).macroblocks ≡ picture_size p.first.sps →
-            KeepsFrames frames true false (p ∷ ps) self.old → EndsFrames modes.Full S.took S.failures frames true true (p ∷ ps)
-            (steps_outcome (end_frames modes.Full (p ∷ ps))) (Some self.new) sink.old sink.new result }
+            KeepsFrames frames true false (p ∷ ps) self.old →
+            EndsFrames modes.Full (frame_span S.took S.failures frames sink.old sink.new) (closing true true (p ∷ ps))
+            (steps_outcome (end_frames modes.Full (p ∷ ps))) (Some self.new) result }
         ensures format { self.new.format ≡ self.old.format }
         ensures kept { OnOk result (IsQuiet S.failures sink.old sink.new) }
         ensures no_memory { IfErr result (λ e. e ≡ Stop.Write) }
@@ -239,8 +241,8 @@ impl Decoder {
         requires few { length held.now.frames ≤ size_of self.old.output }
         requires kept { FillsSome self.old }
         ensures plays { (frames : ℕ → Frame) (t : Turn) (next : ℕ) → FillsFrames frames t next self.old →
-            Plays (took_with frames S.took) S.failures (λ x. x) (steps_outcome (told_frames modes.Full (missing_turn held.now t.buffer).written))
-            sink.old sink.new result }
+            Plays (with_frames frames (span S.took S.failures sink.old sink.new)) (λ x. x)
+            (steps_outcome (told_frames modes.Full (missing_turn held.now t.buffer).written)) result }
         ensures keeps { (frames : ℕ → Frame) (t : Turn) (next : ℕ) → FillsFrames frames t next self.old →
             OnOk result (FillsFrames frames (turn_then t (missing_turn held.now)) next self.new) }
         ensures sized { size_of self.new.output ≡ size_of self.old.output }
@@ -264,8 +266,8 @@ impl Decoder {
         requires room { HasRoom S.failures sink.old }
         requires kept { FillsSome self.old }
         ensures plays { (frames : ℕ → Frame) (t : Turn) (next : ℕ) → FillsFrames frames t next self.old →
-            Plays (took_with frames S.took) S.failures (λ x. x) (steps_outcome (told_frames modes.Full (last_turn t.buffer).written)) sink.old
-            sink.new result }
+            Plays (with_frames frames (span S.took S.failures sink.old sink.new)) (λ x. x)
+            (steps_outcome (told_frames modes.Full (last_turn t.buffer).written)) result }
         ensures written { (frames : ℕ → Frame) (t : Turn) (next : ℕ) → FillsFrames frames t next self.old →
             OnOk result (KeepsBuffer (last_turn t.buffer).buffer (length t.written + length (last_turn t.buffer).written) self.new.output) }
         ensures others { self.new ≡ record self.old { output = self.new.output } }

@@ -2,7 +2,7 @@
 #![tactic(auto)]
 
 ghost use Rattle.std.specs.Prelude.{◌≡◌, ℕ, ◌+◌, ◌-◌, ◌%◌, ◌<◌, ◌≤◌, ◌^◌, ◌&&◌, ◌||◌, not, ◌==◌, true, false, length, [], ◌∷◌, Some, None, Ok, Err};
-ghost use Rattle.h264_base.specs.Call.{HasRoom, IsQuiet};
+ghost use Rattle.h264_base.specs.Call.{HasRoom, IsQuiet, span};
 ghost use Rattle.std.specs.Prelude.{OnOk, IfOk, IfErr, IsErrOf, if◌then◌else◌};
 ghost use Rattle.h264_sps.specs.Usable.{has_lengths};
 ghost use Rattle.std.specs.Prelude.{List};
@@ -14,11 +14,11 @@ ghost use Rattle.h264_dpb.specs.Turns.{Turn, turn_then, names, missing_turn};
 ghost use Rattle.h264_base.specs.declared.rule.Rule.TheVariants.{FrameNum};
 ghost use Rattle.h264_base.specs.declared.stop.Stop.TheVariants.{No};
 ghost use Rattle.h264_marking.specs.Gaps.{is_new_num, entered, last_or, all_filled, unused_short_term_frame_nums};
-ghost use Rattle.h264_verify.specs.Telling.{took_with};
+ghost use Rattle.h264_verify.specs.Telling.{with_frames};
 ghost use Rattle.h264_verify.specs.Outcome.{Plays};
 ghost use Rattle.h264_verify.specs.Buffering.{told_frames, gaps_turn, missing_steps};
 ghost use Rattle.h264_marking.specs.Steady.{IsSteady};
-ghost use Rattle.h264_verify.specs.Keeping.{WhereMade, FillsFrames, KeepsSomeGap, BufferStays, HasPlaces, GoesWith, numbers_in, format_in};
+ghost use Rattle.h264_verify.specs.Keeping.{WhereMade, FillsFrames, KeepsSomeGap, BufferStays, HasPlaces, GoesWith, numbers_in, format_in, slice_at};
 ghost use Rattle.h264_verify.specs.StepOutcome.{steps_outcome};
 ghost use Rattle.h264_verify.specs.Demands.{judged};
 ghost use Rattle.h264_verify.specs.Pictures.{prev_ref_frame_num_after};
@@ -80,8 +80,8 @@ fn miss<S: FrameSink>(held: &Held, decoder: &mut Option<Decoder>, sink: &mut S) 
     requires few { HasPlaces (length held.now.frames) decoder.old }
     requires kept { KeepsSomeGap decoder.old }
     ensures plays { (mode : Mode) (frames : ℕ → Frame) (t : Turn) (next : ℕ) → WhereMade mode (FillsFrames frames t next) decoder.old →
-        Plays (took_with frames S.took) S.failures (λ x. x) (steps_outcome (told_frames mode (missing_turn held.now t.buffer).written)) sink.old
-        sink.new result }
+        Plays (with_frames frames (span S.took S.failures sink.old sink.new)) (λ x. x)
+        (steps_outcome (told_frames mode (missing_turn held.now t.buffer).written)) result }
     ensures keeps { (mode : Mode) (frames : ℕ → Frame) (t : Turn) (next : ℕ) → WhereMade mode (FillsFrames frames t next) decoder.old →
         OnOk result (WhereMade mode (FillsFrames frames (turn_then t (missing_turn held.now)) next) decoder.new) }
     ensures no_memory { IfErr result (λ e. e ≡ Stop.Write) }
@@ -143,8 +143,8 @@ fn fill_frames<S: FrameSink>(
     requires places { 0 < gap.now.count → HasPlaces (frame_places gap.now.numbering.max_num_ref_frames) decoder.old }
     requires kept { KeepsSomeGap decoder.old }
     ensures plays { (mode : Mode) (frames : ℕ → Frame) (t : Turn) (next : ℕ) → WhereMade mode (FillsFrames frames t next) decoder.old →
-        Plays (took_with frames S.took) S.failures (λ _. tt) (steps_outcome
-        (missing_steps mode gap.now.bit gap.now.numbering (numbers_in gap.now) held.old t.buffer)) sink.old sink.new result }
+        Plays (with_frames frames (span S.took S.failures sink.old sink.new)) (λ _. tt) (steps_outcome
+        (missing_steps mode gap.now.bit gap.now.numbering (numbers_in gap.now) held.old t.buffer)) result }
     ensures keeps { (mode : Mode) (frames : ℕ → Frame) (t : Turn) (next : ℕ) → WhereMade mode (FillsFrames frames t next) decoder.old →
         OnOk result (WhereMade mode (FillsFrames frames (turn_then t (gaps_turn gap.now.numbering (numbers_in gap.now) held.old)) next) decoder.new) }
     ensures no_memory { IsErrOf result Stop.Memory → ⊥ }
@@ -210,10 +210,8 @@ pub(crate) fn check_gap<S: FrameSink>(
     requires goes { is_idr head.now.header.now ≡ false → GoesWith head.now.place.sps.now held.old decoder.old }
     requires kept { KeepsSomeGap decoder.old }
     ensures plays { (mode : Mode) (frames : ℕ → Frame) (t : Turn) (next : ℕ) → WhereMade mode (FillsFrames frames t next) decoder.old →
-        Plays (took_with frames S.took) S.failures (λ x. x) (steps_outcome
-        (gap_rules mode (is_idr head.now.header.now) (is_reference head.now.header.now) head.now.place.sps.now.gaps_in_frame_num_value_allowed_flag
-        head.now.header.now.frame_num.bit
-        prev_ref_frame_num.old (numbering_of head.now.place.sps.now head.now.header.now) held.old t.buffer)) sink.old sink.new result }
+        Plays (with_frames frames (span S.took S.failures sink.old sink.new)) (λ x. x) (steps_outcome
+        (gap_rules mode (slice_at head.now.place head.now.header.now []) prev_ref_frame_num.old held.old t.buffer)) result }
     ensures keeps { (mode : Mode) (frames : ℕ → Frame) (t : Turn) (next : ℕ) → WhereMade mode (FillsFrames frames t next) decoder.old →
         OnOk result (WhereMade mode (FillsFrames frames (turn_then t (gaps_turn (numbering_of head.now.place.sps.now head.now.header.now)
         (unused_short_term_frame_nums (is_idr head.now.header.now) prev_ref_frame_num.old

@@ -2,14 +2,14 @@
 #![tactic(auto)]
 
 ghost use Rattle.std.specs.Prelude.{◌≡◌, ℕ, ◌+◌, ◌-◌, ◌*◌, ◌<◌, ◌≤◌, ◌^◌, ◌⊎◌, List, [], ◌∷◌, ◌++◌, length, take, OnOk, OnErr, IfOk, IfErr, Ok, Err};
-ghost use Rattle.h264_base.specs.Call.{HasRoom, IsQuiet};
+ghost use Rattle.h264_base.specs.Call.{HasRoom, IsQuiet, span};
 ghost use Rattle.std.specs.Prelude.{Bool, true, false, None, Some, IsErrOf, IsTrue, IsFalse};
 ghost use Rattle.std.specs.List.{flat_map};
 ghost use Rattle.h264_verify.specs.Units.{terms_of};
 ghost use Rattle.h264_verify.specs.declared.state.Terms.{Terms};
 ghost use Rattle.h264_plane.specs.declared.frame.Frame.{Frame};
 ghost use Rattle.h264_verify.specs.Feeding.{FedOn, JudgesWith};
-ghost use Rattle.h264_verify.specs.Giving.{Gives};
+ghost use Rattle.h264_verify.specs.Giving.{Gives, source_span};
 ghost use Rattle.h264_verify.specs.Verdict.{Judged};
 
 use crate::Summary;
@@ -41,20 +41,21 @@ fn turn<R: Source, S: FrameSink>(
     requires room { 0 < length piece.old }
     requires runs { session.old.stop ≡ None }
     ensures more { IfOk result (λ more. IsTrue more → (terms : Terms) (bytes : List ℕ) (first : _) →
-        FedOn terms S.took (R.left source.old) bytes session.old first sink.old → FedOn terms S.took (R.left source.new) bytes session.new first sink.new) }
+        FedOn terms (span S.took S.failures first sink.old) (R.left source.old) bytes session.old →
+        FedOn terms (span S.took S.failures first sink.new) (R.left source.new) bytes session.new) }
     ensures end { IfOk result (λ more. IsFalse more → (session.new ≡ session.old) × (sink.new ≡ sink.old)
         × ((left : List ℕ) → R.left source.old ≡ Some left → left ≡ [])) }
     ensures stops { IfErr result (λ stop. (terms : Terms) (bytes : List ℕ) (first : _) →
-        FedOn terms S.took (R.left source.old) bytes session.old first sink.old → S.failures sink.old ≡ S.failures first →
-        JudgesWith terms S.took S.failures bytes first sink.new (Err stop)) }
+        FedOn terms (span S.took S.failures first sink.old) (R.left source.old) bytes session.old → S.failures sink.old ≡ S.failures first →
+        JudgesWith terms (span S.took S.failures first sink.new) bytes (Err stop)) }
     // What the source gave so far, whether it tells or not.
-    ensures heard { IfOk result (λ more. IsTrue more → (given : List ℕ) × Gives R.left R.gave R.failures source.old source.new given false
-        × ((terms : Terms) (bytes : List ℕ) (first : _) → FedOn terms S.took (Some []) bytes session.old first sink.old →
-        FedOn terms S.took (Some []) (bytes ++ given) session.new first sink.new)) }
-    ensures heard_end { IfOk result (λ more. IsFalse more → Gives R.left R.gave R.failures source.old source.new [] true) }
-    ensures heard_stop { IfErr result (λ stop. (given : List ℕ) × Gives R.left R.gave R.failures source.old source.new given false
-        × ((terms : Terms) (bytes : List ℕ) (first : _) → FedOn terms S.took (Some []) bytes session.old first sink.old →
-        S.failures sink.old ≡ S.failures first → JudgesWith terms S.took S.failures (bytes ++ given) first sink.new (Err stop))) }
+    ensures heard { IfOk result (λ more. IsTrue more → (given : List ℕ) × Gives (source_span R.left R.gave R.failures source.old source.new) given false
+        × ((terms : Terms) (bytes : List ℕ) (first : _) → FedOn terms (span S.took S.failures first sink.old) (Some []) bytes session.old →
+        FedOn terms (span S.took S.failures first sink.new) (Some []) (bytes ++ given) session.new)) }
+    ensures heard_end { IfOk result (λ more. IsFalse more → Gives (source_span R.left R.gave R.failures source.old source.new) [] true) }
+    ensures heard_stop { IfErr result (λ stop. (given : List ℕ) × Gives (source_span R.left R.gave R.failures source.old source.new) given false
+        × ((terms : Terms) (bytes : List ℕ) (first : _) → FedOn terms (span S.took S.failures first sink.old) (Some []) bytes session.old →
+        S.failures sink.old ≡ S.failures first → JudgesWith terms (span S.took S.failures first sink.new) (bytes ++ given) (Err stop))) }
     ensures kept { OnOk result ((session.new.stop ≡ None) × (IsQuiet S.failures sink.old sink.new) × (IsQuiet R.failures source.old source.new)) }
     ensures again { (n : ℕ) → R.was_read source.old n → R.was_read source.new (n + 1) }
     ensures read { IsErrOf result Stop.Read → R.failures source.new ≡ R.failures source.old + 1 }
@@ -85,18 +86,19 @@ fn read_all<R: Source, S: FrameSink>(
     requires sink { HasRoom S.failures sink.old }
     requires source { HasRoom R.failures source.old }
     requires runs { session.old.stop ≡ None }
-    ensures fed { OnOk result ((terms : Terms) (bytes : List ℕ) (first : _) → FedOn terms S.took (R.left source.old) bytes session.old first sink.old →
-        FedOn terms S.took (Some []) bytes session.new first sink.new) }
+    ensures fed { OnOk result ((terms : Terms) (bytes : List ℕ) (first : _) →
+        FedOn terms (span S.took S.failures first sink.old) (R.left source.old) bytes session.old →
+        FedOn terms (span S.took S.failures first sink.new) (Some []) bytes session.new) }
     ensures stops { IfErr result (λ stop. (terms : Terms) (bytes : List ℕ) (first : _) →
-        FedOn terms S.took (R.left source.old) bytes session.old first sink.old → S.failures sink.old ≡ S.failures first →
-        JudgesWith terms S.took S.failures bytes first sink.new (Err stop)) }
+        FedOn terms (span S.took S.failures first sink.old) (R.left source.old) bytes session.old → S.failures sink.old ≡ S.failures first →
+        JudgesWith terms (span S.took S.failures first sink.new) bytes (Err stop)) }
     // What the source gave, whether it tells or not.
-    ensures heard { OnOk result ((given : List ℕ) × Gives R.left R.gave R.failures source.old source.new given true
-        × ((terms : Terms) (bytes : List ℕ) (first : _) → FedOn terms S.took (Some []) bytes session.old first sink.old →
-        FedOn terms S.took (Some []) (bytes ++ given) session.new first sink.new)) }
-    ensures heard_stop { IfErr result (λ stop. (given : List ℕ) × Gives R.left R.gave R.failures source.old source.new given false
-        × ((terms : Terms) (bytes : List ℕ) (first : _) → FedOn terms S.took (Some []) bytes session.old first sink.old →
-        S.failures sink.old ≡ S.failures first → JudgesWith terms S.took S.failures (bytes ++ given) first sink.new (Err stop))) }
+    ensures heard { OnOk result ((given : List ℕ) × Gives (source_span R.left R.gave R.failures source.old source.new) given true
+        × ((terms : Terms) (bytes : List ℕ) (first : _) → FedOn terms (span S.took S.failures first sink.old) (Some []) bytes session.old →
+        FedOn terms (span S.took S.failures first sink.new) (Some []) (bytes ++ given) session.new)) }
+    ensures heard_stop { IfErr result (λ stop. (given : List ℕ) × Gives (source_span R.left R.gave R.failures source.old source.new) given false
+        × ((terms : Terms) (bytes : List ℕ) (first : _) → FedOn terms (span S.took S.failures first sink.old) (Some []) bytes session.old →
+        S.failures sink.old ≡ S.failures first → JudgesWith terms (span S.took S.failures first sink.new) (bytes ++ given) (Err stop))) }
     ensures kept { OnOk result ((session.new.stop ≡ None) × (IsQuiet S.failures sink.old sink.new)) }
     ensures read { IsErrOf result Stop.Read → (R.failures source.new ≡ R.failures source.old + 1)
         ⊎ ((n : ℕ) → R.was_read source.old n → R.was_read source.new (n + 2 ^ 41)) }
@@ -129,10 +131,11 @@ pub fn run<R: Source, S: FrameSink>(
     requires source { HasRoom R.failures source.old }
     // Yes, no and outside are those of the stream, with the calls up to there; memory, read and write come with the first calls.
     ensures verdict { (bytes : List ℕ) → R.left source.old ≡ Some bytes → (frames : ℕ → Frame) →
-        Judged (terms_of mode target) S.took S.failures bytes frames [] sink.old sink.new result }
+        Judged (terms_of mode target) (span S.took S.failures sink.old sink.new) bytes frames [] result }
     // Of any source it is the verdict on the bytes that it gave, and a yes comes after its end.
-    ensures some { (bytes : List ℕ) × (ended : Bool) × Gives R.left R.gave R.failures source.old source.new bytes ended × OnOk result (ended ≡ true)
-        × ((frames : ℕ → Frame) → Judged (terms_of mode target) S.took S.failures bytes frames [] sink.old sink.new result) }
+    ensures some { (bytes : List ℕ) × (ended : Bool) × Gives (source_span R.left R.gave R.failures source.old source.new) bytes ended
+        × OnOk result (ended ≡ true)
+        × ((frames : ℕ → Frame) → Judged (terms_of mode target) (span S.took S.failures sink.old sink.new) bytes frames [] result) }
     ensures read { IsErrOf result Stop.Read → (R.failures source.new ≡ R.failures source.old + 1)
         ⊎ ((n : ℕ) → R.was_read source.old n → R.was_read source.new (n + 2 ^ 41)) }
     // A read that failed is told as Read, and a write that failed as Write.
@@ -164,8 +167,8 @@ pub fn run_pieces<S: FrameSink>(
     target: Target,
 ) -> Result<Summary, Stop>
     requires { HasRoom S.failures sink.old }
-    ensures verdict { (frames : ℕ → Frame) → Judged (terms_of mode target) S.took S.failures (flat_map (λ piece. piece.items) pieces.now) frames
-        [] sink.old sink.new result }
+    ensures verdict { (frames : ℕ → Frame) → Judged (terms_of mode target) (span S.took S.failures sink.old sink.new)
+        (flat_map (λ piece. piece.items) pieces.now) frames [] result }
     // Nothing is read, so that no read fails; a write that failed is told as Write, and nothing else is.
     ensures no_read { IsErrOf result Stop.Read → ⊥ }
     ensures write { IsErrOf result Stop.Write → S.failures sink.new ≡ S.failures sink.old + 1 }

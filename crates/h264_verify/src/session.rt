@@ -2,14 +2,15 @@
 #![tactic(auto)]
 
 ghost use Rattle.std.specs.Prelude.{◌≡◌, ℕ, ◌+◌, ◌-◌, ◌*◌, ◌<◌, ◌≤◌, ◌^◌, ◌⊎◌, List, [], ◌∷◌, ◌++◌, length, OnOk, OnErr, IfOk, IfErr, Ok, Err, None};
-ghost use Rattle.h264_base.specs.Call.{HasRoom, IsQuiet};
+ghost use Rattle.h264_base.specs.Call.{HasRoom, IsQuiet, span};
 ghost use Rattle.std.specs.Prelude.{drop, false, IsFalse, IfSome, Some, IsErrOf};
 ghost use Rattle.h264_units.specs.Stream.{IsUndecided};
+ghost use Rattle.h264_verify.specs.Session.{stretch, standing};
 ghost use Rattle.h264_verify.specs.Memory.{bytes_of, ChangesFormat};
 ghost use Rattle.h264_verify.specs.Turning.{Turns};
 ghost use Rattle.h264_verify.specs.Progress.{IsFresh, LastIsRead};
 ghost use Rattle.h264_plane.specs.declared.frame.Frame.{Frame};
-ghost use Rattle.h264_verify.specs.Telling.{Told};
+ghost use Rattle.h264_verify.specs.Telling.{Told, frame_span};
 ghost use Rattle.h264_verify.specs.History.{History};
 ghost use Rattle.h264_verify.specs.KeepingUnits.{Keeps, KeepsSome};
 ghost use Rattle.h264_verify.specs.Units.{terms_of};
@@ -44,7 +45,7 @@ fn judge_next<S: FrameSink>(
     requires bytes { rbsp.now ≡ bytes_of terms.mode unit.now }
     requires kept { KeepsSome terms.mode false state.old }
     ensures turns { (frames : ℕ → Frame) (before : History) → Keeps terms.mode frames before state.old →
-        Turns terms S.took S.failures frames before unit.now state.new sink.old sink.new result }
+        Turns terms (frame_span S.took S.failures frames sink.old sink.new) before unit.now state.new result }
     ensures counts { OnOk result (state.new.units ≡ state.old.units + 1) }
     ensures pictures { OnOk result (state.new.slices.pictures ≤ state.new.units) }
     ensures no_memory { (frames : ℕ → Frame) (before : History) → Keeps terms.mode frames before state.old → IsErrOf result Stop.Memory →
@@ -77,15 +78,15 @@ fn feed_some<S: FrameSink>(
     requires keeps { KeepsSome terms.mode false state.old }
     ensures within { IfOk result (λ n. (0 < n) × (n ≤ length piece.now)) }
     ensures goes { (frames : ℕ → Frame) (before : History) → Keeps terms.mode frames before state.old →
-        IfOk result (λ n. GoesOn terms S.took frames (standing_after splitter.old before) splitter.new state.new piece.now (drop n piece.now)
-        sink.old sink.new) }
+        IfOk result (λ n. GoesOn terms (frame_span S.took S.failures frames sink.old sink.new)
+        (stretch (standing_after splitter.old before) (standing splitter.new state.new) piece.now (drop n piece.now))) }
     ensures runs { OnOk result ((splitter.new.stop ≡ None) × IsFalse splitter.new.waiting × IsFalse splitter.new.ended) }
     ensures counted { OnOk result (state.new.units ≤ splitter.new.at) }
     ensures pictures { OnOk result (state.new.slices.pictures ≤ state.new.units) }
     ensures undecided { OnOk result (IsUndecided splitter.new.rest) }
     ensures kept { OnOk result (IsQuiet S.failures sink.old sink.new) }
     ensures stops { (frames : ℕ → Frame) (before : History) → Keeps terms.mode frames before state.old →
-        IfErr result (StopsOn terms S.took S.failures frames (standing_after splitter.old before) piece.now sink.old sink.new) }
+        IfErr result (StopsOn terms (frame_span S.took S.failures frames sink.old sink.new) (standing_after splitter.old before) piece.now) }
 {
     let n = splitter.push(piece)?;
     match splitter.take_unit() {
@@ -120,14 +121,15 @@ fn feed_all<S: FrameSink>(
     requires pictures { state.old.slices.pictures ≤ state.old.units }
     requires keeps { KeepsSome terms.mode false state.old }
     ensures goes { (frames : ℕ → Frame) (before : History) → Keeps terms.mode frames before state.old →
-        OnOk result (GoesOn terms S.took frames (standing_after splitter.old before) splitter.new state.new piece.now [] sink.old sink.new) }
+        OnOk result (GoesOn terms (frame_span S.took S.failures frames sink.old sink.new)
+        (stretch (standing_after splitter.old before) (standing splitter.new state.new) piece.now [])) }
     ensures runs { OnOk result ((splitter.new.stop ≡ None) × IsFalse splitter.new.waiting × IsFalse splitter.new.ended) }
     ensures counted { OnOk result (state.new.units ≤ splitter.new.at) }
     ensures pictures { OnOk result (state.new.slices.pictures ≤ state.new.units) }
     ensures undecided { OnOk result (IsUndecided splitter.old.rest → IsUndecided splitter.new.rest) }
     ensures kept { OnOk result (IsQuiet S.failures sink.old sink.new) }
     ensures stops { (frames : ℕ → Frame) (before : History) → Keeps terms.mode frames before state.old →
-        IfErr result (StopsOn terms S.took S.failures frames (standing_after splitter.old before) piece.now sink.old sink.new) }
+        IfErr result (StopsOn terms (frame_span S.took S.failures frames sink.old sink.new) (standing_after splitter.old before) piece.now) }
     ensures no_bytes { piece.now ≡ [] → (result ≡ Ok tt) × (splitter.new ≡ splitter.old) × (state.new ≡ state.old) × (sink.new ≡ sink.old) }
 {
     let mut rest = piece;
@@ -152,7 +154,7 @@ fn finish_all<S: FrameSink>(
     requires pictures { state.old.slices.pictures ≤ state.old.units }
     requires keeps { KeepsSome terms.mode false state.old }
     ensures finishes { (frames : ℕ → Frame) (before : History) → Keeps terms.mode frames before state.old →
-        FinishesOn terms S.took S.failures frames (standing_after splitter.old before) sink.old sink.new result }
+        FinishesOn terms (frame_span S.took S.failures frames sink.old sink.new) (standing_after splitter.old before) result }
     ensures memory { IsErrOf result Stop.Memory → LastIsRead terms.mode splitter.old }
 {
     splitter.finish()?;
@@ -213,14 +215,14 @@ impl Session {
         requires runs { self.old.stop ≡ None }
         // However the input goes on, what comes is what the sink was told now and what comes later.
         ensures goes { (frames : ℕ → Frame) (before : History) → Keeps self.old.terms.mode frames before self.old.state →
-            OnOk result (GoesOn self.old.terms S.took frames (standing_after self.old.split before) self.new.split self.new.state piece.now []
-            sink.old sink.new) }
+            OnOk result (GoesOn self.old.terms (frame_span S.took S.failures frames sink.old sink.new)
+            (stretch (standing_after self.old.split before) (standing self.new.split self.new.state) piece.now [])) }
         ensures undecided { OnOk result (IsUndecided self.old.split.rest → IsUndecided self.new.split.rest) }
         ensures going { OnOk result (self.new.stop ≡ None) }
         ensures kept { OnOk result (IsQuiet S.failures sink.old sink.new) }
         // The stop is the stream's, or the sink failed, or memory was refused.
         ensures stops { (frames : ℕ → Frame) (before : History) → Keeps self.old.terms.mode frames before self.old.state →
-            IfErr result (StopsOn self.old.terms S.took S.failures frames (standing_after self.old.split before) piece.now sink.old sink.new) }
+            IfErr result (StopsOn self.old.terms (frame_span S.took S.failures frames sink.old sink.new) (standing_after self.old.split before) piece.now) }
         ensures stopped { IfErr result (λ stop. self.new.stop ≡ Some stop) }
         ensures terms { self.new.terms ≡ self.old.terms }
         ensures write { IsErrOf result Stop.Write → S.failures sink.new ≡ S.failures sink.old + 1 }
@@ -249,7 +251,7 @@ impl Session {
         requires count { HasRoom S.failures sink.old }
         requires runs { self.stop ≡ None }
         ensures finishes { (frames : ℕ → Frame) (before : History) → Keeps self.terms.mode frames before self.state →
-            FinishesOn self.terms S.took S.failures frames (standing_after self.split before) sink.old sink.new result }
+            FinishesOn self.terms (frame_span S.took S.failures frames sink.old sink.new) (standing_after self.split before) result }
         ensures write { IsErrOf result Stop.Write → S.failures sink.new ≡ S.failures sink.old + 1 }
         ensures write_told { (IsQuiet S.failures sink.old sink.new) ⊎ IsErrOf result Stop.Write }
         ensures no_read { IsErrOf result Stop.Read → ⊥ }
@@ -282,10 +284,10 @@ impl Session {
         requires { self.old.stop ≡ None → HasRoom S.failures sink.old }
         // It was then fed the piece too.
         ensures fed { (terms : Terms) (bytes : List ℕ) (frames : ℕ → Frame) (told : List Told) → WasFed terms self.old bytes frames told →
-            OnOk result (IsFed terms S.took S.failures self.new (bytes ++ piece.now) frames told sink.old sink.new) }
+            OnOk result (IsFed terms (span S.took S.failures sink.old sink.new) self.new (bytes ++ piece.now) frames told) }
         // However the input goes on, this is its verdict.
         ensures stops { (terms : Terms) (bytes : List ℕ) (frames : ℕ → Frame) (told : List Told) → WasFed terms self.old bytes frames told →
-            IfErr result (λ stop. (later : List ℕ) → Judged terms S.took S.failures ((bytes ++ piece.now) ++ later) frames told sink.old sink.new
+            IfErr result (λ stop. (later : List ℕ) → Judged terms (span S.took S.failures sink.old sink.new) ((bytes ++ piece.now) ++ later) frames told
             (Err stop)) }
         ensures stopped { IfErr result (λ stop. self.new.stop ≡ Some stop) }
         // No bytes change nothing.
@@ -309,7 +311,7 @@ impl Session {
         requires { self.stop ≡ None → HasRoom S.failures sink.old }
         // The verdict on all that it was fed.
         ensures verdict { (terms : Terms) (bytes : List ℕ) (frames : ℕ → Frame) (told : List Told) → WasFed terms self bytes frames told →
-            Judged terms S.took S.failures bytes frames told sink.old sink.new result }
+            Judged terms (span S.took S.failures sink.old sink.new) bytes frames told result }
         // Write comes where the sink failed, and only there.
         ensures write { self.stop ≡ None → IsErrOf result Stop.Write → S.failures sink.new ≡ S.failures sink.old + 1 }
         ensures write_told { (IsQuiet S.failures sink.old sink.new) ⊎ IsErrOf result Stop.Write }

@@ -7,12 +7,13 @@ ghost use Rattle.std.specs.Option.{is_some};
 ghost use Rattle.h264_header.specs.Layout.{sets_of};
 ghost use Rattle.h264_pps.specs.declared.Pps.{Pps};
 ghost use Rattle.h264_sps.specs.declared.sps.Sps.{Sps};
+ghost use Rattle.h264_verify.specs.Telling.{frame_span};
 ghost use Rattle.h264_verify.specs.Demands.{judged};
 ghost use Rattle.h264_verify.specs.History.{History, maps_with, maps_of};
 ghost use Rattle.h264_base.specs.declared.mode.Mode.{Mode};
 ghost use Rattle.h264_plane.specs.declared.frame.Frame.{Frame};
 ghost use Rattle.h264_verify.specs.Keeping.{KeepsSlices, KeepsFrames, WhereMade, KeepsSomeSlice, begins_by, coded_before, HoldsNewest, format_in};
-ghost use Rattle.h264_verify.specs.Framing.{JudgesSlice, PlacesSlice};
+ghost use Rattle.h264_verify.specs.Framing.{JudgesSlice, PlacesSlice, slice_after};
 ghost use Rattle.h264_verify.specs.Content as contents;
 ghost use Rattle.h264_verify.specs.Pictures.{CodedPicture, runs_of, goes_on};
 ghost use Rattle.h264_verify.specs.Slices.{first_mb_demands};
@@ -73,11 +74,12 @@ pub(crate) fn place_slice<S: FrameSink>(
     ensures refused { (mode : Mode) (frames : ℕ → Frame) (before : History) (named : Pps × Sps) → KeepsSlices before false state.old.slices →
         state.old.sets ≡ maps_of before → sets_of state.old.sets state.old.slice.header.pic_parameter_set_id.value ≡ Some named →
         WhereMade mode (KeepsFrames frames (goes_on before) false (runs_of before)) state.old.decoder →
-        OnErr result (JudgesSlice mode S.took S.failures frames before unit.now state.old.slice.header named begins state.new.decoder sink.old sink.new
-        result) }
+        OnErr result (JudgesSlice mode (frame_span S.took S.failures frames sink.old sink.new)
+        (slice_after before unit.now state.old.slice.header begins) named state.new.decoder result) }
     ensures placed { (mode : Mode) (frames : ℕ → Frame) (before : History) → KeepsSlices before false state.old.slices →
         WhereMade mode (KeepsFrames frames (goes_on before) false (runs_of before)) state.old.decoder →
-        OnOk result (PlacesSlice mode S.took S.failures frames before unit.now state.old.slice.header begins state.old state.new sink.old sink.new) }
+        OnOk result (PlacesSlice mode (frame_span S.took S.failures frames sink.old sink.new)
+        (slice_after before unit.now state.old.slice.header begins) state.old state.new) }
     ensures sets { OnOk result (state.new.sets ≡ maps_with state.old.sets (contents.OfSlice state.old.slice.header [])) }
     ensures named { OnOk result (is_some (sets_of state.new.sets state.new.slice.header.pic_parameter_set_id.value) ≡ true) }
     ensures format { format_in state.new.decoder ≡ format_in state.old.decoder }

@@ -2,7 +2,7 @@
 #![tactic(auto)]
 
 ghost use Rattle.std.specs.Prelude.{◌≡◌, ℕ, Bool, false, ◌==◌, ◌||◌, ◌+◌, ◌-◌, ◌*◌, ◌<◌, ◌≤◌, ◌^◌, true, Some, List, [], ◌∷◌, if◌then◌else◌, OnOk, Ok, IsErrOf};
-ghost use Rattle.h264_base.specs.Call.{OfSlice, HasRoom, IsQuiet};
+ghost use Rattle.h264_base.specs.Call.{OfSlice, HasRoom, IsQuiet, span};
 ghost use Rattle.h264_sps.specs.Usable.{has_lengths};
 ghost use Rattle.h264_marking.specs.Gaps.{entered, all_filled, unused_short_term_frame_nums};
 ghost use Rattle.h264_near.specs.Coded.{CodedMacroblock};
@@ -14,7 +14,7 @@ ghost use Rattle.h264_verify.specs.History.{History};
 ghost use Rattle.h264_base.specs.declared.mode.Mode.{Mode};
 ghost use Rattle.h264_plane.specs.declared.frame.Frame.{Frame};
 ghost use Rattle.h264_dpb.specs.Turns.{Turn, turn_then};
-ghost use Rattle.h264_verify.specs.Telling.{Said, took_with};
+ghost use Rattle.h264_verify.specs.Telling.{Said, with_frames};
 ghost use Rattle.h264_verify.specs.Buffering.{gaps_turn, ended_picture, frame_count, newest_count};
 ghost use Rattle.h264_verify.specs.Keeping.{KeepsSlices, KeepsFrames, WhereMade, FillsFrames, EntersBy, KeepsSomeGap, GoesWith, KeepsSomeRules};
 ghost use Rattle.h264_verify.specs.Keeping.{HoldsEnd, format_in};
@@ -170,9 +170,9 @@ fn check_first_slice<S: FrameSink>(
     requires goes { is_idr head.now.header.now ≡ false → GoesWith head.now.place.sps.now slices.old.held decoder.old }
     requires kept { KeepsSomeGap decoder.old }
     ensures plays { (mode : Mode) (frames : ℕ → Frame) (t : Turn) (next : ℕ) (pictures : List Picture) →
-        WhereMade mode (FillsFrames frames t next) decoder.old → KeepsCounts pictures slices.old.counts → Plays (took_with frames S.took) S.failures (λ x. x)
-        (steps_outcome (first_by mode slices.old pictures t.buffer head.now.place.pps.now head.now.place.sps.now head.now.header.now
-        (8 * head.now.place.unit.now.from))) sink.old sink.new result }
+        WhereMade mode (FillsFrames frames t next) decoder.old → KeepsCounts pictures slices.old.counts →
+        Plays (with_frames frames (span S.took S.failures sink.old sink.new)) (λ x. x)
+        (steps_outcome (first_by mode slices.old pictures t.buffer (slice_at head.now.place head.now.header.now []))) result }
     ensures gap { (mode : Mode) (frames : ℕ → Frame) (t : Turn) (next : ℕ) → WhereMade mode (FillsFrames frames t next) decoder.old →
         OnOk result (WhereMade mode (FillsFrames frames (turn_then t (gaps_turn (numbering_of head.now.place.sps.now head.now.header.now)
         (unused_short_term_frame_nums (is_idr head.now.header.now) slices.old.prev_ref_frame_num
@@ -254,8 +254,8 @@ fn check_rules<S: FrameSink>(
     ensures plays { (mode : Mode) (frames : ℕ → Frame) (before : History) → KeepsSlices before head.now.place.begins slices.old →
         head.now.place.begins ≡ begins_at before head.now.header.now →
         WhereMade mode (KeepsFrames frames (goes_on before) head.now.place.begins (runs_of before)) decoder.old →
-        Plays (took_with frames S.took) S.failures (λ x. x) (steps_outcome
-        (slice_rules mode head.now.place.begins (runs_of before) (slice_at head.now.place head.now.header.now []))) sink.old sink.new result }
+        Plays (with_frames frames (span S.took S.failures sink.old sink.new)) (λ x. x) (steps_outcome
+        (slice_rules mode head.now.place.begins (runs_of before) (slice_at head.now.place head.now.header.now []))) result }
     ensures entered { (before : History) (macroblocks : List CodedMacroblock) → KeepsSlices before head.now.place.begins slices.old →
         head.now.place.begins ≡ begins_at before head.now.header.now →
         OnOk result (Entered before head.now.place.begins (slice_at head.now.place head.now.header.now macroblocks) slices.new) }
@@ -297,9 +297,9 @@ fn tell_slice<S: FrameSink>(
     sink: &mut S,
 ) -> Result<(), Stop>
     requires { HasRoom S.failures sink.old }
-    ensures plays { (frames : ℕ → Frame) → Plays (took_with frames S.took) S.failures (λ x. x)
+    ensures plays { (frames : ℕ → Frame) → Plays (with_frames frames (span S.took S.failures sink.old sink.new)) (λ x. x)
         (tells (Said (OfSlice byte header.now.first_mb_in_slice.value (type_of header.now.kind.value) header.now.frame_num.value
-        (frame_count count)))) sink.old sink.new result }
+        (frame_count count)))) result }
     ensures no_memory { IsErrOf result Stop.Memory → ⊥ }
 {
     let count = frame_count(count);
@@ -389,8 +389,8 @@ pub(crate) fn judge_rules<S: FrameSink>(
     ensures plays { (mode : Mode) (frames : ℕ → Frame) (before : History) → KeepsSlices before place.now.begins slices.old →
         place.now.begins ≡ begins_at before slice.old.header →
         WhereMade mode (KeepsFrames frames (goes_on before) place.now.begins (runs_of before)) decoder.old →
-        Plays (took_with frames S.took) S.failures (λ x. x) (steps_outcome
-        (told_rules mode place.now.begins (runs_of before) (slice_at place.now slice.old.header []))) sink.old sink.new result }
+        Plays (with_frames frames (span S.took S.failures sink.old sink.new)) (λ x. x) (steps_outcome
+        (told_rules mode place.now.begins (runs_of before) (slice_at place.now slice.old.header []))) result }
     ensures entered { (before : History) (macroblocks : List CodedMacroblock) → KeepsSlices before place.now.begins slices.old →
         place.now.begins ≡ begins_at before slice.old.header → OnOk result (KeepsPictures true false
         (joined_to place.now.begins (slice_at place.now slice.old.header macroblocks) (runs_of before)) slices.new) }

@@ -2,7 +2,7 @@
 #![tactic(auto)]
 
 ghost use Rattle.std.specs.Prelude.{◌≡◌, true, false, IsTrue, ℕ, ◌+◌, ◌-◌, ◌*◌, ◌<◌, ◌≤◌, ◌^◌, List, [], ◌∷◌, length, ◌==◌, ◌||◌, OnOk, IfOk, IfErr};
-ghost use Rattle.h264_base.specs.Call.{HasRoom, IsQuiet};
+ghost use Rattle.h264_base.specs.Call.{HasRoom, IsQuiet, span};
 ghost use Rattle.std.specs.Prelude.{IsErrOf, Ok, Err, if◌then◌else◌};
 ghost use Rattle.std.specs.Option.{is_some};
 ghost use Rattle.h264_rbsp.specs.Rbsp.{body_of};
@@ -17,7 +17,7 @@ ghost use Rattle.h264_verify.specs.History.{History, maps_of};
 ghost use Rattle.h264_verify.specs.Content as contents;
 ghost use Rattle.h264_plane.specs.declared.frame.Frame.{Frame};
 ghost use Rattle.h264_dpb.specs.Turns.{Turn, last_turn};
-ghost use Rattle.h264_verify.specs.Telling.{Said, took_with};
+ghost use Rattle.h264_verify.specs.Telling.{Said, with_frames, frame_span};
 ghost use Rattle.h264_verify.specs.Buffering.{told_frames, after_all, frames_written};
 ghost use Rattle.h264_verify.specs.Sound.{IsMarked};
 ghost use Rattle.h264_verify.specs.KeepingUnits.{Keeps, KeepsWithin, KeepsSome};
@@ -103,8 +103,8 @@ fn check_header(from: u64, header: u8) -> Result<(), Stop>
 /// Tells the sink a unit of so many bytes, which begins at this byte.
 fn tell_unit<S: FrameSink>(from: u64, header: u8, length: u64, sink: &mut S) -> Result<(), Stop>
     requires { HasRoom S.failures sink.old }
-    ensures plays { (frames : ℕ → Frame) → Plays (took_with frames S.took) S.failures (λ x. x)
-        (tells (Said (unit_call from header length))) sink.old sink.new result }
+    ensures plays { (frames : ℕ → Frame) → Plays (with_frames frames (span S.took S.failures sink.old sink.new)) (λ x. x)
+        (tells (Said (unit_call from header length))) result }
     ensures no_memory { IsErrOf result Stop.Memory → ⊥ }
 {
     match sink.unit(from, header % 32, header / 32 % 4, length) {
@@ -133,8 +133,8 @@ fn read_slice_unit<S: FrameSink>(
 ) -> Result<(), Stop>
     requires { HasRoom S.failures sink.old }
     ensures plays { (frames : ℕ → Frame) (before : History) (unit : UnitView) → sets.now ≡ maps_of before → header ≡ header_of unit →
-        rbsp.now ≡ body_of unit → Plays (took_with frames S.took) S.failures (λ _. contents.OfSlice found.new [])
-        (slice_outcome before unit) sink.old sink.new result }
+        rbsp.now ≡ body_of unit →
+        Plays (with_frames frames (span S.took S.failures sink.old sink.new)) (λ _. contents.OfSlice found.new []) (slice_outcome before unit) result }
     ensures id { OnOk result (found.new.pic_parameter_set_id.value ≤ 255) }
     ensures named { OnOk result (is_some (sets_of sets.now found.new.pic_parameter_set_id.value) ≡ true) }
     ensures marked { fits_kind (nal_unit_type header) (nal_ref_idc header) ≡ true → OnOk result (IsMarked found.new) }
@@ -176,8 +176,9 @@ fn join_sps<S: FrameSink>(
     requires kind { kind ≡ nal_unit_type (header_of unit.now) }
     requires rbsp { rbsp.now ≡ body_of unit.now }
     ensures joins { (frames : ℕ → Frame) (before : History) → KeepsWithin terms.mode frames before (ends_picture kind) state.old →
-        Joins terms.mode S.took S.failures frames (length (ended_pictures (goes_on before) (ends_picture kind) (runs_of before)))
-        (joined terms.mode before unit.now (sps_outcome terms.target unit.now)) state.new sink.old sink.new result }
+        Joins terms.mode (frame_span S.took S.failures frames sink.old sink.new)
+        (length (ended_pictures (goes_on before) (ends_picture kind) (runs_of before)))
+        (joined terms.mode before unit.now (sps_outcome terms.target unit.now)) state.new result }
     ensures counts { OnOk result (state.new.units ≡ state.old.units + 1) }
     ensures pictures { OnOk result (state.new.slices.pictures ≤ state.new.units) }
     ensures no_memory { IsErrOf result Stop.Memory → ⊥ }
@@ -206,8 +207,9 @@ fn join_pps<S: FrameSink>(
     requires kind { kind ≡ nal_unit_type (header_of unit.now) }
     requires rbsp { rbsp.now ≡ body_of unit.now }
     ensures joins { (frames : ℕ → Frame) (before : History) → KeepsWithin terms.mode frames before (ends_picture kind) state.old →
-        Joins terms.mode S.took S.failures frames (length (ended_pictures (goes_on before) (ends_picture kind) (runs_of before)))
-        (joined terms.mode before unit.now (pps_outcome terms.target unit.now)) state.new sink.old sink.new result }
+        Joins terms.mode (frame_span S.took S.failures frames sink.old sink.new)
+        (length (ended_pictures (goes_on before) (ends_picture kind) (runs_of before)))
+        (joined terms.mode before unit.now (pps_outcome terms.target unit.now)) state.new result }
     ensures counts { OnOk result (state.new.units ≡ state.old.units + 1) }
     ensures pictures { OnOk result (state.new.slices.pictures ≤ state.new.units) }
     ensures no_memory { IsErrOf result Stop.Memory → ⊥ }
@@ -237,8 +239,8 @@ fn join_slice<S: FrameSink>(
     requires fits { fits_kind (nal_unit_type header) (nal_ref_idc header) ≡ true }
     requires kept { KeepsSome modes.Headers false state.old }
     ensures joins { (frames : ℕ → Frame) (before : History) → KeepsWithin modes.Headers frames before (ends_picture (nal_unit_type header)) state.old →
-        Joins modes.Headers S.took S.failures frames (ended_in before)
-        (joined modes.Headers before unit.now (slice_outcome before unit.now)) state.new sink.old sink.new result }
+        Joins modes.Headers (frame_span S.took S.failures frames sink.old sink.new) (ended_in before)
+        (joined modes.Headers before unit.now (slice_outcome before unit.now)) state.new result }
     ensures counts { OnOk result (state.new.units ≡ state.old.units + 1) }
     ensures pictures { OnOk result (state.new.slices.pictures ≤ state.new.units) }
     ensures no_memory { IsErrOf result Stop.Memory → ⊥ }
@@ -283,7 +285,7 @@ fn join_read<S: FrameSink>(
     requires fits { fits_kind (nal_unit_type header) (nal_ref_idc header) ≡ true }
     requires kept { KeepsSome modes.Full false state.old }
     ensures joins { (frames : ℕ → Frame) (before : History) → KeepsWithin modes.Full frames before (ends_picture (nal_unit_type header)) state.old →
-        Joins modes.Full S.took S.failures frames (ended_in before) (whole_slice before unit.now) state.new sink.old sink.new result }
+        Joins modes.Full (frame_span S.took S.failures frames sink.old sink.new) (ended_in before) (whole_slice before unit.now) state.new result }
     ensures counts { OnOk result (state.new.units ≡ state.old.units + 1) }
     ensures pictures { OnOk result (state.new.slices.pictures ≤ state.new.units) }
     ensures no_memory { (frames : ℕ → Frame) (before : History) → KeepsWithin modes.Full frames before (ends_picture (nal_unit_type header)) state.old →
@@ -333,7 +335,7 @@ fn join_whole_slice<S: FrameSink>(
     requires fits { fits_kind (nal_unit_type header) (nal_ref_idc header) ≡ true }
     requires kept { KeepsSome modes.Full false state.old }
     ensures joins { (frames : ℕ → Frame) (before : History) → KeepsWithin modes.Full frames before (ends_picture (nal_unit_type header)) state.old →
-        Joins modes.Full S.took S.failures frames (ended_in before) (whole_slice before unit.now) state.new sink.old sink.new result }
+        Joins modes.Full (frame_span S.took S.failures frames sink.old sink.new) (ended_in before) (whole_slice before unit.now) state.new result }
     ensures counts { OnOk result (state.new.units ≡ state.old.units + 1) }
     ensures pictures { OnOk result (state.new.slices.pictures ≤ state.new.units) }
     ensures no_memory { (frames : ℕ → Frame) (before : History) → KeepsWithin modes.Full frames before (ends_picture (nal_unit_type header)) state.old →
@@ -371,9 +373,9 @@ fn join<S: FrameSink>(
     requires kept { KeepsSome terms.mode (ends_picture (nal_unit_type bytes.now.header)) state.old }
     ensures joins { (frames : ℕ → Frame) (before : History) →
         KeepsWithin terms.mode frames before (ends_picture (nal_unit_type bytes.now.header)) state.old →
-        Joins terms.mode S.took S.failures frames
+        Joins terms.mode (frame_span S.took S.failures frames sink.old sink.new)
         (length (ended_pictures (goes_on before) (ends_picture (nal_unit_type bytes.now.header)) (runs_of before)))
-        (joined_by terms (nal_unit_type bytes.now.header) before bytes.now.unit.now) state.new sink.old sink.new result }
+        (joined_by terms (nal_unit_type bytes.now.header) before bytes.now.unit.now) state.new result }
     ensures counts { OnOk result (state.new.units ≡ state.old.units + 1) }
     ensures pictures { OnOk result (state.new.slices.pictures ≤ state.new.units) }
     ensures no_memory { (frames : ℕ → Frame) (before : History) →
@@ -417,7 +419,7 @@ pub fn judge_unit<S: FrameSink>(
     requires bytes { rbsp.now ≡ bytes_of terms.mode unit.now }
     requires kept { KeepsSome terms.mode false state.old }
     ensures turns { (frames : ℕ → Frame) (before : History) → Keeps terms.mode frames before state.old →
-        Turns terms S.took S.failures frames before unit.now state.new sink.old sink.new result }
+        Turns terms (frame_span S.took S.failures frames sink.old sink.new) before unit.now state.new result }
     ensures counts { OnOk result (state.new.units ≡ state.old.units + 1) }
     ensures pictures { OnOk result (state.new.slices.pictures ≤ state.new.units) }
     ensures no_memory { (frames : ℕ → Frame) (before : History) → Keeps terms.mode frames before state.old → IsErrOf result Stop.Memory →
@@ -452,7 +454,7 @@ fn finish_frames<S: FrameSink>(decoder: &mut Option<Decoder>, sink: &mut S) -> R
     requires room { HasRoom S.failures sink.old }
     requires kept { KeepsSomeGap decoder.old }
     ensures plays { (mode : Mode) (frames : ℕ → Frame) (t : Turn) (next : ℕ) → WhereMade mode (FillsFrames frames t next) decoder.old →
-        Plays (took_with frames S.took) S.failures (λ x. x) (steps_outcome (told_frames mode (last_turn t.buffer).written)) sink.old sink.new result }
+        Plays (with_frames frames (span S.took S.failures sink.old sink.new)) (λ x. x) (steps_outcome (told_frames mode (last_turn t.buffer).written)) result }
     ensures written { (mode : Mode) (frames : ℕ → Frame) (t : Turn) (next : ℕ) → WhereMade mode (FillsFrames frames t next) decoder.old →
         OnOk result (WhereMade mode (HasWritten t) decoder.new) }
     ensures no_memory { IfErr result (λ e. e ≡ Stop.Write) }
@@ -489,7 +491,7 @@ pub fn judge_end<S: FrameSink>(
     requires pictures { state.old.slices.pictures ≤ state.old.units }
     requires kept { KeepsSome mode false state.old }
     ensures ends { (frames : ℕ → Frame) (before : History) → Keeps mode frames before state.old →
-        EndsAll mode S.took S.failures frames before bit (λ x. x) sink.old sink.new result }
+        EndsAll mode (frame_span S.took S.failures frames sink.old sink.new) before bit (λ x. x) result }
     ensures no_memory { IsErrOf result Stop.Memory → ⊥ }
 {
     close_if(true, &mut state.slices, &mut state.decoder, sink)?;

@@ -1,6 +1,6 @@
 -- The answer on the bytes that a source gives.
 use Rattle.std.proofs.Common.{◌≡◌, ℕ, Bool, true, false, ◌⊎◌, ⊎_elim, List, [], Option, Some, Result, Ok, Err, sym, subst}
-use Rattle.h264_base.specs.Call.{Call}
+use Rattle.h264_base.specs.Call.{Call, span}
 use Rattle.h264_base.specs.declared.mode.Mode.{Mode}
 use Rattle.h264_base.specs.declared.mode.Target.{Target}
 use Rattle.h264_base.specs.declared.stop.Stop.{Stop}
@@ -22,7 +22,7 @@ use Rattle.h264v.specs.Words.{mode_of}
 use Rattle.h264v.specs.declared.command_line.Task.{Task}
 
 of-judged : {S : Type 0} {took : S → List Call → Type 0} {failures : S → ℕ} {terms : Terms} {bytes : List ℕ} {frames : ℕ → Frame} {s s' : S} (answer : Result Summary Stop) →
-    Judged terms took failures bytes frames [] s s' answer → IsAnswer terms bytes answer
+    Judged terms (span took failures s s') bytes frames [] answer → IsAnswer terms bytes answer
 of-judged (Ok summary) j = (j.judged.0.more, j.judged.0.verdict)
 of-judged (Err (No bit rule)) j = (j.judged.0.more, j.judged.0.verdict)
 of-judged (Err (Outside bit feature)) j = (j.judged.0.more, j.judged.0.verdict)
@@ -32,16 +32,16 @@ of-judged (Err Write) j = tt
 
 -- a judgement of what a source gives, whether it tells it or not, as far as a task judges
 pub answered : {S : Type 0} {took : S → List Call → Type 0} {failures : S → ℕ} {s s' : S} (task : Task) (target : Target) (mode : Mode) (left : Option (List ℕ)) (answer : Result Summary Stop) →
-    mode ≡ mode_of task → ((bytes : List ℕ) → left ≡ Some bytes → (frames : ℕ → Frame) → Judged (terms_of mode target) took failures bytes frames [] s s' answer) →
-    (some : List ℕ) → ((frames : ℕ → Frame) → Judged (terms_of mode target) took failures some frames [] s s' answer) → IsAnswerOf task target left answer
+    mode ≡ mode_of task → ((bytes : List ℕ) → left ≡ Some bytes → (frames : ℕ → Frame) → Judged (terms_of mode target) (span took failures s s') bytes frames [] answer) →
+    (some : List ℕ) → ((frames : ℕ → Frame) → Judged (terms_of mode target) (span took failures s s') some frames [] answer) → IsAnswerOf task target left answer
 answered task target mode left answer is known some judged =
     subst (λ m. OfBytes left (λ bytes. IsAnswer (terms_of m target) bytes answer)) is
     (of-bytes left (λ bytes. IsAnswer (terms_of mode target) bytes answer) (λ bytes h. of-judged answer (known bytes h (λ k. no_frame))) (some, of-judged answer (judged (λ k. no_frame))))
 
 -- the calls that a sink took of what a source gives
 pub took-calls : {S : Type 0} {took : S → List Call → Type 0} {failures : S → ℕ} {s s' : S} (task : Task) (target : Target) (mode : Mode) (left : Option (List ℕ)) (answer : Result Summary Stop) →
-    mode ≡ mode_of task → ((bytes : List ℕ) → left ≡ Some bytes → (frames : ℕ → Frame) → Judged (terms_of mode target) took failures bytes frames [] s s' answer) →
-    (some : List ℕ) → ((frames : ℕ → Frame) → Judged (terms_of mode target) took failures some frames [] s s' answer) → took s [] →
+    mode ≡ mode_of task → ((bytes : List ℕ) → left ≡ Some bytes → (frames : ℕ → Frame) → Judged (terms_of mode target) (span took failures s s') bytes frames [] answer) →
+    (some : List ℕ) → ((frames : ℕ → Frame) → Judged (terms_of mode target) (span took failures s s') some frames [] answer) → took s [] →
     OfBytes left (λ bytes. (a : Account (terms_of (mode_of task) target) bytes answer) × took s' (calls_in a))
 took-calls {took = took} {s' = s'} task target mode left answer is known some judged none =
     subst (λ m. OfBytes left (λ bytes. (a : Account (terms_of m target) bytes answer) × took s' (calls_in a))) is
@@ -49,11 +49,11 @@ took-calls {took = took} {s' = s'} task target mode left answer is known some ju
 
 -- and those of which a choice leaves something
 pub chosen-calls : {S : Type 0} (took : S → List Call → Type 0) (terms : Terms) (answer : Result Summary Stop) (left : Option (List ℕ)) (choice k : Choice) (broke_off : Bool) (reading : Reading) (pending : Option UnitCall) (sink : S) →
-    OfBytes left (λ bytes. (a : Account terms bytes answer) × ((choice ≡ k) × TookChosen took choice broke_off reading pending sink (calls_in a))) →
-    OfBytes left (λ bytes. (a : Account terms bytes answer) × TookChosen took k broke_off reading pending sink (calls_in a))
+    OfBytes left (λ bytes. (a : Account terms bytes answer) × ((choice ≡ k) × TookChosen took choice broke_off (record { reading = reading; pending = pending }) sink (calls_in a))) →
+    OfBytes left (λ bytes. (a : Account terms bytes answer) × TookChosen took k broke_off (record { reading = reading; pending = pending }) sink (calls_in a))
 chosen-calls took terms answer left choice k broke_off reading pending sink h =
-    of-map left (λ bytes. (a : Account terms bytes answer) × ((choice ≡ k) × TookChosen took choice broke_off reading pending sink (calls_in a))) (λ bytes. (a : Account terms bytes answer) × TookChosen took k broke_off reading pending sink (calls_in a))
-    (λ bytes t. (t.0, subst (λ c. TookChosen took c broke_off reading pending sink (calls_in t.0)) t.1.0 t.1.1)) h
+    of-map left (λ bytes. (a : Account terms bytes answer) × ((choice ≡ k) × TookChosen took choice broke_off (record { reading = reading; pending = pending }) sink (calls_in a))) (λ bytes. (a : Account terms bytes answer) × TookChosen took k broke_off (record { reading = reading; pending = pending }) sink (calls_in a))
+    (λ bytes t. (t.0, subst (λ c. TookChosen took c broke_off (record { reading = reading; pending = pending }) sink (calls_in t.0)) t.1.0 t.1.1)) h
 
 told-one : (terms : Terms) (bytes : List ℕ) (broke_off : Bool) (answer : Result Summary Stop) → IsAnswer terms bytes answer → IsAnswer terms bytes (told_of broke_off answer)
 told-one terms bytes true answer h = tt

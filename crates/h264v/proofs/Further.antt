@@ -4,7 +4,7 @@ use Rattle.std.specs.List.{All}
 use Rattle.std.proofs.lemmas.List.{take_more}
 use Rattle.std.proofs.lemmas.List.Elements.{All-push}
 use Rattle.std.specs.Io.KnownBytes.{Keeps}
-use Rattle.h264_base.specs.Call.{Call}
+use Rattle.h264_base.specs.Call.{Call, span}
 use Rattle.h264_base.specs.declared.mode.Mode.{Mode}
 use Rattle.h264_base.specs.declared.mode.Target.{Target}
 use Rattle.h264_base.specs.declared.stop.Stop.{Stop}
@@ -78,7 +78,7 @@ one-rule-more P rules i d inside all one = subst (All P) (sym (take_more rules i
 
 -- a judgement with the further rules
 pub judged : {S : Type 0} {took : S → List Call → Type 0} {failures : S → ℕ} {s s' : S} (mode whole : Mode) (target : Target) (left : Option (List ℕ)) (answer : Result Summary Stop) (further : FurtherRules) →
-    mode ≡ whole → (bytes : List ℕ) (ended : Bool) → AreFirst left bytes ended → OnOk answer (ended ≡ true) → JudgedOf (terms_of mode target) took failures bytes (λ k. no_frame) [] s s' answer → took s [] →
+    mode ≡ whole → (bytes : List ℕ) (ended : Bool) → AreFirst left bytes ended → OnOk answer (ended ≡ true) → JudgedOf (terms_of mode target) (span took failures s s') bytes (λ k. no_frame) [] answer → took s [] →
     ((calls : List Call) → took s' calls → TookStrict further.strict calls) → TellsOfBytes further.units.extent ended further.units.found further.units.lack bytes → AreJudged (terms_of whole target) left answer further
 judged mode whole target left answer further is bytes ended first all j none strict units =
     let a = accounts j none in

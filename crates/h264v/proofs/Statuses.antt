@@ -1,10 +1,9 @@
 -- The exit status of one file, and of several.
-use Rattle.std.proofs.Common.{◌≡◌, ℕ, max, List, [], ◌∷◌, ◌++◌, map, length, get_or, Bool, fold, cond, ◌+◌, Option, refl, ap, ◌∙◌, subst, arith}
+use Rattle.std.proofs.Common.{◌≡◌, ℕ, max, List, [], ◌∷◌, ◌++◌, map, length, get_or, Bool, fold, cond, ◌+◌, refl, ap, ◌∙◌, subst, arith}
 use Rattle.std.specs.List.{count_by}
 use Rattle.clap.specs.Words.{Text}
-use Rattle.h264v.specs.Commands.{Output}
-use Rattle.h264v.specs.Files.{Counts}
-use Rattle.h264v.specs.More.{FileDone, IsStatus, done_status, worst}
+use Rattle.h264v.specs.Commands.{Output, from_to}
+use Rattle.h264v.specs.More.{FileDone, FilesSpan, IsStatus, done_status, worst}
 use Rattle.h264v.specs.Words.{Given}
 use Rattle.h264v.specs.declared.command_line.Task.{Task}
 
@@ -30,7 +29,7 @@ pub count-map : {X : Type 0} (p : Text → Bool) (of : X → Text) (xs : List X)
 count-map p of xs = let none : ℕ = 0 in fold-map (λ n y. n + cond (p y) 1 0) of none xs
 
 -- what comes of a task, with the same rows and devices
-pub moved : {task : Task} {given given' : Given} {file : Text → Option (List ℕ)} {before after : Counts} {status : ℕ} {was was' out err err' now : Output} → given ≡ given' → was ≡ was' → err ≡ err' →
-    IsStatus task given file before after status was out err now → IsStatus task given' file before after status was' out err' now
-moved {task} {given} {given'} {file} {before} {after} {status} {was} {was'} {out} {err} {err'} {now} g o e s =
-    subst (λ x. IsStatus task given' file before after status was' out x now) e (subst (λ x. IsStatus task given' file before after status x out err now) o (subst (λ x. IsStatus task x file before after status was out err now) g s))
+pub moved : {task : Task} {given given' : Given} {files : FilesSpan} {status : ℕ} {was was' out err err' now : Output} → given ≡ given' → was ≡ was' → err ≡ err' →
+    IsStatus task given files status (from_to was out) (from_to err now) → IsStatus task given' files status (from_to was' out) (from_to err' now)
+moved {task} {given} {given'} {files} {status} {was} {was'} {out} {err} {err'} {now} g o e s =
+    subst (λ x. IsStatus task given' files status (from_to was' out) (from_to x now)) e (subst (λ x. IsStatus task given' files status (from_to x out) (from_to err now)) o (subst (λ x. IsStatus task x files status (from_to was out) (from_to err now)) g s))

@@ -6,10 +6,11 @@ use Rattle.std.proofs.lemmas.List.{append-nil, append_assoc}
 use Rattle.h264_base.specs.Call.{Call}
 use Rattle.h264_base.specs.declared.stop.Stop.{Stop}
 use Rattle.h264_report.proofs.Accounts.{of-bytes, of-kept, of-listing, of-map}
+use Rattle.h264_report.proofs.Sinks.{lined}
 use Rattle.h264_report.proofs.Known.{keeps-appends, sends-keeps, sends-more, sends-none}
 use Rattle.h264_report.specs.Chosen.{TookChosen, left_in, at_first}
-use Rattle.h264_report.specs.Objects.{Opening}
-use Rattle.h264_report.specs.Sent.{Sends, Takes, IsBlamed}
+use Rattle.h264_report.specs.Objects.{Opening, OfLine}
+use Rattle.h264_report.specs.Sent.{Sends, Takes, IsBlamed, lent}
 use Rattle.h264_report.specs.Told.{lines_of, bytes_of, HoldsCalls, TookLines, TookFrames}
 use Rattle.h264_report.specs.Written.{OfBytes, Account, calls_in}
 use Rattle.h264_report.specs.Y4m.{TookY4m, SuitsHead, framed_of, y4m_of}
@@ -24,7 +25,7 @@ use Rattle.h264_verify.specs.declared.state.Terms.{Terms}
 use Rattle.h264v.specs.Commands.{Output, output_of}
 use Rattle.h264v.specs.Further.{IsNoVerdict, IsToldOf}
 use Rattle.h264v.specs.More.{FileDone, texts_of}
-use Rattle.h264v.specs.Texts.{IsFrontOfNext, IsMade, IsListed, chooses, IsDecoded, IsTextOf, TakesText, IsEnd, IsTold, IsFileText, Judged, Unjudged, answers_aside, listing_of}
+use Rattle.h264v.specs.Texts.{IsFrontOfNext, IsMade, IsListed, chooses, IsDecoded, IsTextOf, TakesText, TellsAnswer, Quiet, Whole, Short, IsEnd, AreBoth, IsFileText, Judged, Unjudged, answers_aside, listing_of}
 use Rattle.h264v.specs.Words.{mode_of}
 use Rattle.h264v.specs.declared.command_line.Task.{Task}
 use Rattle.h264v.specs.declared.command_line.Task.TheVariants as tasks
@@ -41,19 +42,19 @@ made true make start was new calls h b none = absurd (true≢false (sym b ∙ no
 made false make start was new calls h b none = h
 
 -- the calls of which something is left, and some more
-pub left-calls : {S : Type 0} (took : S → List Call → Type 0) (choice : Choice) (broke_off : Bool) (reading : Reading) (pending : Option UnitCall) (sink : S) (calls : List Call) → TookChosen took choice broke_off reading pending sink calls →
+pub left-calls : {S : Type 0} (took : S → List Call → Type 0) (choice : Choice) (broke_off : Bool) (reading : Reading) (pending : Option UnitCall) (sink : S) (calls : List Call) → TookChosen took choice broke_off (record { reading = reading; pending = pending }) sink calls →
     (more : List Call) × took sink (left_in choice at_first calls ++ more) × ((more ≡ []) ⊎ IsFrontOfNext choice calls more)
 left-calls took choice false reading pending sink calls h = ([], subst (took sink) (sym (append-nil (left_in choice at_first calls))) h.tells, inl refl)
 left-calls took choice true reading pending sink calls h = (h.front, h.tells, inr (record { call = h.refused; rest = h.rest; whole = h.whole }))
 
 -- what a sink took of which a choice leaves something
-pub left-some : {S : Type 0} (took : S → List Call → Type 0) (choice : Choice) (broke_off : Bool) (reading : Reading) (pending : Option UnitCall) (sink : S) (calls : List Call) → TookChosen took choice broke_off reading pending sink calls →
+pub left-some : {S : Type 0} (took : S → List Call → Type 0) (choice : Choice) (broke_off : Bool) (reading : Reading) (pending : Option UnitCall) (sink : S) (calls : List Call) → TookChosen took choice broke_off (record { reading = reading; pending = pending }) sink calls →
     (left : List Call) × took sink left
 left-some took choice broke_off reading pending sink calls h = let l = left-calls took choice broke_off reading pending sink calls h in (left_in choice at_first calls ++ l.0, l.1)
 
 -- the lines of a listing
 pub takes-lines : {name reference : ℕ} {head begins : Opening} {listing l : Listing} {start : Option (List ℕ)} {was : Bool} {frames : ℕ} {terms : Terms} {bytes : List ℕ} {answer : Result Summary Stop} (broke_off : Bool) (new : Output) →
-    (a : Account terms bytes answer) × TookLines name head listing start was reference begins l frames broke_off new.has_failed new.bytes (calls_in a) → TakesText (IsMade (lines_of head listing 0) terms bytes answer) start new
+    (a : Account terms bytes answer) × TookLines (lent name start was) head listing (lined begins l (lent reference new.bytes new.has_failed) frames broke_off) (calls_in a) → TakesText (IsMade (lines_of head listing 0) terms bytes answer) start new
 takes-lines {head = head} {listing = listing} {start = start} {was = was} broke_off new t = record {
   text = lines_of head listing 0 (calls_in t.0);
   is_text = record { account = t.0; is = refl };
@@ -62,7 +63,7 @@ takes-lines {head = head} {listing = listing} {start = start} {was = was} broke_
 
 -- the bytes of frames
 pub takes-frames : {name reference : ℕ} {start : Option (List ℕ)} {was : Bool} {terms : Terms} {bytes : List ℕ} {answer : Result Summary Stop} (broke_off : Bool) (new : Output) →
-    (a : Account terms bytes answer) × TookFrames name start was reference broke_off new.has_failed new.bytes (calls_in a) → TakesText (IsDecoded false terms bytes answer) start new
+    (a : Account terms bytes answer) × TookFrames (lent name start was) broke_off (lent reference new.bytes new.has_failed) (calls_in a) → TakesText (IsDecoded false terms bytes answer) start new
 takes-frames {start = start} {was = was} broke_off new t = record {
   text = bytes_of (calls_in t.0);
   is_text = record { account = t.0; is = refl };
@@ -71,7 +72,7 @@ takes-frames {start = start} {was = was} broke_off new t = record {
 
 -- frames with lines, after a header
 pub takes-y4m : {name reference : ℕ} {start : Option (List ℕ)} {was : Bool} {head : Option Head} {terms : Terms} {bytes : List ℕ} {answer : Result Summary Stop} (broke_off : Bool) (new : Output) →
-    (a : Account terms bytes answer) × TookY4m name start was reference head broke_off new.has_failed new.bytes (calls_in a) → TakesText (IsDecoded true terms bytes answer) start new
+    (a : Account terms bytes answer) × TookY4m (lent name start was) head broke_off (lent reference new.bytes new.has_failed) (calls_in a) → TakesText (IsDecoded true terms bytes answer) start new
 takes-y4m {start = start} {was = was} {head = head} broke_off new t = record {
   text = y4m_of head (calls_in t.0);
   is_text = record { head = head; account = t.0; suits = t.1.suits; is = refl };
@@ -80,7 +81,7 @@ takes-y4m {start = start} {was = was} {head = head} broke_off new t = record {
 
 -- a sink of frames with lines that was told nothing
 pub none-y4m : {name reference : ℕ} {start known : Option (List ℕ)} {head : Option Head} {was broke_off broken : Bool} → reference ≡ name → head ≡ None → known ≡ start → broken ≡ was → broke_off ≡ false →
-    TookY4m name start was reference head broke_off broken known []
+    TookY4m (lent name start was) head broke_off (lent reference known broken) []
 unfolding framed_of
 none-y4m {name} {reference} {start} {known} {head} {was} {broke_off} {broken} same headless unwritten quiet whole = record {
   same_reference = same;
@@ -91,7 +92,7 @@ none-y4m {name} {reference} {start} {known} {head} {was} {broke_off} {broken} sa
 
 -- the lines of what is left
 pub takes-left : {name reference : ℕ} {head begins : Opening} {listing l : Listing} {start : Option (List ℕ)} {was : Bool} {frames : ℕ} {terms : Terms} {bytes : List ℕ} {answer : Result Summary Stop} (choice : Choice) (broke_off : Bool) (new : Output) → chooses choice ≡ true →
-    (a : Account terms bytes answer) (more : List Call) → (more ≡ []) ⊎ IsFrontOfNext choice (calls_in a) more → TookLines name head listing start was reference begins l frames broke_off new.has_failed new.bytes (left_in choice at_first (calls_in a) ++ more) →
+    (a : Account terms bytes answer) (more : List Call) → (more ≡ []) ⊎ IsFrontOfNext choice (calls_in a) more → TookLines (lent name start was) head listing (lined begins l (lent reference new.bytes new.has_failed) frames broke_off) (left_in choice at_first (calls_in a) ++ more) →
     TakesText (IsListed choice (lines_of head listing 0) terms bytes answer) start new
 takes-left {head = head} {listing = listing} {start = start} {was = was} choice broke_off new chosen a more next t = record {
   text = lines_of head listing 0 (left_in choice at_first (calls_in a) ++ more);
@@ -101,8 +102,8 @@ takes-left {head = head} {listing = listing} {start = start} {was = was} choice 
 
 pub takes-chosen : {name reference : ℕ} {head begins : Opening} {listing l : Listing} {start : Option (List ℕ)} {was : Bool} {frames : ℕ} {terms : Terms} {bytes : List ℕ} {answer : Result Summary Stop} {S : Type 0} (took : S → List Call → Type 0)
     (choice : Choice) (is_broken : Bool) (reading : Reading) (pending : Option UnitCall) (sink : S) (broke_off : Bool) (new : Output) → chooses choice ≡ true →
-    (a : Account terms bytes answer) × TookChosen took choice is_broken reading pending sink (calls_in a) →
-    ((calls : List Call) → took sink calls → TookLines name head listing start was reference begins l frames broke_off new.has_failed new.bytes calls) → TakesText (IsListed choice (lines_of head listing 0) terms bytes answer) start new
+    (a : Account terms bytes answer) × TookChosen took choice is_broken (record { reading = reading; pending = pending }) sink (calls_in a) →
+    ((calls : List Call) → took sink calls → TookLines (lent name start was) head listing (lined begins l (lent reference new.bytes new.has_failed) frames broke_off) calls) → TakesText (IsListed choice (lines_of head listing 0) terms bytes answer) start new
 takes-chosen took choice is_broken reading pending sink broke_off new chosen t of =
     let l = left-calls took choice is_broken reading pending sink (calls_in t.0) t.1 in takes-left choice broke_off new chosen t.0 l.0 l.2 (of _ l.1)
 
@@ -162,12 +163,33 @@ module _ (found : Option Found) (source : Option (List ℕ)) (o : Options) (open
     list-text tasks.Explain c d i r h = h
 
 -- what an end takes, written to the output or aside
-pub end-here : (task : Task) (written : Bool) (old : Option (List ℕ)) (new : Output) (end : List ℕ) → answers_aside task ≡ false → Takes written old new.bytes end → (written ≡ false → new.has_failed ≡ true) → TakesText (IsEnd task) old new
-end-here task true old new end here t failed = record { text = end; is_text = λ aside. absurd (true≢false (sym aside ∙ here)); sends = λ none. t }
-end-here task false old new end here t failed = record { text = end; is_text = λ aside. absurd (true≢false (sym aside ∙ here)); sends = λ none. absurd (true≢false (sym (failed refl) ∙ none)) }
+module _ {task : Task} {o : Options} {opening : Opening} {said : Result Summary Stop} where
+  pub end-here : (written : Bool) (old : Option (List ℕ)) (new : Output) (end : List ℕ) → answers_aside task ≡ false → Takes written old new.bytes end → TellsAnswer task o opening said end → (written ≡ false → new.has_failed ≡ true) →
+      TakesText (IsEnd task o opening said) old new
+  end-here written old new end here t tells failed = record {
+    text = end;
+    is_text = record { aside = λ aside. absurd (true≢false (sym aside ∙ here)); here = λ h. tells };
+    sends = λ none. taken written new.has_failed t failed none;
+  }
 
-pub end-aside : (task : Task) (out : Output) → TakesText (IsEnd task) out.bytes out
-end-aside task out = record { text = []; is_text = λ aside. refl; sends = λ none. sends-none out.bytes }
+  pub end-aside : (out : Output) → answers_aside task ≡ true → TakesText (IsEnd task o opening said) out.bytes out
+  end-aside out aside = record { text = []; is_text = record { aside = λ a. refl; here = λ here. absurd (true≢false (sym aside ∙ here)) }; sends = λ none. sends-none out.bytes }
+
+-- a line that tells that there is no verdict, whatever stands before other lines
+renamed : {task : Task} {o : Options} {said : Result Summary Stop} {text : List ℕ} (p q : List ℕ) → IsNoVerdict said → TellsAnswer task o (OfLine p) said text → TellsAnswer task o (OfLine q) said text
+renamed p q none (Quiet e t) = Quiet e t
+renamed p q none (Whole e w) = Short e none (w.0 ++ p) (w.1 ∙ sym (append_assoc w.0 p _))
+renamed p q none (Short e n before t) = Short e n before t
+
+pub end-renamed : {task : Task} {o : Options} {said : Result Summary Stop} {old : Option (List ℕ)} {new : Output} (p q : List ℕ) → IsNoVerdict said → TakesText (IsEnd task o (OfLine p) said) old new → TakesText (IsEnd task o (OfLine q) said) old new
+end-renamed p q none t = record { text = t.text; is_text = record { aside = t.is_text.aside; here = λ h. renamed p q none (t.is_text.here h) }; sends = t.sends }
+
+-- an object that was opened, has its fields, and was closed
+pub object-closed : (old head kind fields more end opened filled closed : List ℕ) → opened ≡ old ++ (head ++ kind) → filled ≡ opened ++ (fields ++ more) → closed ≡ filled ++ end →
+    closed ≡ old ++ (head ++ ((kind ++ fields) ++ (more ++ end)))
+object-closed old head kind fields more end opened filled closed a b c =
+    c ∙ ap (λ l. l ++ end) b ∙ append_assoc opened (fields ++ more) end ∙ ap (λ l. l ++ ((fields ++ more) ++ end)) a ∙ append_assoc old (head ++ kind) ((fields ++ more) ++ end)
+    ∙ ap (λ l. old ++ l) (append_assoc head kind ((fields ++ more) ++ end) ∙ ap (λ l. head ++ l) (ap (λ l. kind ++ l) (append_assoc fields more end) ∙ sym (append_assoc kind fields (more ++ end))))
 
 -- ---- what was written of a file
 
@@ -181,7 +203,7 @@ not-failed true is kept none = absurd (true≢false (sym (kept refl) ∙ none))
 not-failed false is kept none = refl
 
 file-kept : (task : Task) (o : Options) (opening : Opening) (held left : Option (List ℕ)) (told : Result Summary Stop) (text : List ℕ) → Keeps held left → IsFileText task o opening left told text → IsFileText task o opening held told text
-file-kept task o opening held left told text k (Judged answer is h) = Judged answer is (of-kept held left (λ bytes. IsTold task o opening bytes answer text) k h)
+file-kept task o opening held left told text k (Judged answer is h) = Judged answer is (of-kept held left (λ bytes. AreBoth (IsTextOf task o opening bytes answer) (IsEnd task o opening told) text) k h)
 file-kept task o opening held left told text k (Unjudged is end) = Unjudged is end
 
 keeps-sends : {a b c : Option (List ℕ)} {bs : List ℕ} → Keeps a b → Sends b c bs → Sends a c bs
@@ -189,18 +211,18 @@ keeps-sends {a} {b} {c} {bs} k s = record { appends = keeps-appends a b c bs k s
 
 module _ {task : Task} {o : Options} {opening : Opening} {old : Option (List ℕ)} where
   -- the text of the calls, and after it the end
-  whole : {T E : Type 0} {bytes : List ℕ} {answer : Result Summary Stop} (rest : Result T E) (found sent told : Output) → TakesText (IsTextOf task o opening bytes answer) old found → Keeps found.bytes sent.bytes →
-      OnOk rest (sent.has_failed ≡ found.has_failed) → OnErr rest (sent.has_failed ≡ true) → (sent.has_failed ≡ true → told.has_failed ≡ true) → TakesText (IsEnd task) sent.bytes told → TakesText (IsTold task o opening bytes answer) old told
-  whole rest found sent told calls kept same failed stays end = record {
+  whole : {T E : Type 0} (bytes : List ℕ) (answer : Result Summary Stop) {said : Result Summary Stop} (rest : Result T E) (found sent told : Output) → TakesText (IsTextOf task o opening bytes answer) old found → Keeps found.bytes sent.bytes →
+      OnOk rest (sent.has_failed ≡ found.has_failed) → OnErr rest (sent.has_failed ≡ true) → (sent.has_failed ≡ true → told.has_failed ≡ true) → TakesText (IsEnd task o opening said) sent.bytes told → TakesText (AreBoth (IsTextOf task o opening bytes answer) (IsEnd task o opening said)) old told
+  whole bytes answer rest found sent told calls kept same failed stays end = record {
     text = calls.text ++ end.text;
-    is_text = record { calls = calls.text; are_calls = calls.is_text; end = end.text; is_end = end.is_text; whole = refl };
+    is_text = record { first = calls.text; is_first = calls.is_text; last = end.text; is_last = end.is_text; whole = refl };
     sends = λ none.
         let sound = not-failed sent.has_failed told.has_failed stays none in
         sends-more (sends-keeps (calls.sends (rest-kept rest found.has_failed sent.has_failed same failed sound)) kept) (end.sends none);
   }
 
   -- what is told of the bytes of a source
-  told-of : (source : Option (List ℕ)) {answer told : Result Summary Stop} (new : Output) → IsToldOf answer told → OfBytes source (λ bytes. TakesText (IsTold task o opening bytes answer) old new) →
+  told-of : (source : Option (List ℕ)) {answer told : Result Summary Stop} (new : Output) → IsToldOf answer told → OfBytes source (λ bytes. TakesText (AreBoth (IsTextOf task o opening bytes answer) (IsEnd task o opening told)) old new) →
       TakesText (IsFileText task o opening source told) old new
   told-of None {answer} {told} new is h = record { text = h.1.text; is_text = Judged answer is (h.0, h.1.is_text); sends = h.1.sends }
   told-of (Some bytes) {answer} {told} new is h = record { text = h.text; is_text = Judged answer is h.is_text; sends = h.sends }
@@ -208,12 +230,12 @@ module _ {task : Task} {o : Options} {opening : Opening} {old : Option (List ℕ
   -- what is told of a file that was judged
   pub judged-text : {T E : Type 0} (source : Option (List ℕ)) {answer told : Result Summary Stop} (rest : Result T E) (found sent new : Output) → IsToldOf answer told →
       OfBytes source (λ bytes. TakesText (IsTextOf task o opening bytes answer) old found) → Keeps found.bytes sent.bytes → OnOk rest (sent.has_failed ≡ found.has_failed) → OnErr rest (sent.has_failed ≡ true) →
-      (sent.has_failed ≡ true → new.has_failed ≡ true) → TakesText (IsEnd task) sent.bytes new → TakesText (IsFileText task o opening source told) old new
+      (sent.has_failed ≡ true → new.has_failed ≡ true) → TakesText (IsEnd task o opening told) sent.bytes new → TakesText (IsFileText task o opening source told) old new
   judged-text source {answer} {told} rest found sent new is calls kept same failed stays end =
-      told-of source new is (of-map source _ _ (λ bytes c. whole rest found sent new c kept same failed stays end) calls)
+      told-of source new is (of-map source _ _ (λ bytes c. whole bytes answer rest found sent new c kept same failed stays end) calls)
 
   -- and of one that was not
-  pub unjudged-text : (source : Option (List ℕ)) {told : Result Summary Stop} (mid : Option (List ℕ)) (new : Output) → IsNoVerdict told → Keeps old mid → TakesText (IsEnd task) mid new → TakesText (IsFileText task o opening source told) old new
+  pub unjudged-text : (source : Option (List ℕ)) {told : Result Summary Stop} (mid : Option (List ℕ)) (new : Output) → IsNoVerdict told → Keeps old mid → TakesText (IsEnd task o opening told) mid new → TakesText (IsFileText task o opening source told) old new
   unjudged-text source {told} mid new is kept end = record { text = end.text; is_text = Unjudged is end.is_text; sends = λ none. keeps-sends kept (end.sends none) }
 
   -- what is told of an open file is told of what the file of its name holds

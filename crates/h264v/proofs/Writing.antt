@@ -12,9 +12,9 @@ use Rattle.h264_report.specs.Written.{told_of, status_of}
 use Rattle.h264_report.specs.declared.judging.Ending.{Ending}
 use Rattle.h264_verify.specs.Units.{terms_of}
 use Rattle.h264_verify.specs.declared.state.Summary.{Summary}
-use Rattle.h264v.specs.Commands.{Output, IsHandedOver}
+use Rattle.h264v.specs.Commands.{Output, OutputSpan, IsHandedOver, from_to}
 use Rattle.h264v.specs.Further.{asks_further, TellsBroken}
-use Rattle.h264v.specs.More.{AreDone, AreTold, Each, FileDone, IsAnswerOf, IsJudged, IsPutAside, IsTextOfFile, TellReads, TellUnread, TellsRead, TellsWrites, are_several, done_status, texts_of, worst}
+use Rattle.h264v.specs.More.{AreDone, AreTold, Each, FileDone, FilesSpan, Work, IsAnswerOf, IsJudged, IsPutAside, IsTextOfFile, TellReads, TellUnread, TellsRead, TellsWrites, are_several, done_status, files_span, texts_of, work, worst}
 use Rattle.h264v.specs.Files.{Counts}
 use Rattle.h264v.specs.Texts.{IsFileText, opening_in, prefix_of}
 use Rattle.h264v.specs.Words.{mode_of, system_name}
@@ -55,7 +55,7 @@ pub rest-sent : {T E : Type 0} (r : Result T E) (holds failed : Bool) → OnOk r
 rest-sent (Ok x) holds failed h f none = h
 rest-sent (Err x) holds failed h f none = absurd (true≢false (sym f ∙ none))
 
-kept-over : (before after : Output) → before.holds_back ≡ false → IsHandedOver before after → after.holds_back ≡ false
+kept-over : (before after : Output) → before.holds_back ≡ false → IsHandedOver (from_to before after) → after.holds_back ≡ false
 kept-over before after none h = ⊎_elim (λ e. e) (λ same. rw same none) h
 
 -- a device that has failed stays so
@@ -64,19 +64,19 @@ kept-failed true same failed e = same refl ∙ e
 kept-failed false same failed e = failed refl
 
 -- a line went to standard error
-pub put-aside : (written : Bool) (out err' : Output) → (written ≡ false → err'.has_failed ≡ true) → IsPutAside written out out err'
+pub put-aside : (written : Bool) (out err' : Output) → (written ≡ false → err'.has_failed ≡ true) → IsPutAside written (from_to out out) err'
 put-aside written out err' failed = record { unwritten = λ e. inr (failed e); quiet = λ e. (refl, inr refl); kept = λ e. e }
 
 -- a line went to standard output
 pub put-here : (written : Bool) (out out' err' : Output) → (written ≡ true → out'.holds_back ≡ false) → (written ≡ true → out'.has_failed ≡ out.has_failed) → (written ≡ false → out'.has_failed ≡ true) →
-    IsPutAside written out out' err'
+    IsPutAside written (from_to out out') err'
 put-here written out out' err' over same failed =
     record { unwritten = λ e. inl (failed e); quiet = λ e. (same e, inl (over e)); kept = kept-failed written same failed }
 
 -- what is told after a judgement that the device outlived or not
 pub writes-told : (raw : Result Summary Stop) {y4m : Bool} {failed broke_off : Bool} {said : Result Summary Stop} {ending : Ending} {before out out' err' : Output} → (broke_off ≡ true → (failed ≡ true) ⊎ (y4m ≡ true)) →
     (broke_off ≡ false → failed ≡ false) → failed ≡ out.has_failed → said ≡ told_of broke_off raw → (ending.answer ≡ said) ⊎ (ending.answer ≡ Err Memory) → (said ≡ Err Write → ending.answer ≡ Err Write) →
-    (out.has_failed ≡ false → out.holds_back ≡ false) → IsPutAside ending.written out out' err' → TellsWrites y4m ending before out' err'
+    (out.has_failed ≡ false → out.holds_back ≡ false) → IsPutAside ending.written (from_to out out') err' → TellsWrites y4m ending (from_to before out') err'
 writes-told raw {y4m} {failed} {broke_off} {said} {ending} {before} {out} {out'} {err'} cut whole-output is told answer write rest put = record {
   write = λ e. ⊎_elim (λ f. inl (put.kept (sym is ∙ f))) (λ y. inr y)
       (cut (failed-told broke_off raw said told (⊎_elim (λ same. sym same ∙ e) (λ short. absurd (let d = sym short ∙ e in cc)) answer)));
@@ -88,12 +88,12 @@ writes-told raw {y4m} {failed} {broke_off} {said} {ending} {before} {out} {out'}
 }
 
 -- what is told of a file that was not judged, where no write failed
-pub unjudged-told : (y4m : Bool) (ending : Ending) (out out' err' : Output) → (ending.answer ≡ Err Write → ⊥) → IsPutAside ending.written out out' err' → TellsWrites y4m ending out out' err'
+pub unjudged-told : (y4m : Bool) (ending : Ending) (out out' err' : Output) → (ending.answer ≡ Err Write → ⊥) → IsPutAside ending.written (from_to out out') err' → TellsWrites y4m ending (from_to out out') err'
 unjudged-told y4m ending out out' err' never put =
     record { write = λ e. absurd (never e); unwritten = put.unwritten; told = λ other whole. let q = put.quiet whole in (λ f. sym q.0 ∙ f, q.1) }
 
 -- and after more was said on standard error
-pub blamed : {y4m : Bool} (ending : Ending) (out out' err err' : Output) → (err.has_failed ≡ true → err'.has_failed ≡ true) → TellsWrites y4m ending out out' err → TellsWrites y4m ending out out' err'
+pub blamed : {y4m : Bool} (ending : Ending) (out out' err err' : Output) → (err.has_failed ≡ true → err'.has_failed ≡ true) → TellsWrites y4m ending (from_to out out') err → TellsWrites y4m ending (from_to out out') err'
 blamed ending out out' err err' kept t =
     record { write = t.write; unwritten = λ e. ⊎_elim (λ o. inl o) (λ f. inr (kept f)) (t.unwritten e); told = t.told }
 
@@ -131,20 +131,20 @@ one-read before after f names name read =
 -- one file alone
 pub alone : (task : Task) (o : Options) (file : Text → Option (List ℕ)) (before after : Counts) (f : FileDone) (names : List Text) (status : ℕ) (out out' err' : Output) → f.name ∷ [] ≡ names →
     IsAnswerOf task o.target (file (system_name f.name)) f.done.ending.answer → TellsBroken (asks_further task o.strict) (terms_of (mode_of task) o.target) (file (system_name f.name)) f.done →
-    TellsRead before after f → TellsWrites o.y4m f.done.ending out out' err' → IsTextOfFile task o file false f → (out'.has_failed ≡ false → Sends out.bytes out'.bytes f.text) → status ≡ done_status f.done →
-    AreDone task o file (TellReads (are_several names) before after) names status out out' err'
+    TellsRead before after f → TellsWrites o.y4m f.done.ending (from_to out out') err' → IsTextOfFile (work task o) file false f → (out'.has_failed ≡ false → Sends out.bytes out'.bytes f.text) → status ≡ done_status f.done →
+    AreDone (work task o) (files_span file before after) names status (from_to out out') err'
 alone task o file before after f names status out out' err' name answer broken read t text sends is =
-    let Judged : FileDone → Type 0 = IsJudged task o file out' err' in
+    let Judged : FileDone → Type 0 = IsJudged (work task o) file out' err' in
     let judged : Judged f = record { answer = answer; broken = broken; excused = record { write = λ e. ⊎_elim (λ h. inl (inl h)) (λ y. inr (inr y)) (t.write e); unwritten = λ e. inl (t.unwritten e) } } in
-    let told : AreTold task o file (are_several (f.name ∷ [])) (f ∷ []) out out' = record { texts = All-push (IsTextOfFile task o file false) [] f (All-nil (IsTextOfFile task o file false)) text; last = []; of_one = λ one. refl; sends = λ none. sends-is (texts-one f) (sends none) } in
-    Each (f ∷ []) name (All-push Judged [] f (All-nil Judged) judged) (one-read before after f names name read) (is ∙ sym (one-worst f)) (λ never. let n = no-device f.done status is never in t.told n.0 n.1) (λ none. subst (λ ns. AreTold task o file (are_several ns) (f ∷ []) out out') name told)
+    let told : AreTold (work task o) file (are_several (f.name ∷ [])) (f ∷ []) (from_to out out') = record { texts = All-push (IsTextOfFile (work task o) file false) [] f (All-nil (IsTextOfFile (work task o) file false)) text; last = []; of_one = λ one. refl; sends = λ none. sends-is (texts-one f) (sends none) } in
+    Each (f ∷ []) name (All-push Judged [] f (All-nil Judged) judged) (one-read before after f names name read) (is ∙ sym (one-worst f)) (λ never. let n = no-device f.done status is never in t.told n.0 n.1) (λ none. subst (λ ns. AreTold (work task o) file (are_several ns) (f ∷ []) (from_to out out')) name told)
 
 -- one file, whose output is a file that the words name
 pub alone-elsewhere : (task : Task) (o : Options) (file : Text → Option (List ℕ)) (before after : Counts) (f : FileDone) (names : List Text) (status : ℕ) (out err' : Output) → f.name ∷ [] ≡ names →
     IsAnswerOf task o.target (file (system_name f.name)) f.done.ending.answer → TellsBroken (asks_further task o.strict) (terms_of (mode_of task) o.target) (file (system_name f.name)) f.done →
-    TellsRead before after f → IsSome o.output → status ≡ done_status f.done → AreDone task o file (TellReads (are_several names) before after) names status out out err'
+    TellsRead before after f → IsSome o.output → status ≡ done_status f.done → AreDone (work task o) (files_span file before after) names status (from_to out out) err'
 alone-elsewhere task o file before after f names status out err' name answer broken read some is =
-    let Judged : FileDone → Type 0 = IsJudged task o file out err' in
+    let Judged : FileDone → Type 0 = IsJudged (work task o) file out err' in
     let judged : Judged f = record { answer = answer; broken = broken; excused = record { write = λ e. inr (inl some); unwritten = λ e. inr (inl some) } } in
     Each (f ∷ []) name (All-push Judged [] f (All-nil Judged) judged) (one-read before after f names name read) (is ∙ sym (one-worst f)) (λ never. (λ h. h, inr refl)) (λ none. absurd (false≢true (subst IsSome none some)))
 
@@ -156,7 +156,7 @@ pub record IsWritten (task : Task) (o : Options) (file : Text → Option (List �
   pub broken : TellsBroken (asks_further task o.strict) (terms_of (mode_of task) o.target) (file (system_name f.name)) f.done
   pub no_write : IsErrOf f.done.ending.answer Write → o.y4m ≡ true
   pub written : f.done.ending.written ≡ true
-  pub text : IsTextOfFile task o file true f
+  pub text : IsTextOfFile (work task o) file true f
 
 -- it is so of whatever the file of its name holds
 pub written-of : (task : Task) (o : Options) (file file' : Text → Option (List ℕ)) (f : FileDone) → file (system_name f.name) ≡ file' (system_name f.name) → IsWritten task o file f → IsWritten task o file' f
@@ -169,7 +169,7 @@ written-of task o file file' f e w = record {
 }
 
 -- it is excused, wherever the devices stand
-excused : (task : Task) (o : Options) (file : Text → Option (List ℕ)) (out' err' : Output) (f : FileDone) → IsWritten task o file f → IsJudged task o file out' err' f
+excused : (task : Task) (o : Options) (file : Text → Option (List ℕ)) (out' err' : Output) (f : FileDone) → IsWritten task o file f → IsJudged (work task o) file out' err' f
 excused task o file out' err' f w = record {
   answer = w.answer;
   broken = w.broken;
@@ -180,16 +180,15 @@ several : (n : ℕ) → n ≢ 1 → not (n == 1) ≡ true
 several n other = ap not (ne_eqb n 1 other)
 
 -- files of which none failed to be written, and a last text
-pub each-written : (task : Task) (o : Options) (file : Text → Option (List ℕ)) (Reads : List FileDone → Type 0) (files : List FileDone) (names : List Text) (status : ℕ) (out out' err' : Output) → map (λ f. f.name) files ≡ names →
-    length names ≢ 1 → All (IsWritten task o file) files → Reads files → status ≡ worst files → (out'.has_failed ≡ true → out.has_failed ≡ true) → out'.holds_back ≡ false → (last : List ℕ) →
-    (out'.has_failed ≡ false → Sends out.bytes out'.bytes (texts_of files ++ last)) → AreDone task o file Reads names status out out' err'
-each-written task o file Reads files names status out out' err' name other written reads is kept over last sends =
-    let told : AreTold task o file true files out out' = record { texts = All-weaker (IsWritten task o file) (IsTextOfFile task o file true) (λ f w. w.text) files written; last = last; of_one = λ one. absurd (true≢false one); sends = sends } in
-    Each files name (All-weaker (IsWritten task o file) (IsJudged task o file out' err') (λ f. excused task o file out' err' f) files written) reads is (λ never. (kept, inl over)) (λ none. subst (λ b. AreTold task o file b files out out') (sym (several (length names) other)) told)
+pub each-written : (task : Task) (o : Options) (file : Text → Option (List ℕ)) (before after : Counts) (files : List FileDone) (names : List Text) (status : ℕ) (out out' err' : Output) → map (λ f. f.name) files ≡ names →
+    length names ≢ 1 → All (IsWritten task o file) files → TellUnread after.unread files → status ≡ worst files → (out'.has_failed ≡ true → out.has_failed ≡ true) → out'.holds_back ≡ false → (last : List ℕ) →
+    (out'.has_failed ≡ false → Sends out.bytes out'.bytes (texts_of files ++ last)) → AreDone (work task o) (files_span file before after) names status (from_to out out') err'
+each-written task o file before after files names status out out' err' name other written reads is kept over last sends =
+    let many = several (length names) other in
+    let told : AreTold (work task o) file true files (from_to out out') = record { texts = All-weaker (IsWritten task o file) (IsTextOfFile (work task o) file true) (λ f w. w.text) files written; last = last; of_one = λ one. absurd (true≢false one); sends = sends } in
+    Each files name (All-weaker (IsWritten task o file) (IsJudged (work task o) file out' err') (λ f. excused task o file out' err' f) files written) (subst (λ b. TellReads b before after files) (sym many) reads) is (λ never. (kept, inl over))
+    (λ none. subst (λ b. AreTold (work task o) file b files (from_to out out')) (sym many) told)
 
--- these files are those of the words, of which there are several
-pub of-words : {task : Task} {o : Options} {file : Text → Option (List ℕ)} (before after : Counts) {names names' : List Text} {status : ℕ} {out out' err' : Output} → names ≡ names' → length names ≢ 1 →
-    AreDone task o file (TellUnread after.unread) names status out out' err' → AreDone task o file (TellReads (are_several names') before after) names' status out out' err'
-of-words {task} {o} {file} before after {names} {names'} {status} {out} {out'} {err'} e other d =
-    subst (λ ns. AreDone task o file (TellReads (are_several ns) before after) ns status out out' err') e
-    (subst (λ b. AreDone task o file (TellReads b before after) names status out out' err') (sym (several (length names) other)) d)
+-- these files are those of the words
+pub of-words : {w : Work} {files : FilesSpan} {names names' : List Text} {status : ℕ} {out : OutputSpan} {err' : Output} → names ≡ names' → AreDone w files names status out err' → AreDone w files names' status out err'
+of-words {w} {files} {names} {names'} {status} {out} {err'} e d = subst (λ ns. AreDone w files ns status out err') e d

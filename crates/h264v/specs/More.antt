@@ -25,7 +25,7 @@ use Rattle.h264v.specs.declared.refusal.Refusal.{Refusal}
 use Rattle.h264v.specs.declared.command_line.Task.{Task}
 use Rattle.h264v.specs.declared.command_line.Task.TheVariants as tasks
 use Rattle.clap.specs.Words.{Text, subcommand_of}
-use Rattle.h264v.specs.Commands.{Output, Comes, HasFailed, IsHandedOver}
+use Rattle.h264v.specs.Commands.{Output, OutputSpan, from_to, FilesRead, files_read, Comes, HasFailed, IsHandedOver}
 use Rattle.h264v.specs.Files.{Counts, HasReadAll, IsUnread, TellsFailure}
 
 -- ---- one file
@@ -50,18 +50,18 @@ done_status d = if d.is_broken then max (status_of d.ending.written d.ending.ans
 -- ---- the devices
 
 -- A line was written to one of two devices and handed over, or the device has failed; the other is as it was.
-pub record IsPutAside (written : Bool) (out out' err' : Output) : Type 0 where
-  pub unwritten : written ≡ false → HasFailed out' err'
-  pub quiet : written ≡ true → (out'.has_failed ≡ out.has_failed) × IsHandedOver out out'
+pub record IsPutAside (written : Bool) (out : OutputSpan) (err' : Output) : Type 0 where
+  pub unwritten : written ≡ false → HasFailed out.new err'
+  pub quiet : written ≡ true → (out.new.has_failed ≡ out.old.has_failed) × IsHandedOver out
   -- what has failed stays so
-  pub kept : out.has_failed ≡ true → out'.has_failed ≡ true
+  pub kept : out.old.has_failed ≡ true → out.new.has_failed ≡ true
 
 -- That a write failed is answered where standard output failed, or where frames of another size have no place in YUV4MPEG2; and the last line was not
 -- written where a device failed. Else standard output has not failed since, and holds nothing back.
-pub record TellsWrites (y4m : Bool) (ending : Ending) (out out' err' : Output) : Type 0 where
-  pub write : IsErrOf ending.answer Write → (out'.has_failed ≡ true) ⊎ (y4m ≡ true)
-  pub unwritten : ending.written ≡ false → HasFailed out' err'
-  pub told : ending.answer ≢ Err Write → ending.written ≡ true → (out'.has_failed ≡ true → out.has_failed ≡ true) × IsHandedOver out out'
+pub record TellsWrites (y4m : Bool) (ending : Ending) (out : OutputSpan) (err' : Output) : Type 0 where
+  pub write : IsErrOf ending.answer Write → (out.new.has_failed ≡ true) ⊎ (y4m ≡ true)
+  pub unwritten : ending.written ≡ false → HasFailed out.new err'
+  pub told : ending.answer ≢ Err Write → ending.written ≡ true → (out.new.has_failed ≡ true → out.old.has_failed ≡ true) × IsHandedOver out
 
 -- A device has failed, or may have: a file that the words name for the output is none that is seen here. And YUV4MPEG2 ends where the size changes.
 abbrev pub MayHaveFailed : Options → (out' err' : Output) → Type 0
@@ -85,12 +85,20 @@ pub record FileDone : Type 0 where
   pub done : Done
   pub text : List ℕ
 
+-- a task with its options
+pub record Work : Type 0 where
+  pub task : Task
+  pub options : Options
+
+abbrev pub work : Task → Options → Work
+work task options = record { task = task; options = options }
+
 -- It ended with the answer on the bytes that the file of this name holds, tells of the further rules where they are asked for, and of a failed write only
 -- where one failed.
-pub record IsJudged (task : Task) (o : Options) (file : Text → Option (List ℕ)) (out' err' : Output) (f : FileDone) : Type 0 where
-  pub answer : IsAnswerOf task o.target (file (system_name f.name)) f.done.ending.answer
-  pub broken : TellsBroken (asks_further task o.strict) (terms_of (mode_of task) o.target) (file (system_name f.name)) f.done
-  pub excused : AreExcused o out' err' f.done.ending
+pub record IsJudged (w : Work) (held : Text → Option (List ℕ)) (out' err' : Output) (f : FileDone) : Type 0 where
+  pub answer : IsAnswerOf w.task w.options.target (held (system_name f.name)) f.done.ending.answer
+  pub broken : TellsBroken (asks_further w.task w.options.strict) (terms_of (mode_of w.task) w.options.target) (held (system_name f.name)) f.done
+  pub excused : AreExcused w.options out' err' f.done.ending
 
 -- ---- failed reads
 
@@ -135,9 +143,9 @@ abbrev pub are_several : List Text → Bool
 are_several names = not (length names == 1)
 
 -- What was written of it to the output tells of the file of its name.
-abbrev pub IsTextOfFile : (task : Task) (o : Options) (file : Text → Option (List ℕ)) (several : Bool) → FileDone → Type 0
-IsTextOfFile task o file several f =
-    IsFileText task o (opening_in o.json f.name (prefix_of several f.name)) (file (system_name f.name)) f.done.ending.answer f.text
+abbrev pub IsTextOfFile : (w : Work) (held : Text → Option (List ℕ)) (several : Bool) → FileDone → Type 0
+IsTextOfFile w held several f =
+    IsFileText w.task w.options (opening_in w.options.json f.name (prefix_of several f.name)) (held (system_name f.name)) f.done.ending.answer f.text
 
 -- what was written of these files, one after another
 unfoldable pub texts_of : List FileDone → List ℕ
@@ -145,11 +153,11 @@ texts_of [] = []
 texts_of (f ∷ fs) = f.text ++ texts_of fs
 
 -- Standard output took what tells of these files, in their order, and after it, of several, a last text; or it has failed.
-pub record AreTold (task : Task) (o : Options) (file : Text → Option (List ℕ)) (several : Bool) (files : List FileDone) (out out' : Output) : Type 0 where
-  pub texts : All (IsTextOfFile task o file several) files
+pub record AreTold (w : Work) (held : Text → Option (List ℕ)) (several : Bool) (files : List FileDone) (out : OutputSpan) : Type 0 where
+  pub texts : All (IsTextOfFile w held several) files
   pub last : List ℕ
   pub of_one : several ≡ false → last ≡ []
-  pub sends : out'.has_failed ≡ false → Sends out.bytes out'.bytes (texts_of files ++ last)
+  pub sends : out.new.has_failed ≡ false → Sends out.old.bytes out.new.bytes (texts_of files ++ last)
 
 -- the greatest exit status of these files
 abbrev pub worst : List FileDone → ℕ
@@ -174,42 +182,53 @@ pub data IsToldStatus (status : ℕ) (out' : Output) : Type 0 where
   Short : (written : Bool) → status ≡ status_of written (Err Memory) → IsPut written out' → IsToldStatus status out'
 
 -- Where the status is none of a device's, standard output has not failed since, and all is handed over.
-abbrev pub IsWhole : (status : ℕ) (out out' : Output) → Type 0
-IsWhole status out out' = status ≢ 4 → (out'.has_failed ≡ true → out.has_failed ≡ true) × IsHandedOver out out'
+abbrev pub IsWhole : (status : ℕ) (out : OutputSpan) → Type 0
+IsWhole status out = status ≢ 4 → (out.new.has_failed ≡ true → out.old.has_failed ≡ true) × IsHandedOver out
+
+-- What the file of each name holds, as far as that is known, and the counts of files before and after.
+pub record FilesSpan : Type 0 where
+  pub held : Text → Option (List ℕ)
+  pub before : Counts
+  pub after : Counts
+
+abbrev pub files_span : (Text → Option (List ℕ)) → (before after : Counts) → FilesSpan
+files_span held before after = record { held = held; before = before; after = after }
 
 -- Each file of these names was judged, in their order, and this is the status of all; or a device failed. Of failed reads this is told. Standard output was
 -- told of each, where the words name no file for the output.
-pub data AreDone (task : Task) (o : Options) (file : Text → Option (List ℕ)) (Reads : List FileDone → Type 0) (names : List Text) (status : ℕ)
-    (out out' err' : Output) : Type 0 where
-  Each : (files : List FileDone) → map (λ f. f.name) files ≡ names → All (IsJudged task o file out' err') files → Reads files →
-      status ≡ worst files → IsWhole status out out' → (o.output ≡ None → AreTold task o file (are_several names) files out out') →
-      AreDone task o file Reads names status out out' err'
-  Broke : status ≡ 4 → HasFailed out' err' → AreDone task o file Reads names status out out' err'
+pub data AreDone (w : Work) (files : FilesSpan) (names : List Text) (status : ℕ) (out : OutputSpan) (err' : Output) : Type 0 where
+  Each : (done : List FileDone) → map (λ f. f.name) done ≡ names → All (IsJudged w files.held out.new err') done →
+      TellReads (are_several names) files.before files.after done → status ≡ worst done → IsWhole status out →
+      (w.options.output ≡ None → AreTold w files.held (are_several names) done out) → AreDone w files names status out err'
+  Broke : status ≡ 4 → HasFailed out.new err' → AreDone w files names status out err'
 
 -- What comes of a task where the words ask for more than a judgement of one FILE: its exit status, and what is known of the devices.
-pub data IsStatus (task : Task) (given : Given) (file : Text → Option (List ℕ)) (before after : Counts) (status : ℕ) (out out' err err' : Output) : Type 0 where
+pub data IsStatus (task : Task) (given : Given) (files : FilesSpan) (status : ℕ) (out err : OutputSpan) : Type 0 where
   -- A fault of the words. Standard error is told why, and nothing else is written.
-  Refused : (refusal : Refusal) → status ≡ 64 → IsRefused task given refusal → out' ≡ out →
-      (err'.has_failed ≡ false → Sends err.bytes err'.bytes (codes "h264v: " ++ ended (refusal_text refusal))) →
-      IsStatus task given file before after status out out' err err'
-  Explained : task ≡ tasks.Explain → IsToldStatus status out' → IsStatus task given file before after status out out' err err'
+  Refused : (refusal : Refusal) → status ≡ 64 → IsRefused task given refusal → out.new ≡ out.old →
+      (err.new.has_failed ≡ false → Sends err.old.bytes err.new.bytes (codes "h264v: " ++ ended (refusal_text refusal))) →
+      IsStatus task given files status out err
+  Explained : task ≡ tasks.Explain → IsToldStatus status out.new → IsStatus task given files status out err
   -- each FILE was judged, in the order of the words and for their target
   Judged : (o : Options) → AreOptions given o → AreWellUsed task given o →
-      AreDone task o file (TellReads (are_several (values_in given (codes "FILE"))) before after) (values_in given (codes "FILE")) status out out' err' →
-      IsStatus task given file before after status out out' err err'
+      AreDone (work task o) files (values_in given (codes "FILE")) status out err.new → IsStatus task given files status out err
+
+-- what is known of files whose reads were counted so
+abbrev pub reads_in : FilesSpan → FilesRead
+reads_in files = files_read files.held (IsUnread files.before.failures files.before.reads files.after.failures files.after.reads)
+    (HasReadAll files.before.failures files.after.failures)
 
 -- What the words come to. Where a file or a device failed, standard error is then told why.
-pub data Ends (words : List Text) (file : Text → Option (List ℕ)) (before after : Counts) (status : ℕ) (out out' err : Output) : Type 0 where
-  Plain : (err' : Output) → Comes words file (IsUnread before.failures before.reads after.failures after.reads) (HasReadAll before.failures after.failures)
-      status out out' err err' → Ends words file before after status out out' err
+pub data Ends (words : List Text) (files : FilesSpan) (status : ℕ) (out : OutputSpan) (err : Output) : Type 0 where
+  Plain : (err' : Output) → Comes words (reads_in files) status out (from_to err err') → Ends words files status out err
   More : (err' : Output) (task : Task) (name : Text) → asks program words ≡ Some (name_of task, Some name) →
-      IsStatus task (subcommand_of program words) file before after status out out' err err' → Ends words file before after status out out' err
+      IsStatus task (subcommand_of program words) files status out (from_to err err') → Ends words files status out err
 
 -- What the program comes to.
-pub data Runs (words : List Text) (file : Text → Option (List ℕ)) (before after : Counts) (status : ℕ) (out out' err : Output) : Type 0 where
-  Asked : Ends words file before after status out out' err → Runs words file before after status out out' err
+pub data Runs (words : List Text) (files : FilesSpan) (status : ℕ) (out : OutputSpan) (err : Output) : Type 0 where
+  Asked : Ends words files status out err → Runs words files status out err
   -- a word is no text
-  NotText : status ≡ 64 → out' ≡ out → Runs words file before after status out out' err
+  NotText : status ≡ 64 → out.new ≡ out.old → Runs words files status out err
   -- there was no memory for the words
-  NoWords : (written : Bool) → status ≡ status_of written (Err Memory) → (written ≡ true → out'.holds_back ≡ false) →
-      Takes written out.bytes out'.bytes (last_line modes.Full (Err Memory)) → Runs words file before after status out out' err
+  NoWords : (written : Bool) → status ≡ status_of written (Err Memory) → (written ≡ true → out.new.holds_back ≡ false) →
+      Takes written out.old.bytes out.new.bytes (last_line modes.Full (Err Memory)) → Runs words files status out err

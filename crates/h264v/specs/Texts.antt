@@ -5,9 +5,10 @@ use Rattle.h264_base.specs.declared.stop.Stop.{Stop}
 use Rattle.h264_report.specs.Chosen.{left_in, left_by, choosing_after, at_first}
 use Rattle.h264_report.specs.Json.{escaped}
 use Rattle.h264_report.specs.Objects.{Opening, OfLine, OfObject}
+use Rattle.h264_report.specs.Pages.{verdict_fields}
 use Rattle.h264_report.specs.Sent.{Sends}
 use Rattle.h264_report.specs.Told.{lines_of, bytes_of}
-use Rattle.h264_report.specs.Written.{OfBytes, Account, calls_in}
+use Rattle.h264_report.specs.Written.{OfBytes, Account, calls_in, last_line}
 use Rattle.h264_report.specs.Y4m.{SuitsHead, y4m_of}
 use Rattle.h264_report.specs.declared.head.Head.{Head}
 use Rattle.h264_report.specs.declared.listing.Listing.{Listing}
@@ -134,20 +135,39 @@ answers_aside tasks.Info = false
 answers_aside tasks.Report = true
 answers_aside tasks.Explain = false
 
--- This may tell the answer of a task in its output.
-abbrev pub IsEnd : Task → (text : List ℕ) → Type 0
-IsEnd task text = answers_aside task ≡ true → text ≡ []
+-- This object opens so, and has the fields of an answer, and maybe others after them.
+abbrev pub verdict_object : (head : List ℕ) → Result Summary Stop → (more : List ℕ) → List ℕ
+verdict_object head answer more = head ++ (verdict_fields answer ++ (more ++ codes "}\n"))
 
--- This is the text of the calls of a stream that was judged with this answer, and after it what tells the answer.
-pub record IsTold (task : Task) (o : Options) (opening : Opening) (bytes : List ℕ) (answer : Result Summary Stop) (text : List ℕ) : Type 0 where
-  pub calls : List ℕ
-  pub are_calls : IsTextOf task o opening bytes answer calls
-  pub end : List ℕ
-  pub is_end : IsEnd task end
-  pub whole : text ≡ calls ++ end
+-- The last line of a text tells this answer, or its last object does.
+abbrev pub EndsWith : Task → Opening → (told : Result Summary Stop) → (text : List ℕ) → Type 0
+EndsWith task (OfLine prefix) told text = (before : List ℕ) × (text ≡ before ++ (prefix ++ last_line (mode_of task) told))
+EndsWith task (OfObject head) told text = (before : List ℕ) × (more : List ℕ) × (text ≡ before ++ verdict_object head told more)
 
--- This is what a task writes to its output of a file that holds these bytes, as far as that is known, where its answer is told so.
+-- This tells an answer: a text that ends with it, or nothing with `--quiet`.
+pub data TellsAnswer (task : Task) (o : Options) (opening : Opening) (told : Result Summary Stop) (text : List ℕ) : Type 0 where
+  Quiet : o.quiet ≡ true → text ≡ [] → TellsAnswer task o opening told text
+  Whole : o.quiet ≡ false → EndsWith task opening told text → TellsAnswer task o opening told text
+  -- there is no verdict, and may have been no memory for its object: a line tells so
+  Short : o.quiet ≡ false → IsNoVerdict told → (prefix : List ℕ) → text ≡ prefix ++ last_line (mode_of task) told → TellsAnswer task o opening told text
+
+-- This is what a task's output has after the text of the calls: what tells the answer, where it goes there.
+pub record IsEnd (task : Task) (o : Options) (opening : Opening) (told : Result Summary Stop) (text : List ℕ) : Type 0 where
+  pub aside : answers_aside task ≡ true → text ≡ []
+  pub here : answers_aside task ≡ false → TellsAnswer task o opening told text
+
+-- This is a text of one kind, and after it one of another.
+pub record AreBoth (IsFirst IsLast : List ℕ → Type 0) (text : List ℕ) : Type 0 where
+  pub first : List ℕ
+  pub is_first : IsFirst first
+  pub last : List ℕ
+  pub is_last : IsLast last
+  pub whole : text ≡ first ++ last
+
+-- This is what a task writes to its output of a file that holds these bytes, as far as that is known, where its answer is told so: the text of the calls of
+-- the stream, and after it what tells the answer.
 pub data IsFileText (task : Task) (o : Options) (opening : Opening) (source : Option (List ℕ)) (told : Result Summary Stop) (text : List ℕ) : Type 0 where
-  Judged : (answer : Result Summary Stop) → IsToldOf answer told → OfBytes source (λ bytes. IsTold task o opening bytes answer text) →
+  Judged : (answer : Result Summary Stop) → IsToldOf answer told →
+      OfBytes source (λ bytes. AreBoth (IsTextOf task o opening bytes answer) (IsEnd task o opening told) text) →
       IsFileText task o opening source told text
-  Unjudged : IsNoVerdict told → IsEnd task text → IsFileText task o opening source told text
+  Unjudged : IsNoVerdict told → IsEnd task o opening told text → IsFileText task o opening source told text

@@ -7,9 +7,9 @@ ghost use Rattle.clap.specs.Words.{Text, subcommand_of, takes, kind_of};
 ghost use Rattle.clap.specs.declared.error.kind.ErrorKind.TheVariants as kinds;
 ghost use Rattle.h264_base.specs.declared.mode.Mode.TheVariants as modes;
 ghost use Rattle.h264_verify.specs.Units.{terms_of};
-ghost use Rattle.h264_report.specs.Sent.{Sends, Takes};
+ghost use Rattle.h264_report.specs.Sent.{Sends, Takes, wrote};
 ghost use Rattle.h264_report.specs.Written.{OfBytes, last_line};
-ghost use Rattle.h264v.specs.Commands.{Performs, SaysAlone, TellsFailures, IsExcused, Faults, Comes, ComesTo, output_of};
+ghost use Rattle.h264v.specs.Commands.{Performs, SaysAlone, TellsFailures, IsExcused, Faults, Comes, ComesTo, failed_read, files_read, span_of};
 ghost use Rattle.h264v.specs.Files.{HasFailedToRead, HasReadAll};
 ghost use Rattle.h264v.specs.declared.command_line.Wanted.{Wanted as WantedView};
 ghost use Rattle.h264v.specs.declared.outcome.Outcome.TheVariants as outcomes;
@@ -54,11 +54,10 @@ fn perform<R: Source, W: Device, E: Device>(
     requires room { HasRoom R.failures source.old }
     requires judging { is_judging task ≡ true }
     ensures excused { IsExcused (HasFailedToRead (R.failures source.old) (R.failures source.new) (R.was_read source.old) (R.was_read source.new))
-        (HasReadAll (R.failures source.old) (R.failures source.new)) result.answer result.written
-        (output_of W.contents W.has_failed W.holds_back out.old) (output_of W.contents W.has_failed W.holds_back out.new)
-        (output_of E.contents E.has_failed E.holds_back err.old) (output_of E.contents E.has_failed E.holds_back err.new) }
-    ensures performs { OfBytes (R.left source.old) (λ bytes. Performs task target bytes result.answer result.written (W.contents out.old)
-        (W.contents out.new) (E.contents err.old) (E.contents err.new)) }
+        (HasReadAll (R.failures source.old) (R.failures source.new)) result
+        (span_of W.contents W.has_failed W.holds_back out.old out.new) (span_of E.contents E.has_failed E.holds_back err.old err.new) }
+    ensures performs { OfBytes (R.left source.old) (λ bytes. Performs task target bytes result (wrote (W.contents out.old) (W.contents out.new))
+        (wrote (E.contents err.old) (E.contents err.new))) }
 {
     let units = terms(Mode::Units, target);
     let headers = terms(Mode::Headers, target);
@@ -91,10 +90,10 @@ fn put_unread<D: Device>(alloc: Global, device: &mut D) -> Ending
 fn no_file<W: Device, E: Device>(alloc: Global, task: Task, out: &mut W, err: &mut E) -> Ending
     requires { is_judging task ≡ true }
     ensures answer { result.answer ≡ Err Stop.Read }
-    ensures failures { TellsFailures (Err Stop.Read) result.written (output_of W.contents W.has_failed W.holds_back out.old)
-        (output_of W.contents W.has_failed W.holds_back out.new) (output_of E.contents E.has_failed E.holds_back err.old)
-        (output_of E.contents E.has_failed E.holds_back err.new) }
-    ensures says { SaysAlone task (Err Stop.Read) result.written (W.contents out.old) (W.contents out.new) (E.contents err.old) (E.contents err.new) }
+    ensures failures { TellsFailures (failed_read result.written) (span_of W.contents W.has_failed W.holds_back out.old out.new)
+        (span_of E.contents E.has_failed E.holds_back err.old err.new) }
+    ensures says { SaysAlone task (failed_read result.written) (wrote (W.contents out.old) (W.contents out.new))
+        (wrote (E.contents err.old) (E.contents err.new)) }
 {
     match task {
         Task::Decode => put_unread(alloc, err),
@@ -132,8 +131,7 @@ pub fn not_text<E: Device>(err: &mut E) -> u8
 /// Says why the words ask for nothing: the exit status of a fault of the words. Where memory was wanting for that, it is said on `out`.
 fn fault<W: Device, E: Device>(alloc: Global, error: &Error, out: &mut W, err: &mut E) -> u8
     ensures { (words : List Text) → (takes program words ≡ true → kind_of error.now ≡ kinds.OutOfMemory) →
-        Faults words result (output_of W.contents W.has_failed W.holds_back out.old) (output_of W.contents W.has_failed W.holds_back out.new)
-        (output_of E.contents E.has_failed E.holds_back err.old) (output_of E.contents E.has_failed E.holds_back err.new) }
+        Faults words result (span_of W.contents W.has_failed W.holds_back out.old out.new) (span_of E.contents E.has_failed E.holds_back err.old err.new) }
 {
     if error.kind() == ErrorKind::OutOfMemory {
         return put_memory(out).status();
@@ -156,11 +154,10 @@ fn serve<F: Files, W: Device, E: Device>(
     requires room { HasRoom F.failures files.old }
     requires judging { is_judging request.task ≡ true }
     ensures { (words : List Text) → asks program words ≡ Some (name_of request.entry.task, Some request.entry.file.now) →
-        IsTarget (value_in (subcommand_of program words) (codes "target")) target → Comes words (λ name. F.holds files.old name)
+        IsTarget (value_in (subcommand_of program words) (codes "target")) target → Comes words (files_read (λ name. F.holds files.old name)
         (HasFailedToRead (F.failures files.old) (F.failures files.new) (F.was_read files.old) (F.was_read files.new))
-        (HasReadAll (F.failures files.old) (F.failures files.new)) result (output_of W.contents W.has_failed W.holds_back out.old)
-        (output_of W.contents W.has_failed W.holds_back out.new) (output_of E.contents E.has_failed E.holds_back err.old)
-        (output_of E.contents E.has_failed E.holds_back err.new) }
+        (HasReadAll (F.failures files.old) (F.failures files.new))) result (span_of W.contents W.has_failed W.holds_back out.old out.new)
+        (span_of E.contents E.has_failed E.holds_back err.old err.new) }
 {
     match files.open(request.file) {
         Ok(()) => perform(alloc, request.task, target, files, out, err).status(),
@@ -179,11 +176,10 @@ pub fn command<'a, F: Files, W: Device, E: Device>(
     err: &mut E,
 ) -> Outcome<'a>
     requires { HasRoom F.failures files.old }
-    ensures comes { ComesTo (map (λ w. string_bytes w) words.now) (λ name. F.holds files.old name)
+    ensures comes { ComesTo (map (λ w. string_bytes w) words.now) (files_read (λ name. F.holds files.old name)
         (HasFailedToRead (F.failures files.old) (F.failures files.new) (F.was_read files.old) (F.was_read files.new))
-        (HasReadAll (F.failures files.old) (F.failures files.new)) result
-        (output_of W.contents W.has_failed W.holds_back out.old) (output_of W.contents W.has_failed W.holds_back out.new)
-        (output_of E.contents E.has_failed E.holds_back err.old) (output_of E.contents E.has_failed E.holds_back err.new) }
+        (HasReadAll (F.failures files.old) (F.failures files.new))) result
+        (span_of W.contents W.has_failed W.holds_back out.old out.new) (span_of E.contents E.has_failed E.holds_back err.old err.new) }
     // No file is opened where what they ask is handed on.
     ensures kept { (wanted : WantedView) → result ≡ outcomes.More wanted → files.new ≡ files.old }
 {

@@ -391,7 +391,7 @@ pub fn judge_chosen<S: FrameSink + Drop, K: Sheet, F: io::Read + Drop>(
     ensures read_told { TellsUnread file.old.failures file.new.failures result.1 }
     ensures took { S.took sink [] → OfBytes (left_of F.remaining file.old.reader) (λ bytes.
         (a : Account (terms_of (mode_of job.now.task) job.now.options.target) bytes result.1)
-        × TookChosen S.took K.choice result.0.broke_off result.0.reading result.0.pending result.0.sink (calls_in a)) }
+        × TookChosen S.took K.choice result.0.broke_off (record { reading = result.0.reading; pending = result.0.pending }) result.0.sink (calls_in a)) }
     ensures some { S.took sink [] → (calls : List Call) × S.took result.0.sink calls }
 {
     let mut narrowed: Narrowed<S, K> = Narrowed::new(sink, survey, job.options.choice);

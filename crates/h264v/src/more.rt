@@ -11,9 +11,9 @@ ghost use Rattle.h264_report.specs.Written.{OfBytes, told_of};
 ghost use Rattle.h264v.specs.Explained.{IsExplained};
 ghost use Rattle.h264_verify.specs.Units.{terms_of};
 ghost use Rattle.h264v.specs.Files.{counts, left_of, one_more, HasReadAll, IsUnread, TellsFailure, TellsUnread};
-ghost use Rattle.h264v.specs.Further.{asks_further, BreakOne, IsFound, TellsBroken};
-ghost use Rattle.h264v.specs.Commands.{output_of};
-ghost use Rattle.h264v.specs.More.{AreDone, IsAnswerOf, IsPutAside, IsStatus, IsToldStatus, TellUnread, TellsCause, TellsWrites};
+ghost use Rattle.h264v.specs.Further.{asks_further, BreakOne, IsFound, TellsBroken, IsNoVerdict};
+ghost use Rattle.h264v.specs.Commands.{output_of, span_of};
+ghost use Rattle.h264v.specs.More.{AreDone, IsAnswerOf, IsPutAside, IsStatus, IsToldStatus, TellsCause, TellsWrites, files_span, work};
 ghost use Rattle.h264v.specs.Options.{refusal_text};
 ghost use Rattle.h264v.specs.Texts.{IsEnd, IsFileText, IsTextOf, TakesText, answers_aside, opening_in, prefix_of};
 ghost use Rattle.h264v.specs.Words.{mode_of, system_name};
@@ -251,8 +251,8 @@ fn do_file<O: Opener + Drop, W: Device, E: Device, M: Meter + Drop>(
     ensures read_told { TellsFailure files.old.file.failures files.new.file.failures result.ending.answer }
     ensures holds { (name : List ℕ) → O.holds files.new.opener name ≡ O.holds files.old.opener name }
     ensures unread { files.new.unread ≡ files.old.unread }
-    ensures failures { TellsWrites job.now.options.y4m result.ending (output_of W.contents W.has_failed W.holds_back out.old)
-        (output_of W.contents W.has_failed W.holds_back out.new) (output_of E.contents E.has_failed E.holds_back err.new) }
+    ensures failures { TellsWrites job.now.options.y4m result.ending (span_of W.contents W.has_failed W.holds_back out.old out.new)
+        (output_of E.contents E.has_failed E.holds_back err.new) }
     ensures text { TakesText (IsFileText job.now.task job.now.options (opening_in job.now.options.json job.now.file.now job.now.prefix.now)
         (O.holds files.old.opener (system_name job.now.file.now)) result.ending.answer) (W.contents out.old)
         (output_of W.contents W.has_failed W.holds_back out.new) }
@@ -293,8 +293,8 @@ fn judge_opened<F: io::Read + Drop, W: Device, E: Device, M: Meter + Drop>(
         (left_of F.remaining file.old.reader) result }
     ensures read { IsErrOf result.ending.answer Read → IsUnread file.old.failures file.old.reads file.new.failures file.new.reads }
     ensures read_told { TellsFailure file.old.failures file.new.failures result.ending.answer }
-    ensures failures { TellsWrites job.now.options.y4m result.ending (output_of W.contents W.has_failed W.holds_back out.old)
-        (output_of W.contents W.has_failed W.holds_back out.new) (output_of E.contents E.has_failed E.holds_back err.new) }
+    ensures failures { TellsWrites job.now.options.y4m result.ending (span_of W.contents W.has_failed W.holds_back out.old out.new)
+        (output_of E.contents E.has_failed E.holds_back err.new) }
     ensures text { TakesText (IsFileText job.now.task job.now.options (opening_in job.now.options.json job.now.file.now job.now.prefix.now)
         (left_of F.remaining file.old.reader) result.ending.answer) (W.contents out.old)
         (output_of W.contents W.has_failed W.holds_back out.new) }
@@ -318,9 +318,10 @@ fn put_answer<W: Device, E: Device>(job: &Job<'_>, found: &Found, out: &mut W, e
     ensures write { found.now.answer ≡ Err Write → result.ending.answer ≡ Err Write }
     ensures broken { result.is_broken ≡ true → BreakOne found.now.strict }
     ensures unbroken { result.is_broken ≡ false → BreakOne found.now.strict → ⊥ }
-    ensures devices { IsPutAside result.ending.written (output_of W.contents W.has_failed W.holds_back out.old)
-        (output_of W.contents W.has_failed W.holds_back out.new) (output_of E.contents E.has_failed E.holds_back err.new) }
-    ensures text { TakesText (IsEnd job.now.task) (W.contents out.old) (output_of W.contents W.has_failed W.holds_back out.new) }
+    ensures devices { IsPutAside result.ending.written (span_of W.contents W.has_failed W.holds_back out.old out.new)
+        (output_of E.contents E.has_failed E.holds_back err.new) }
+    ensures text { TakesText (IsEnd job.now.task job.now.options (opening_in job.now.options.json job.now.file.now job.now.prefix.now) result.ending.answer)
+        (W.contents out.old) (output_of W.contents W.has_failed W.holds_back out.new) }
 {
     if answers_aside(job.task) {
         return put_found(job, err, found);
@@ -332,9 +333,11 @@ fn put_answer<W: Device, E: Device>(job: &Job<'_>, found: &Found, out: &mut W, e
 fn put_no_verdict<W: Device, E: Device>(job: &Job<'_>, stop: Stop, out: &mut W, err: &mut E) -> Done
     ensures answer { result.ending.answer ≡ Err stop }
     ensures broken { result.is_broken ≡ false }
-    ensures devices { IsPutAside result.ending.written (output_of W.contents W.has_failed W.holds_back out.old)
-        (output_of W.contents W.has_failed W.holds_back out.new) (output_of E.contents E.has_failed E.holds_back err.new) }
-    ensures text { TakesText (IsEnd job.now.task) (W.contents out.old) (output_of W.contents W.has_failed W.holds_back out.new) }
+    ensures devices { IsPutAside result.ending.written (span_of W.contents W.has_failed W.holds_back out.old out.new)
+        (output_of E.contents E.has_failed E.holds_back err.new) }
+    ensures text { IsNoVerdict (Err stop) →
+        TakesText (IsEnd job.now.task job.now.options (opening_in job.now.options.json job.now.file.now job.now.prefix.now) (Err stop))
+        (W.contents out.old) (output_of W.contents W.has_failed W.holds_back out.new) }
 {
     if answers_aside(job.task) {
         return put_unjudged(job, err, stop);
@@ -389,8 +392,8 @@ fn do_named<O: Opener + Drop, W: Device, E: Device, M: Meter + Drop>(
     ensures read_told { TellsFailure files.old.file.failures files.new.file.failures result.ending.answer }
     ensures holds { (name : List ℕ) → O.holds files.new.opener name ≡ O.holds files.old.opener name }
     ensures unread { files.new.unread ≡ files.old.unread }
-    ensures failures { TellsWrites job.now.options.y4m result.ending (output_of W.contents W.has_failed W.holds_back out.old)
-        (output_of W.contents W.has_failed W.holds_back out.new) (output_of E.contents E.has_failed E.holds_back err.new) }
+    ensures failures { TellsWrites job.now.options.y4m result.ending (span_of W.contents W.has_failed W.holds_back out.old out.new)
+        (output_of E.contents E.has_failed E.holds_back err.new) }
     ensures text { TakesText (IsFileText job.now.task job.now.options (opening_in job.now.options.json job.now.file.now (prefix_of true job.now.file.now))
         (O.holds files.old.opener (system_name job.now.file.now)) result.ending.answer) (W.contents out.old)
         (output_of W.contents W.has_failed W.holds_back out.new) }
@@ -419,8 +422,10 @@ fn do_files<O: Opener + Drop, W: Device, E: Device, M: Meter + Drop + Copy>(
     meter: M,
 ) -> u8
     requires several { length names.now ≢ 1 }
-    ensures { AreDone job.now.task job.now.options (λ name. O.holds files.old.opener name) (TellUnread files.new.unread) (map (λ n. n.now) names.now) result
-        (output_of W.contents W.has_failed W.holds_back out.old) (output_of W.contents W.has_failed W.holds_back out.new)
+    ensures { AreDone (work job.now.task job.now.options) (files_span (λ name. O.holds files.old.opener name)
+        (counts files.old.file.failures files.old.file.reads files.old.unread)
+        (counts files.new.file.failures files.new.file.reads files.new.unread)) (map (λ n. n.now) names.now) result
+        (span_of W.contents W.has_failed W.holds_back out.old out.new)
         (output_of E.contents E.has_failed E.holds_back err.new) }
 {
     let mut totals = Totals::none();
@@ -461,8 +466,8 @@ fn do_one<O: Opener + Drop, W: Device, E: Device, M: Meter + Drop>(
         (O.holds files.old.opener (system_name job.now.file.now)) result }
     ensures read { IsErrOf result.ending.answer Read → IsUnread files.old.file.failures files.old.file.reads files.new.file.failures files.new.file.reads }
     ensures read_told { TellsFailure files.old.file.failures files.new.file.failures result.ending.answer }
-    ensures failures { TellsWrites job.now.options.y4m result.ending (output_of W.contents W.has_failed W.holds_back out.old)
-        (output_of W.contents W.has_failed W.holds_back out.new) (output_of E.contents E.has_failed E.holds_back err.new) }
+    ensures failures { TellsWrites job.now.options.y4m result.ending (span_of W.contents W.has_failed W.holds_back out.old out.new)
+        (output_of E.contents E.has_failed E.holds_back err.new) }
     ensures text { TakesText (IsFileText job.now.task job.now.options (opening_in job.now.options.json job.now.file.now job.now.prefix.now)
         (O.holds files.old.opener (system_name job.now.file.now)) result.ending.answer) (W.contents out.old)
         (output_of W.contents W.has_failed W.holds_back out.new) }
@@ -517,11 +522,11 @@ pub fn more<O: Opener + Maker + Drop, W: Device, E: Device, M: Meter + Drop + Co
     meter: M,
 ) -> u8
     requires { files.old.file.failures < 2 ^ 64 - 1 }
-    ensures { IsStatus wanted.now.request.task (subcommand_rows_of wanted.now.matches) (λ name. O.holds files.old.opener name)
+    ensures { IsStatus wanted.now.request.task (subcommand_rows_of wanted.now.matches) (files_span (λ name. O.holds files.old.opener name)
         (counts files.old.file.failures files.old.file.reads files.old.unread)
-        (counts files.new.file.failures files.new.file.reads files.new.unread) result
-        (output_of W.contents W.has_failed W.holds_back out.old) (output_of W.contents W.has_failed W.holds_back out.new)
-        (output_of E.contents E.has_failed E.holds_back err.old) (output_of E.contents E.has_failed E.holds_back err.new) }
+        (counts files.new.file.failures files.new.file.reads files.new.unread)) result
+        (span_of W.contents W.has_failed W.holds_back out.old out.new)
+        (span_of E.contents E.has_failed E.holds_back err.old err.new) }
 {
     let options = match options_of(wanted) {
         Ok(options) => options,

@@ -3,9 +3,9 @@
 
 ghost use Rattle.std.specs.Prelude.{◌≡◌, ◌-◌, ◌<◌, ◌^◌, List, Some, map, string_bytes};
 ghost use Rattle.clap.specs.Words.{Text, subcommand_rows_of};
-ghost use Rattle.h264v.specs.Commands.{output_by, output_of};
+ghost use Rattle.h264v.specs.Commands.{output_by, span_by, span_of};
 ghost use Rattle.h264v.specs.Files.{counts};
-ghost use Rattle.h264v.specs.More.{IsStatus, Ends, Runs};
+ghost use Rattle.h264v.specs.More.{IsStatus, Ends, Runs, files_span};
 
 use crate::command::{command, not_text};
 use crate::command_line::Wanted;
@@ -33,11 +33,11 @@ where
     E: Device,
     M: Meter + Drop + Copy,
     requires { files.old.file.failures < 2 ^ 64 - 1 }
-    ensures { IsStatus wanted.now.request.task (subcommand_rows_of wanted.now.matches) (λ name. O.holds files.old.opener name)
+    ensures { IsStatus wanted.now.request.task (subcommand_rows_of wanted.now.matches) (files_span (λ name. O.holds files.old.opener name)
         (counts files.old.file.failures files.old.file.reads files.old.unread)
-        (counts files.new.file.failures files.new.file.reads files.new.unread) result
-        (output_of W.contents W.has_failed W.holds_back out.old) (output_of W.contents W.has_failed W.holds_back out.new)
-        (output_of E.contents E.has_failed E.holds_back err.old) (output_of E.contents E.has_failed E.holds_back err.new) }
+        (counts files.new.file.failures files.new.file.reads files.new.unread)) result
+        (span_of W.contents W.has_failed W.holds_back out.old out.new)
+        (span_of E.contents E.has_failed E.holds_back err.old err.new) }
 {
     if wanted.has("progress") {
         return more(alloc, wanted, files, out, err, meter);
@@ -60,10 +60,10 @@ where
     E: Write + Drop,
     M: Meter + Drop + Copy,
     requires { files.old.file.failures < 2 ^ 64 - 1 }
-    ensures { Ends (map (λ w. string_bytes w) words.now) (λ name. O.holds files.old.opener name)
+    ensures { Ends (map (λ w. string_bytes w) words.now) (files_span (λ name. O.holds files.old.opener name)
         (counts files.old.file.failures files.old.file.reads files.old.unread)
-        (counts files.new.file.failures files.new.file.reads files.new.unread) result
-        (output_by W.contents out.old) (output_by W.contents out.new) (output_by E.contents err.old) }
+        (counts files.new.file.failures files.new.file.reads files.new.unread)) result
+        (span_by W.contents out.old out.new) (output_by E.contents err.old) }
 {
     match command(alloc, words, files, out, err) {
         Outcome::Fault(status) => status,
@@ -90,10 +90,10 @@ where
     E: Write + Drop,
     M: Meter + Drop + Copy,
     requires { files.old.file.failures < 2 ^ 64 - 1 }
-    ensures { Ends (map (λ w. string_bytes w) words.now) (λ name. O.holds files.old.opener name)
+    ensures { Ends (map (λ w. string_bytes w) words.now) (files_span (λ name. O.holds files.old.opener name)
         (counts files.old.file.failures files.old.file.reads files.old.unread)
-        (counts files.new.file.failures files.new.file.reads files.new.unread) result
-        (output_by W.contents out.old) (output_by W.contents out.new) (output_by E.contents err.old) }
+        (counts files.new.file.failures files.new.file.reads files.new.unread)) result
+        (span_by W.contents out.old out.new) (output_by E.contents err.old) }
 {
     let status = answer_words(alloc, words, files, out, err, meter);
     blame_output(alloc, out, err, "standard output");
@@ -117,13 +117,14 @@ where
     M: Meter + Drop + Copy,
     requires { files.old.file.failures < 2 ^ 64 - 1 }
     ensures known { (words' : List Text) → A.known words.now ≡ Some words' →
-        Runs words' (λ name. O.holds files.old.opener name) (counts files.old.file.failures files.old.file.reads files.old.unread)
-        (counts files.new.file.failures files.new.file.reads files.new.unread) result (output_by W.contents out.old) (output_by W.contents out.new)
-        (output_by E.contents err.old) }
-    ensures some { (words' : List Text) × Runs words' (λ name. O.holds files.old.opener name)
+        Runs words' (files_span (λ name. O.holds files.old.opener name)
         (counts files.old.file.failures files.old.file.reads files.old.unread)
-        (counts files.new.file.failures files.new.file.reads files.new.unread) result
-        (output_by W.contents out.old) (output_by W.contents out.new) (output_by E.contents err.old) }
+        (counts files.new.file.failures files.new.file.reads files.new.unread)) result (span_by W.contents out.old out.new)
+        (output_by E.contents err.old) }
+    ensures some { (words' : List Text) × Runs words' (files_span (λ name. O.holds files.old.opener name)
+        (counts files.old.file.failures files.old.file.reads files.old.unread)
+        (counts files.new.file.failures files.new.file.reads files.new.unread)) result
+        (span_by W.contents out.old out.new) (output_by E.contents err.old) }
 {
     match words.words(alloc) {
         Ok(Some(given)) => run_words(alloc, given.as_slice(), files, out, err, meter),

@@ -1,10 +1,16 @@
 //! How the answer on a file is told: lines, or an object of JSON.
 #![tactic(auto)]
 
-ghost use Rattle.std.specs.Prelude.{◌≡◌, ◌⊎◌, ℕ, List, true, false, Err};
+ghost use Rattle.std.specs.Prelude.{◌≡◌, ◌⊎◌, ◌++◌, ℕ, List, true, false, Err};
+ghost use Rattle.h264_base.specs.declared.mode.Mode.{Mode};
 ghost use Rattle.h264_base.specs.declared.stop.Stop.TheVariants.{Memory, Read, Write};
+ghost use Rattle.h264_report.specs.Lines.{verdict_text};
+ghost use Rattle.h264_report.specs.Pages.{text_on, is_cut, Adds};
 ghost use Rattle.h264_report.specs.Sent.{Takes};
-ghost use Rattle.h264v.specs.Further.{BreakOne};
+ghost use Rattle.h264_report.specs.Written.{last_line};
+ghost use Rattle.h264v.specs.Further.{BreakOne, IsNoVerdict};
+ghost use Rattle.h264v.specs.Texts.{head_of, opening_in, verdict_object, EndsWith, TellsAnswer};
+ghost use Rattle.h264v.specs.Words as words;
 
 use crate::command_line::Task;
 use crate::explaining::guide_of;
@@ -27,8 +33,8 @@ pub fn finding_of(found: &Found) -> Option<Finding> {
     )
 }
 
-/// Adds the last lines: what explains the answer, where that is asked, and the answer.
-fn put_last_lines(job: &Job<'_>, page: &mut Page, found: &Found) {
+/// Adds the lines before the last: what explains the answer, where that is asked, and what the further rules found.
+fn put_earlier_lines(job: &Job<'_>, page: &mut Page, found: &Found) {
     if job.options.explain {
         put_explanation(
             job.alloc,
@@ -42,15 +48,27 @@ fn put_last_lines(job: &Job<'_>, page: &mut Page, found: &Found) {
     if let Some(strict) = &found.strict {
         put_strict_lines(page, strict);
     }
+}
+
+/// Adds the last line: the answer.
+fn put_last_line(job: &Job<'_>, page: &mut Page, found: &Found)
+    ensures { Adds page.old page.new (job.now.prefix.now ++ last_line (words.mode_of job.now.task) found.now.answer) }
+{
     match verdict_line(job.alloc, mode_of(job.task), found.answer) {
-        Ok(line) => page.put(line.as_str()),
+        Ok(line) => {
+            page.put(job.prefix);
+            page.put(line.as_str());
+            page.put("\n");
+        }
         Err(_) => page.give_up(),
     }
-    page.put("\n");
 }
 
 /// Adds the object of the answer.
-fn put_verdict_object(job: &Job<'_>, page: &mut Page, found: &Found) {
+fn put_verdict_object(job: &Job<'_>, page: &mut Page, found: &Found)
+    ensures { is_cut page.new ≡ false → (is_cut page.old ≡ false) × ((more : List ℕ)
+        × (text_on page.new ≡ text_on page.old ++ verdict_object (head_of job.now.file.now) found.now.answer more)) }
+{
     page.open_object(job.file, "verdict");
     put_verdict_fields(
         job.alloc,
@@ -64,7 +82,9 @@ fn put_verdict_object(job: &Job<'_>, page: &mut Page, found: &Found) {
 }
 
 /// The last line of an answer of memory or of a device.
-fn unjudged_line(stop: Stop) -> &'static str {
+fn unjudged_line(stop: Stop) -> &'static str
+    ensures { (mode : Mode) → IsNoVerdict (Err stop) → result.now ≡ verdict_text mode (Err stop) }
+{
     match stop {
         Stop::Read => "read failed",
         Stop::Write => "write failed",
@@ -75,6 +95,7 @@ fn unjudged_line(stop: Stop) -> &'static str {
 /// What is said of an answer for which there was no memory: that a device failed, where the answer is that; else that memory was wanting.
 fn short_of(answer: Answer) -> Stop
     ensures stop { (Err result ≡ answer) ⊎ (result ≡ Memory) }
+    ensures no_verdict { IsNoVerdict (Err result) }
     ensures read { answer ≡ Err Read → result ≡ Read }
     ensures write { answer ≡ Err Write → result ≡ Write }
 {
@@ -110,8 +131,8 @@ fn put_change_object(job: &Job<'_>, page: &mut Page, first: Head, other: Head) {
     page.close_object();
 }
 
-/// Adds what is written at the end of a judgement.
-fn put_end(job: &Job<'_>, page: &mut Page, found: &Found) {
+/// Adds what is written before the answer: the last elements, what explains the answer, and what the further rules found.
+fn put_earlier(job: &Job<'_>, page: &mut Page, found: &Found) {
     if !job.options.json || job.task == Task::Info {
         page.put(found.before.as_str());
     }
@@ -120,7 +141,7 @@ fn put_end(job: &Job<'_>, page: &mut Page, found: &Found) {
             put_change(page, first, other);
             page.put("\n");
         }
-        put_last_lines(job, page, found);
+        put_earlier_lines(job, page, found);
         return;
     }
     if let Some((first, other)) = found.change {
@@ -129,7 +150,25 @@ fn put_end(job: &Job<'_>, page: &mut Page, found: &Found) {
     if let Some(strict) = &found.strict {
         put_strict_objects(page, job.file, strict);
     }
-    put_verdict_object(job, page, found);
+}
+
+/// Adds what is written at the end of a judgement: last of all the answer, as a line or as an object.
+fn put_end(job: &Job<'_>, page: &mut Page, found: &Found)
+    ensures { is_cut page.new ≡ false →
+        EndsWith job.now.task (opening_in job.now.options.json job.now.file.now job.now.prefix.now) found.now.answer (text_on page.new) }
+{
+    let mut earlier = Page::new(job.alloc);
+    put_earlier(job, &mut earlier, found);
+    if earlier.is_short() {
+        page.give_up();
+        return;
+    }
+    page.put_lines(job.prefix, earlier.as_str());
+    if job.options.json {
+        put_verdict_object(job, page, found);
+    } else {
+        put_last_line(job, page, found);
+    }
 }
 
 /// Writes the end of a judgement: lines, or an object of JSON; nothing where quiet is asked.
@@ -137,7 +176,8 @@ pub fn put_found<W: Device>(job: &Job<'_>, out: &mut W, found: &Found) -> Done
     ensures answer { (result.ending.answer ≡ found.now.answer) ⊎ (result.ending.answer ≡ Err Memory) }
     ensures read { found.now.answer ≡ Err Read → result.ending.answer ≡ Err Read }
     ensures write { found.now.answer ≡ Err Write → result.ending.answer ≡ Err Write }
-    ensures text { (end : List ℕ) × Takes result.ending.written (W.contents out.old) (W.contents out.new) end }
+    ensures text { (end : List ℕ) × Takes result.ending.written (W.contents out.old) (W.contents out.new) end
+        × TellsAnswer job.now.task job.now.options (opening_in job.now.options.json job.now.file.now job.now.prefix.now) result.ending.answer end }
     ensures handed_over { result.ending.written ≡ true → W.holds_back out.new ≡ false }
     ensures quiet { result.ending.written ≡ true → W.has_failed out.new ≡ W.has_failed out.old }
     ensures failed { result.ending.written ≡ false → W.has_failed out.new ≡ true }
@@ -145,13 +185,11 @@ pub fn put_found<W: Device>(job: &Job<'_>, out: &mut W, found: &Found) -> Done
     ensures unbroken { result.is_broken ≡ false → BreakOne found.now.strict → ⊥ }
 {
     let is_broken = found.is_broken();
-    let mut page = Page::new(job.alloc);
-    if !job.options.quiet {
-        put_end(job, &mut page, found);
-    }
     let mut lines = Page::new(job.alloc);
-    lines.put_lines(job.prefix, page.as_str());
-    if page.is_short() || lines.is_short() {
+    if !job.options.quiet {
+        put_end(job, &mut lines, found);
+    }
+    if lines.is_short() {
         let stop = short_of(found.answer);
         let ending = Ending {
             answer: Err(stop),
@@ -166,29 +204,42 @@ pub fn put_found<W: Device>(job: &Job<'_>, out: &mut W, found: &Found) -> Done
     Done { ending, is_broken }
 }
 
+/// Writes that there is no verdict, by an answer of memory or of a device: an object or a line, or nothing where quiet is asked. Whether that was possible.
+fn put_stop<W: Device>(job: &Job<'_>, out: &mut W, stop: Stop) -> bool
+    ensures text { (end : List ℕ) × Takes result (W.contents out.old) (W.contents out.new) end × (IsNoVerdict (Err stop) →
+        TellsAnswer job.now.task job.now.options (opening_in job.now.options.json job.now.file.now job.now.prefix.now) (Err stop) end) }
+    ensures handed_over { result ≡ true → W.holds_back out.new ≡ false }
+    ensures quiet { result ≡ true → W.has_failed out.new ≡ W.has_failed out.old }
+    ensures failed { result ≡ false → W.has_failed out.new ≡ true }
+{
+    if job.options.quiet {
+        return put_text(out, "");
+    }
+    if job.options.json {
+        let mut page = Page::new(job.alloc);
+        page.open_object(job.file, "verdict");
+        put_answer_fields(&mut page, Err(stop));
+        page.close_object();
+        if !page.is_short() {
+            return put_text(out, page.as_str());
+        }
+    }
+    put_line(job.prefix, unjudged_line(stop), out)
+}
+
 /// Writes that a file was not judged, by an answer of memory or of a device.
 pub fn put_unjudged<W: Device>(job: &Job<'_>, out: &mut W, stop: Stop) -> Done
     ensures answer { result.ending.answer ≡ Err stop }
-    ensures text { (end : List ℕ) × Takes result.ending.written (W.contents out.old) (W.contents out.new) end }
+    ensures text { (end : List ℕ) × Takes result.ending.written (W.contents out.old) (W.contents out.new) end × (IsNoVerdict (Err stop) →
+        TellsAnswer job.now.task job.now.options (opening_in job.now.options.json job.now.file.now job.now.prefix.now) (Err stop) end) }
     ensures handed_over { result.ending.written ≡ true → W.holds_back out.new ≡ false }
     ensures quiet { result.ending.written ≡ true → W.has_failed out.new ≡ W.has_failed out.old }
     ensures failed { result.ending.written ≡ false → W.has_failed out.new ≡ true }
     ensures broken { result.is_broken ≡ false }
 {
-    let mut page = Page::new(job.alloc);
-    page.open_object(job.file, "verdict");
-    put_answer_fields(&mut page, Err(stop));
-    page.close_object();
-    let written = if job.options.quiet {
-        put_text(out, "")
-    } else if job.options.json && !page.is_short() {
-        put_text(out, page.as_str())
-    } else {
-        put_line(job.prefix, unjudged_line(stop), out)
-    };
     let ending = Ending {
         answer: Err(stop),
-        written,
+        written: put_stop(job, out, stop),
     };
     Done {
         ending,

@@ -1,6 +1,10 @@
 //! The fields of JSON of a verdict.
 #![tactic(auto)]
 
+ghost use Rattle.std.specs.Prelude.{◌≡◌, ◌++◌, codes};
+ghost use Rattle.h264_report.specs.Pages.{word_text, found_fields, answer_fields, Adds, AddsFirst, Grows};
+ghost use Rattle.h264_report.specs.Pages as pages;
+
 use crate::judging::answer_status;
 use crate::pages::allowed::put_allowed;
 use crate::pages::finding::{Answer, Finding, Guide, Reason};
@@ -11,7 +15,9 @@ use h264_verify::Summary;
 use std::alloc::Global;
 
 /// The word of an answer in the field `verdict`.
-fn word_of(answer: Answer) -> &'static str {
+fn word_of(answer: Answer) -> &'static str
+    ensures { result.now ≡ word_text answer }
+{
     match answer {
         Ok(_) => "yes",
         Err(Stop::No { .. }) => "no",
@@ -23,16 +29,19 @@ fn word_of(answer: Answer) -> &'static str {
 }
 
 /// Adds the counts of a yes.
-fn put_summary(page: &mut Page, summary: Summary) {
+fn put_summary(page: &mut Page, summary: Summary)
+    ensures { Adds page.old page.new (pages.number_field (codes "units") summary.units ++ (pages.number_field (codes "pictures") summary.pictures
+        ++ pages.number_field (codes "frames") summary.frames)) }
+{
     page.number_field("units", summary.units);
     page.number_field("pictures", summary.pictures);
     page.number_field("frames", summary.frames);
 }
 
-/// Adds the fields of an answer: its word and exit status; of a yes the counts, of a no the rule, of an outside the feature.
-pub fn put_answer_fields(page: &mut Page, answer: Answer) {
-    page.text_field("verdict", word_of(answer));
-    page.number_field("status", u64::from(answer_status(answer)));
+/// Adds of a yes the counts, of a no the rule with its clause, of an outside the feature.
+fn put_found(page: &mut Page, answer: Answer)
+    ensures { Adds page.old page.new (found_fields answer) }
+{
     match answer {
         Ok(summary) => put_summary(page, summary),
         Err(Stop::No { rule, .. }) => {
@@ -44,14 +53,27 @@ pub fn put_answer_fields(page: &mut Page, answer: Answer) {
     }
 }
 
+/// Adds the fields of an answer: its word and exit status; of a yes the counts, of a no the rule, of an outside the feature.
+pub fn put_answer_fields(page: &mut Page, answer: Answer)
+    ensures { Adds page.old page.new (answer_fields answer) }
+{
+    page.text_field("verdict", word_of(answer));
+    page.number_field("status", u64::from(answer_status(answer)));
+    put_found(page, answer);
+}
+
 /// Adds the fields of an element.
-fn put_element(page: &mut Page, element: ReadElement) {
+fn put_element(page: &mut Page, element: ReadElement)
+    ensures { Grows page.old page.new }
+{
     page.text_field("element", element.name.text());
     page.signed_field("value", element.value);
 }
 
 /// Adds the fields of the reason.
-fn put_reason(page: &mut Page, reason: Reason) {
+fn put_reason(page: &mut Page, reason: Reason)
+    ensures { Grows page.old page.new }
+{
     page.text_field("reason", reason.name());
     match reason {
         Reason::Container(container) => page.text_field("container", container.name()),
@@ -61,7 +83,9 @@ fn put_reason(page: &mut Page, reason: Reason) {
 }
 
 /// Adds the fields of the place and of what was found there.
-fn put_finding(page: &mut Page, survey: &Survey, finding: &Finding) {
+fn put_finding(page: &mut Page, survey: &Survey, finding: &Finding)
+    ensures { Grows page.old page.new }
+{
     page.number_field("bit", finding.bit);
     page.number_field("byte", finding.byte());
     if let Some(unit) = survey.unit() {
@@ -94,7 +118,9 @@ fn put_allowed_field(
     answer: Answer,
     survey: &Survey,
     finding: &Finding,
-) {
+)
+    ensures { Grows page.old page.new }
+{
     if let Err(Stop::No { rule, .. }) = answer {
         let mut allowed = Page::new(alloc);
         put_allowed(&mut allowed, rule, survey, finding);
@@ -102,6 +128,30 @@ fn put_allowed_field(
             page.text_field("allowed", allowed.as_str());
         }
     }
+}
+
+/// Adds the fields of where a verdict stands, what was found there, and what is allowed.
+fn put_place(
+    alloc: Global,
+    page: &mut Page,
+    answer: Answer,
+    survey: &Survey,
+    finding: Option<Finding>,
+)
+    ensures { Grows page.old page.new }
+{
+    if let Some(finding) = finding {
+        put_finding(page, survey, &finding);
+        put_allowed_field(alloc, page, answer, survey, &finding);
+    }
+}
+
+/// Adds the fields of what is said of the rule or feature.
+fn put_guide(page: &mut Page, guide: Guide<'_>)
+    ensures { Grows page.old page.new }
+{
+    page.text_field("breaks", guide.breaks);
+    page.text_field("cause", guide.cause);
 }
 
 /// Adds the fields of a verdict: the answer, where it stands and what was found there, and what is said of it to a reader.
@@ -112,14 +162,12 @@ pub fn put_verdict_fields(
     survey: &Survey,
     finding: Option<Finding>,
     guide: Option<Guide<'_>>,
-) {
+)
+    ensures { AddsFirst page.old page.new (answer_fields answer) }
+{
     put_answer_fields(page, answer);
-    if let Some(finding) = finding {
-        put_finding(page, survey, &finding);
-        put_allowed_field(alloc, page, answer, survey, &finding);
-    }
+    put_place(alloc, page, answer, survey, finding);
     if let Some(guide) = guide {
-        page.text_field("breaks", guide.breaks);
-        page.text_field("cause", guide.cause);
+        put_guide(page, guide);
     }
 }

@@ -90,7 +90,8 @@ impl<S: FrameSink + Drop, K: Sheet> Narrowed<S, K> {
         ensures quiet { result.failures + S.failures result.sink ≡ S.failures sink }
         ensures sink { result.sink ≡ sink }
         ensures choice { result.choice ≡ choice }
-        ensures took { S.took sink [] → TookChosen S.took result.choice result.broke_off result.reading result.pending result.sink [] }
+        ensures took { S.took sink [] → TookChosen S.took result.choice result.broke_off
+            (record { reading = result.reading; pending = result.pending }) result.sink [] }
     {
         Narrowed {
             sink,
@@ -130,7 +131,8 @@ fn put_pending<S: FrameSink>(sink: &mut S, pending: Option<UnitCall>) -> Result<
 }
 
 impl<S: FrameSink + Drop, K: Sheet> Elements for Narrowed<S, K> {
-    ghost took = { λ s calls. (s.choice ≡ K.choice) × TookChosen S.took s.choice s.broke_off s.reading s.pending s.sink calls };
+    ghost took = { λ s calls. (s.choice ≡ K.choice) × TookChosen S.took s.choice s.broke_off
+        (record { reading = s.reading; pending = s.pending }) s.sink calls };
 
     ghost failures = { λ s. s.failures + S.failures s.sink };
 

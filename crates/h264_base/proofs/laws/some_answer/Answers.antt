@@ -1,4 +1,4 @@
-use Rattle.h264_base.specs.Run.{Run, run}
+use Rattle.h264_base.specs.Run.{run}
 use Rattle.h264_base.proofs.OneAnswer.{run-says}
 use Rattle.h264_base.proofs.laws.some_answer.Goals as goal
 

@@ -1,6 +1,6 @@
-use Rattle.std.proofs.Common.{Ok, Err, refl}
+use Rattle.std.proofs.Common.{refl}
 use Rattle.std.proofs.lemmas.Result.{err_from_is_err_and}
-use Rattle.h264_base.proofs.Steps.{bind, stop, done, checked}
+use Rattle.h264_base.proofs.Steps.{bind, stop, done}
 use Rattle.h264_bits.specs.Forms.{flag}
 use Rattle.h264_bits.proofs.forms.flag_value.Goals as goal
 

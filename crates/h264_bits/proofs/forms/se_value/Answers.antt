@@ -1,9 +1,9 @@
-use Rattle.std.proofs.Common.{rules, Ok, Err, refl}
+use Rattle.std.proofs.Common.{rules, refl}
 use Rattle.std.proofs.lemmas.Int.{to_z-of_z}
 use Rattle.std.proofs.lemmas.Result.{err_from_is_err_and}
 use Rattle.std.specs.Int.{w32}
 use mir.Val.{SFits}
-use Rattle.h264_base.proofs.Steps.{bind, stop, done, checked}
+use Rattle.h264_base.proofs.Steps.{bind, stop, done}
 use Rattle.h264_bits.specs.Forms.{signed}
 use Rattle.h264_bits.proofs.forms.se_value.Goals as goal
 

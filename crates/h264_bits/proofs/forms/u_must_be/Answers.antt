@@ -1,6 +1,5 @@
-use Rattle.std.proofs.Common.{Ok, Err, refl}
 use Rattle.std.proofs.lemmas.Result.{err_from_is_err_and}
-use Rattle.h264_base.proofs.Steps.{bind, stop, done, checked}
+use Rattle.h264_base.proofs.Steps.{bind, stop, checked}
 use Rattle.h264_bits.specs.Forms.{bits_must_be}
 use Rattle.h264_bits.proofs.forms.u_must_be.Goals as goal
 

@@ -1,6 +1,5 @@
-use Rattle.std.proofs.Common.{Ok, Err, refl}
 use Rattle.std.proofs.lemmas.Result.{err_from_is_err_and}
-use Rattle.h264_base.proofs.Steps.{bind, stop, done, checked}
+use Rattle.h264_base.proofs.Steps.{bind, stop, checked}
 use Rattle.h264_bits.specs.Forms.{unsigned_must_be_0}
 use Rattle.h264_bits.proofs.forms.ue_must_be_0.Goals as goal
 

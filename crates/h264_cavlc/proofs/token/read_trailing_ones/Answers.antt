@@ -1,5 +1,6 @@
 use Rattle.std.proofs.Common.{arith, ℕ, ◌≡◌, ◌+◌, ◌∙◌, ◌<◌, [], take, ap, sym, subst, Ok, refl}
 use Rattle.std.proofs.lemmas.Result.{err_from_is_err_and}
+use Rattle.h264_base.specs.Call.{span}
 use Rattle.h264_base.specs.Meets.{Meets}
 use Rattle.h264_base.proofs.Steps.{kept}
 use Rattle.h264_bits.specs.Forms.{repeated}
@@ -46,6 +47,6 @@ pub returns : goal.returns
 returns g c =
     let r = c.args.bits.now in
     let at : c.loop-k.k ≡ c.args.ones = (let t = c.loop-k-test.false in let i = c.loop-k.auto in omega arith) in
-    let P : ℕ → Type 0 = λ n. Meets {X = Unit {0}} g.S.Elements.took g.S.Elements.failures (λ x l. l ≡ take c.args.ones c.put_ones.new.levels) (repeated trailing_one [] c.args.ones) r (record { body = r.body; at = r.at + n }) c.args.sink.now c.loop-k.sink (Ok tt) in
+    let P : ℕ → Type 0 = λ n. Meets {X = Unit {0}} (span g.S.Elements.took g.S.Elements.failures c.args.sink.now c.loop-k.sink) (λ x l. l ≡ take c.args.ones c.put_ones.new.levels) (repeated trailing_one [] c.args.ones) r (record { body = r.body; at = r.at + n }) (Ok tt) in
     rw (c.pass_by.ensures, c.in-Some.ensures.kept)
     (subst P at (repeated-over trailing_one c.args.ones c.loop-k.k (take c.loop-k.k c.put_ones.new.levels) tt c.loop-k-test.false (ap (λ n. take n c.put_ones.new.levels) at) c.loop-k.invariant.rest))

@@ -1,6 +1,7 @@
 use Rattle.std.proofs.Common.{◌≡◌, ℕ}
 use denote.Param.{number}
 use Rattle.h264_plane.specs.Samples.{Samples, ShowsSamples}
+use Rattle.h264_deblock.specs.Edge.{edge_at}
 use Rattle.h264_deblock.specs.Filtering.{edges_after}
 use Rattle.h264_deblock.specs.contracts.filtering.direction.{VERTICAL-type, CHROMA-type}
 use Rattle.h264_deblock.proofs.filtering.direction.Given as goal
@@ -12,5 +13,5 @@ invariant-loop-k g l =
     record {
       width : l.plane.width ≡ l.fn.plane.width;
       height : l.plane.height ≡ l.fn.plane.height;
-      held : (p : Samples) (s : ℕ → ℕ → ℕ) → ShowsSamples p l.fn.plane s → ShowsSamples p l.plane (edges_after l.k v chroma l.edges l.along l.across s);
+      held : (p : Samples) (s : ℕ → ℕ → ℕ) → ShowsSamples p l.fn.plane s → ShowsSamples p l.plane (edges_after l.k v chroma l.edges (edge_at l.along l.across) s);
     }

@@ -6,4 +6,4 @@ use Rattle.h264_recon.specs.Predicted.{parted_motions}
 use Rattle.h264_recon.proofs.inter.predict_8x8.Given as goal
 
 abbrev pub invariant-loop-quarter : goal.invariant-loop-quarter
-invariant-loop-quarter l = AreMade number_of (4 * l.quarter) l.pool (parted_motions (P8x8 l.types) l.m.places.now l.m.derived.now) l.position.column l.position.row l.own
+invariant-loop-quarter l = AreMade number_of (4 * l.quarter) l.pool (parted_motions (P8x8 l.types) l.m.places.now l.m.derived.now) l.position l.own

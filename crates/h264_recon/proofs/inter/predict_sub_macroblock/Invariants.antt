@@ -6,4 +6,4 @@ use Rattle.h264_recon.specs.Predicted.{parted_motions}
 use Rattle.h264_recon.proofs.inter.predict_sub_macroblock.Given as goal
 
 abbrev pub invariant-loop-k : goal.invariant-loop-k
-invariant-loop-k l = AreMade number_of (4 * l.quarter + l.k) l.pool (parted_motions (P8x8 l.types) l.m.places.now l.m.derived.now) l.position.column l.position.row l.own
+invariant-loop-k l = AreMade number_of (4 * l.quarter + l.k) l.pool (parted_motions (P8x8 l.types) l.m.places.now l.m.derived.now) l.position l.own

@@ -5,8 +5,8 @@ use Rattle.h264_report.proofs.judging.check.Goals as goal
 
 pub returns-in_default-clause-checks : goal.returns-in_default-clause-checks
 returns-in_default-clause-checks g c = of-bytes _ _
-    (λ bytes h. none-checked c.args.target bytes c.put_memory.result.answer c.put_memory.result.written _ _ c.put_memory.ensures.answer c.put_memory.ensures.text)
-    ([], none-checked c.args.target [] c.put_memory.result.answer c.put_memory.result.written _ _ c.put_memory.ensures.answer c.put_memory.ensures.text)
+    (λ bytes h. none-checked c.args.target bytes c.put_memory.result _ _ c.put_memory.ensures.answer c.put_memory.ensures.text)
+    ([], none-checked c.args.target [] c.put_memory.result _ _ c.put_memory.ensures.answer c.put_memory.ensures.text)
 
 pub returns-clause-checks : goal.returns-clause-checks
 returns-clause-checks g c =

@@ -4,9 +4,9 @@ use Rattle.h264_report.proofs.judging.list.Goals as goal
 
 pub returns-clause-lists : goal.returns-clause-lists
 returns-clause-lists g c = of-bytes _ _
-    (λ bytes h. listed c.write_lines-answer.result c.put_answer.result.answer c.put_answer.result.written _ _ _ c.put_answer.ensures.answer c.put_answer.ensures.write (c.write_lines-answer.ensures.lines bytes h) c.put_answer.ensures.text)
+    (λ bytes h. listed c.write_lines-answer.result c.put_answer.result _ _ _ c.put_answer.ensures.answer c.put_answer.ensures.write (c.write_lines-answer.ensures.lines bytes h) c.put_answer.ensures.text)
     (let some = c.write_lines-answer.ensures.some in
-    (some.0, listed c.write_lines-answer.result c.put_answer.result.answer c.put_answer.result.written _ _ _ c.put_answer.ensures.answer c.put_answer.ensures.write some.1 c.put_answer.ensures.text))
+    (some.0, listed c.write_lines-answer.result c.put_answer.result _ _ _ c.put_answer.ensures.answer c.put_answer.ensures.write some.1 c.put_answer.ensures.text))
 
 pub returns-clause-read : goal.returns-clause-read
 returns-clause-read g c r = c.write_lines-answer.ensures.read (was-read _ _ c.put_answer.ensures.answer r)

@@ -4,14 +4,14 @@ use Rattle.h264_base.specs.Grammar.{Grammar}
 use Rattle.h264_lists.specs.declared.slot.RefSlot.{RefSlot}
 use Rattle.h264_near.specs.Coded.{CodedMacroblock}
 use Rattle.h264_picture.specs.Context.{slice_context}
-use Rattle.h264_verify.specs.Pictures.{joined_to, picture_size}
-use Rattle.h264_verify.specs.Data.{picture_set, coded_so_far}
+use Rattle.h264_verify.specs.Telling.{frame_span}
+use Rattle.h264_verify.specs.Pictures.{joined_to}
 use Rattle.h264_verify.specs.Framing.{ReadsData}
 use Rattle.h264_verify.specs.StepOutcome.{structure_from}
 use Rattle.h264_verify.proofs.Playing.{memory-plays}
 use Rattle.h264_verify.proofs.Holding.{enters-some}
 use Rattle.h264_verify.proofs.Naming.{slices-some}
-use Rattle.h264_verify.proofs.Reading.{context-is, filter-is, weights-are, read-after, data-same, syntax-is}
+use Rattle.h264_verify.proofs.Reading.{context-is, filter-is, weights-are, read-after, data-same}
 use Rattle.h264_verify.proofs.data.read_data.Goals as goal
 
 pub begin_if-requires-clause-kept : goal.begin_if-requires-clause-kept
@@ -39,6 +39,6 @@ returns-clause-reads g c = λ frames on pictures s is first none live set k.
     let context = context-is place slice pictures s is _ value in
     let filter = filter-is place slice pictures s is in
     let weights = weights-are place slice pictures s is in
-    let same = syntax-is (picture_set place.begins s pictures).frame_size.width (picture_size (picture_set place.begins s pictures)) _ _ slice.header _ (coded_so_far place.begins pictures) _ value ∙ data-same place slice pictures s is in
-    subst (λ (q : Grammar (List CodedMacroblock)). ReadsData g.S.Elements.took g.S.Elements.failures frames (structure_from q c.args.bits.now.body c.args.bits.now.at) (λ ms. joined_to place.begins (record s { macroblocks = ms }) pictures) c.slice.new.self c.args.sink.now c.slice.new.sink c.slice.result) same
+    let same = data-same place slice pictures s is _ value in
+    subst (λ (q : Grammar (List CodedMacroblock)). ReadsData (frame_span g.S.Elements.took g.S.Elements.failures frames c.args.sink.now c.slice.new.sink) (structure_from q c.args.bits.now.body c.args.bits.now.at) (λ ms. joined_to place.begins (record s { macroblocks = ms }) pictures) c.slice.new.self c.slice.result) same
     (read-after _ _ frames _ _ _ _ _ place.begins pictures s _ _ _ context first set begun (λ p ps slices ms t is number same o b. c.slice.ensures.reads frames p ps slices s ms t is filter weights number same o b))

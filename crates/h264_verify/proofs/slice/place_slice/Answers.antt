@@ -3,9 +3,9 @@ use Rattle.std.specs.Option.{is_some}
 use Rattle.std.proofs.lemmas.Result.{err_from_is_err_and}
 use Rattle.h264_base.specs.declared.stop.Stop.{Stop}
 use Rattle.h264_verify.specs.declared.slices.Slices.{Slices}
-use Rattle.h264_verify.specs.Telling.{took_with}
+use Rattle.h264_verify.specs.Telling.{took_with, frame_span}
 use Rattle.h264_verify.specs.Pictures.{goes_on, runs_of}
-use Rattle.h264_verify.specs.Framing.{JudgesSlice}
+use Rattle.h264_verify.specs.Framing.{JudgesSlice, slice_after}
 use Rattle.h264_verify.proofs.Slicing.{sets-before, some-of}
 use Rattle.h264_verify.proofs.Entering.{begins-as}
 use Rattle.h264_verify.proofs.Judged.{closed-stop, closed-on, standing-stop, place-stop, before-held}
@@ -82,7 +82,7 @@ returns g c =
           let e = c.in_ok-close_if.ensures.closes mode frames before k d in
           let stands = rw c.from-bit.ensures.value at (c.in_ok-check_standing.ensures.judged named w) in
           let first = c.check_first_mb.ensures.judged mode (runs_of before) (before-held mode e.made (goes_on before) c.args.begins (runs_of before) h c.close_if.new.decoder b e.keeps) in
-          on-err r (λ (x : Result (Unit {0}) Stop). JudgesSlice mode g.S.Elements.took g.S.Elements.failures frames before c.args.unit.now h named c.args.begins c.close_if.new.decoder c.args.sink.now c.close_if.new.sink x)
+          on-err r (λ (x : Result (Unit {0}) Stop). JudgesSlice mode (frame_span g.S.Elements.took g.S.Elements.failures frames c.args.sink.now c.close_if.new.sink) (slice_after before c.args.unit.now h c.args.begins) named c.close_if.new.decoder x)
           (λ stop broken. record {
             made = e.made;
             same = e.same;

@@ -1,10 +1,11 @@
-use Rattle.std.proofs.Common.{◌≡◌, ℕ, ◌*◌, ◌∷◌, ◌∙◌, Some, Ok, OnOk, refl, sym, ap, subst}
+use Rattle.std.proofs.Common.{[], ◌≡◌, ℕ, ◌*◌, ◌∷◌, ◌∙◌, Some, Ok, OnOk, refl, sym, ap, subst}
 use Rattle.std.proofs.lemmas.Result.{err_from_is_err_and}
 use Rattle.h264_marking.specs.Frames.{References}
 use Rattle.h264_marking.specs.Gaps.{entered}
-use Rattle.h264_header.specs.Picture.{is_idr, is_reference}
+use Rattle.h264_header.specs.Picture.{is_idr}
 use Rattle.h264_poc.specs.OfSlice.{picture_of}
 use Rattle.h264_marking.specs.Ended.{numbering_of}
+use Rattle.h264_verify.specs.Keeping.{slice_at}
 use Rattle.h264_verify.specs.declared.slices.Slices.{Slices}
 use Rattle.h264_verify.specs.Telling.{took_with}
 use Rattle.h264_verify.specs.Slices.{type_demand, idr_num_demand, id_demand, count_demand, qp_demand, list_demand}
@@ -25,7 +26,7 @@ returns-in_err-check_type g c =
           let prev = c.args.slices.now.prev_ref_frame_num in
           let type = type_demand c.args.head.now.place.sps.now c.args.head.now.header.now in
           let num = idr_num_demand c.args.head.now.header.now in
-          let gap = gap_rules mode idr (is_reference c.args.head.now.header.now) c.args.head.now.place.sps.now.gaps_in_frame_num_value_allowed_flag c.args.head.now.header.now.frame_num.bit prev n c.args.slices.now.held t.buffer in
+          let gap = gap_rules mode (slice_at c.args.head.now.place c.args.head.now.header.now []) prev c.args.slices.now.held t.buffer in
           let id = id_demand c.args.slices.now.newest_idr c.args.head.now.header.now in
           let count = count_demand (picture_of c.args.head.now.place.sps.now c.args.head.now.header.now ∷ pictures) (8 * c.args.head.now.place.unit.now.from) in
           let qp = qp_demand c.args.head.now.place.pps.now c.args.head.now.header.now in
@@ -55,7 +56,7 @@ returns-in_err-check_idr_num g c =
           let prev = c.args.slices.now.prev_ref_frame_num in
           let type = type_demand c.args.head.now.place.sps.now c.args.head.now.header.now in
           let num = idr_num_demand c.args.head.now.header.now in
-          let gap = gap_rules mode idr (is_reference c.args.head.now.header.now) c.args.head.now.place.sps.now.gaps_in_frame_num_value_allowed_flag c.args.head.now.header.now.frame_num.bit prev n c.args.slices.now.held t.buffer in
+          let gap = gap_rules mode (slice_at c.args.head.now.place c.args.head.now.header.now []) prev c.args.slices.now.held t.buffer in
           let id = id_demand c.args.slices.now.newest_idr c.args.head.now.header.now in
           let count = count_demand (picture_of c.args.head.now.place.sps.now c.args.head.now.header.now ∷ pictures) (8 * c.args.head.now.place.unit.now.from) in
           let qp = qp_demand c.args.head.now.place.pps.now c.args.head.now.header.now in
@@ -85,7 +86,7 @@ returns-in_err-check_gap g c =
           let prev = c.args.slices.now.prev_ref_frame_num in
           let type = type_demand c.args.head.now.place.sps.now c.args.head.now.header.now in
           let num = idr_num_demand c.args.head.now.header.now in
-          let gap = gap_rules mode idr (is_reference c.args.head.now.header.now) c.args.head.now.place.sps.now.gaps_in_frame_num_value_allowed_flag c.args.head.now.header.now.frame_num.bit prev n c.args.slices.now.held t.buffer in
+          let gap = gap_rules mode (slice_at c.args.head.now.place c.args.head.now.header.now []) prev c.args.slices.now.held t.buffer in
           let id = id_demand c.args.slices.now.newest_idr c.args.head.now.header.now in
           let count = count_demand (picture_of c.args.head.now.place.sps.now c.args.head.now.header.now ∷ pictures) (8 * c.args.head.now.place.unit.now.from) in
           let qp = qp_demand c.args.head.now.place.pps.now c.args.head.now.header.now in
@@ -123,7 +124,7 @@ returns g c =
           let prev = c.args.slices.now.prev_ref_frame_num in
           let type = type_demand c.args.head.now.place.sps.now c.args.head.now.header.now in
           let num = idr_num_demand c.args.head.now.header.now in
-          let gap = gap_rules mode idr (is_reference c.args.head.now.header.now) c.args.head.now.place.sps.now.gaps_in_frame_num_value_allowed_flag c.args.head.now.header.now.frame_num.bit prev n c.args.slices.now.held t.buffer in
+          let gap = gap_rules mode (slice_at c.args.head.now.place c.args.head.now.header.now []) prev c.args.slices.now.held t.buffer in
           let id = id_demand c.args.slices.now.newest_idr c.args.head.now.header.now in
           let count = count_demand (picture_of c.args.head.now.place.sps.now c.args.head.now.header.now ∷ pictures) (8 * c.args.head.now.place.unit.now.from) in
           let qp = qp_demand c.args.head.now.place.pps.now c.args.head.now.header.now in

@@ -1,4 +1,6 @@
-use Rattle.std.proofs.Common.{◌*◌, List, ◌∙◌, sym, ap, subst, refl, [], map, length}
+use Rattle.h264_base.specs.Call.{span}
+use Rattle.std.proofs.Common.{◌*◌, List, ◌∙◌, sym, ap, subst, [], map, length}
+use Rattle.h264_verify.specs.Keeping.{slice_at}
 use Rattle.h264_verify.specs.Telling.{took_with}
 use Rattle.h264_verify.specs.Outcome.{Plays}
 use Rattle.h264_verify.specs.Demands.{Demand, judged}
@@ -17,8 +19,8 @@ check_first_slice-requires-clause-kept g c = some-begun c.args.head.now.place.be
 
 pub returns-then-head-clause-plays : goal.returns-then-head-clause-plays
 returns-then-head-clause-plays g c = rw c.if-head.true (λ mode frames before k b d.
-    subst (λ (steps : List Step). Plays (took_with frames g.S.Elements.took) g.S.Elements.failures (λ (x : Unit {0}). x) (steps_outcome steps) c.args.sink.now c.check_first_slice.new.sink c.check_first_slice.result)
-    (first-rules mode (goes_on before) (runs_of before) c.args.slices.now c.args.head.now.place.pps.now c.args.head.now.place.sps.now c.args.head.now.header.now c.args.head.now.place.unit.now (8 * c.args.head.now.place.unit.now.from) k.kept refl)
+    subst (λ (steps : List Step). Plays (span (took_with frames g.S.Elements.took) g.S.Elements.failures c.args.sink.now c.check_first_slice.new.sink) (λ (x : Unit {0}). x) (steps_outcome steps) c.check_first_slice.result)
+    (first-rules mode (goes_on before) (runs_of before) c.args.slices.now (slice_at c.args.head.now.place c.args.head.now.header.now []) k.kept)
     (c.check_first_slice.ensures.plays mode frames (after_all (runs_of before)) (length (runs_of before)) (map counted (runs_of before)) (ended-gap mode frames (goes_on before) (runs_of before) c.args.decoder.now d) k.kept.counts))
 
 pub returns-then-head-clause-frames : goal.returns-then-head-clause-frames

@@ -6,6 +6,7 @@ use Rattle.h264_base.specs.declared.stop.Stop.{Stop}
 use Rattle.h264_base.specs.Call.{Call}
 use Rattle.h264_plane.specs.declared.frame.Frame.{Frame}
 use Rattle.h264_units.specs.Stream.{NalUnit}
+use Rattle.h264_verify.specs.Telling.{frame_span}
 use Rattle.h264_verify.specs.Outcome.{Outcome}
 use Rattle.h264_verify.specs.History.{History}
 use Rattle.h264_verify.specs.Content as contents
@@ -47,8 +48,8 @@ pub returns-then-header-eq-PICTURE_SET-clause-joins : goal.returns-then-header-e
 returns-then-header-eq-PICTURE_SET-clause-joins g c = λ frames before k. rw (joined-eight c.args.terms _ before c.args.bytes.now.unit.now c.if-header-eq-PICTURE_SET.true) (c.join_pps.ensures.joins frames before k)
 
 -- where no picture ends
-joins-here : {S X : Type 0} (mode : Mode) (took : S → List Call → Type 0) (failures : S → ℕ) (frames : ℕ → Frame) (before : History) (ends : Bool) (o : Outcome History) (new : State) (s s' : S) (r : Result X Stop) → ends ≡ false → Joins {X = X} mode took failures frames (ended_in before) o new s s' r → Joins {X = X} mode took failures frames (length (ended_pictures (goes_on before) ends (runs_of before))) o new s s' r
-joins-here {S} {X} mode took failures frames before ends o new s s' r e j = subst (λ (b : Bool). Joins {X = X} mode took failures frames (length (ended_pictures (goes_on before) b (runs_of before))) o new s s' r) (sym e) j
+joins-here : {S X : Type 0} (mode : Mode) (took : S → List Call → Type 0) (failures : S → ℕ) (frames : ℕ → Frame) (before : History) (ends : Bool) (o : Outcome History) (new : State) (s s' : S) (r : Result X Stop) → ends ≡ false → Joins {X = X} mode (frame_span took failures frames s s') (ended_in before) o new r → Joins {X = X} mode (frame_span took failures frames s s') (length (ended_pictures (goes_on before) ends (runs_of before))) o new r
+joins-here {S} {X} mode took failures frames before ends o new s s' r e j = subst (λ (b : Bool). Joins {X = X} mode (frame_span took failures frames s s') (length (ended_pictures (goes_on before) b (runs_of before))) o new r) (sym e) j
 
 pub returns-in_default-clause-joins : goal.returns-in_default-clause-joins
 returns-in_default-clause-joins g c = λ frames before k.

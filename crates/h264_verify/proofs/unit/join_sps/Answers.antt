@@ -2,7 +2,7 @@ use Rattle.std.proofs.Common.{◌≡◌, ℕ, List, Result, ap, ◌∙◌}
 use Rattle.std.proofs.lemmas.Result.{err_from_is_err_and}
 use Rattle.h264_base.specs.declared.mode.Target.{Target}
 use Rattle.h264_base.specs.declared.stop.Stop.{Stop}
-use Rattle.h264_base.specs.Call.{Call}
+use Rattle.h264_base.specs.Call.{Call, span}
 use Rattle.h264_base.specs.Meets.{Reader, Meets, Answers, Is}
 use Rattle.h264_rbsp.specs.Rbsp.{body_of}
 use Rattle.h264_sps.specs.Sps.{sps}
@@ -20,7 +20,7 @@ use Rattle.h264_verify.proofs.Joining.{joins-on, joins-stops, passed-joins}
 use Rattle.h264_verify.proofs.unit.join_sps.Goals as goal
 
 -- the set is read
-set-read : {S : Type 0} (target : Target) (frames : ℕ → Frame) (took : S → List Call → Type 0) (failures : S → ℕ) (unit : NalUnit) (old new : Reader) (s s' : S) (r : Result Sps Stop) → old ≡ record { body = body_of unit; at = 0 } → Meets took failures (Is (λ (x : Sps). x)) (sps target) old new s s' r → Answers took failures (Is (λ (x : Sps). x)) (sps target) old new s s' r → Plays (took_with frames took) failures contents.OfSps (sps_outcome target unit) s s' r
+set-read : {S : Type 0} (target : Target) (frames : ℕ → Frame) (took : S → List Call → Type 0) (failures : S → ℕ) (unit : NalUnit) (old new : Reader) (s s' : S) (r : Result Sps Stop) → old ≡ record { body = body_of unit; at = 0 } → Meets (span took failures s s') (Is (λ (x : Sps). x)) (sps target) old new r → Answers (span took failures s s') (Is (λ (x : Sps). x)) (sps target) old new r → Plays (span (took_with frames took) failures s s') contents.OfSps (sps_outcome target unit) r
 unfolding sps_outcome
 set-read target frames took failures unit old new s s' r e m a = plays-gives (took_with frames took) failures (λ (x : Sps). x) contents.OfSps (structure_outcome (sps target) (body_of unit)) s s' r (meets-plays frames took failures (λ (x : Sps). x) (sps target) (body_of unit) old new s s' r e m a)
 

@@ -1,16 +1,16 @@
 use Rattle.std.proofs.Common.{◌≡◌, Option, ℕ, ◌-◌, ◌*◌, ◌<◌, ◌^◌, [], Bool, List, Result, Ok, Err, OnOk, refl, ap, sym, ◌∙◌, subst, length}
 use Rattle.h264_base.specs.declared.stop.Stop.{Stop}
-use Rattle.h264_base.specs.Call.{Call}
+use Rattle.h264_base.specs.Call.{Call, span}
 use Rattle.h264_plane.specs.declared.frame.Frame.{Frame}
 use Rattle.h264_units.specs.Stream.{NalUnit}
 use Rattle.h264_rbsp.specs.Emulation.{emulation_checked}
 use Rattle.h264_verify.specs.declared.state.State.{State}
 use Rattle.h264_verify.specs.declared.state.Terms.{Terms}
 use Rattle.h264_verify.specs.declared.decoder.Decoder.{Decoder}
-use Rattle.h264_verify.specs.Telling.{Said, took_with}
+use Rattle.h264_verify.specs.Telling.{Said, took_with, frame_span}
 use Rattle.h264_verify.specs.Demands.{judged}
 use Rattle.h264_verify.specs.History.{History}
-use Rattle.h264_verify.specs.Framing.{EndsFrames}
+use Rattle.h264_verify.specs.Framing.{EndsFrames, closing}
 use Rattle.h264_verify.specs.Turning.{Joins, Turns}
 use Rattle.std.proofs.lemmas.Result.{err_from_is_err_and}
 use Rattle.h264_verify.specs.Outcome.{answers, tells, Plays, IsNamed}
@@ -38,7 +38,7 @@ module _ {S : Type 0} (terms : Terms) (took : S → List Call → Type 0) (failu
   abbrev ends : Bool
   ends = ends_picture kind
 
-  turns-by : (mid : Option Decoder) (new : State) (s0 s1 s2 s3 : S) (x y z w : Unit {0}) (r : Result (Unit {0}) Stop) → (let a : Result (Unit {0}) Stop = Ok x in a ≡ emulation_checked unit.from unit.body) → (let a : Result (Unit {0}) Stop = Ok y in a ≡ judged (header_demands (8 * unit.from) (header_of unit))) → ((made : ℕ → Frame) → Plays (took_with made took) failures (λ (q : Unit {0}). q) (tells (Said (unit_call unit.from (header_of unit) (length unit.body)))) s0 s1 (Ok z)) → (e : EndsFrames terms.mode took failures frames (goes_on before) ends (runs_of before) (steps_outcome (close_steps terms.mode ends before)) mid s1 s2 (Ok w)) → Joins {X = Unit {0}} terms.mode took failures e.made (length (ended_pictures (goes_on before) ends (runs_of before))) (joined_by terms kind before unit) new s2 s3 r → Turns {X = Unit {0}} terms took failures frames before unit new s0 s3 r
+  turns-by : (mid : Option Decoder) (new : State) (s0 s1 s2 s3 : S) (x y z w : Unit {0}) (r : Result (Unit {0}) Stop) → (let a : Result (Unit {0}) Stop = Ok x in a ≡ emulation_checked unit.from unit.body) → (let a : Result (Unit {0}) Stop = Ok y in a ≡ judged (header_demands (8 * unit.from) (header_of unit))) → ((made : ℕ → Frame) → Plays (span (took_with made took) failures s0 s1) (λ (q : Unit {0}). q) (tells (Said (unit_call unit.from (header_of unit) (length unit.body)))) (Ok z)) → (e : EndsFrames terms.mode (frame_span took failures frames s1 s2) (closing (goes_on before) ends (runs_of before)) (steps_outcome (close_steps terms.mode ends before)) mid (Ok w)) → Joins {X = Unit {0}} terms.mode (frame_span took failures e.made s2 s3) (length (ended_pictures (goes_on before) ends (runs_of before))) (joined_by terms kind before unit) new r → Turns {X = Unit {0}} terms (frame_span took failures frames s0 s3) before unit new r
   unfolding unit_by_steps
   turns-by mid new s0 s1 s2 s3 x y z w r sound header told e j =
       let n = length (ended_pictures (goes_on before) ends (runs_of before)) in
@@ -57,11 +57,11 @@ module _ {S : Type 0} (terms : Terms) (took : S → List Call → Type 0) (failu
       }
 
   -- a unit that stops at its bytes, at its header, at the sink, or at the end of the picture before it
-  stops-sound : (new : State) (s : S) (e : Stop) → (let a : Result (Unit {0}) Stop = Err e in a ≡ emulation_checked unit.from unit.body) → IsNamed e → Turns {X = Unit {0}} terms took failures frames before unit new s s (Err e)
+  stops-sound : (new : State) (s : S) (e : Stop) → (let a : Result (Unit {0}) Stop = Err e in a ≡ emulation_checked unit.from unit.body) → IsNamed e → Turns {X = Unit {0}} terms (frame_span took failures frames s s) before unit new (Err e)
   unfolding unit_by_steps
   stops-sound new s e sound named = record { made = frames; same = λ n h. refl; after = []; plays = plays-course (took_with frames took) failures (λ (q : Unit {0}). []) terms before unit s s (Err e) (answer-stops (took_with frames took) failures (λ (q : Unit {0}). []) _ _ s e (ap answers (sym sound)) named); keeps = tt }
 
-  stops-header : (new : State) (s : S) (x : Unit {0}) (e : Stop) → (let a : Result (Unit {0}) Stop = Ok x in a ≡ emulation_checked unit.from unit.body) → (let a : Result (Unit {0}) Stop = Err e in a ≡ judged (header_demands (8 * unit.from) (header_of unit))) → Turns {X = Unit {0}} terms took failures frames before unit new s s (Err e)
+  stops-header : (new : State) (s : S) (x : Unit {0}) (e : Stop) → (let a : Result (Unit {0}) Stop = Ok x in a ≡ emulation_checked unit.from unit.body) → (let a : Result (Unit {0}) Stop = Err e in a ≡ judged (header_demands (8 * unit.from) (header_of unit))) → Turns {X = Unit {0}} terms (frame_span took failures frames s s) before unit new (Err e)
   unfolding unit_by_steps
   stops-header new s x e sound header =
       let view : Unit {0} → History = λ q. [] in
@@ -75,7 +75,7 @@ module _ {S : Type 0} (terms : Terms) (took : S → List Call → Type 0) (failu
         keeps = tt;
       }
 
-  stops-told : (new : State) (s s' : S) (x y : Unit {0}) (e : Stop) → (let a : Result (Unit {0}) Stop = Ok x in a ≡ emulation_checked unit.from unit.body) → (let a : Result (Unit {0}) Stop = Ok y in a ≡ judged (header_demands (8 * unit.from) (header_of unit))) → Plays (took_with frames took) failures (λ (q : Unit {0}). q) (tells (Said (unit_call unit.from (header_of unit) (length unit.body)))) s s' (Err e) → Turns {X = Unit {0}} terms took failures frames before unit new s s' (Err e)
+  stops-told : (new : State) (s s' : S) (x y : Unit {0}) (e : Stop) → (let a : Result (Unit {0}) Stop = Ok x in a ≡ emulation_checked unit.from unit.body) → (let a : Result (Unit {0}) Stop = Ok y in a ≡ judged (header_demands (8 * unit.from) (header_of unit))) → Plays (span (took_with frames took) failures s s') (λ (q : Unit {0}). q) (tells (Said (unit_call unit.from (header_of unit) (length unit.body)))) (Err e) → Turns {X = Unit {0}} terms (frame_span took failures frames s s') before unit new (Err e)
   unfolding unit_by_steps
   stops-told new s s' x y e sound header told =
       let view : Unit {0} → History = λ q. [] in
@@ -90,7 +90,7 @@ module _ {S : Type 0} (terms : Terms) (took : S → List Call → Type 0) (failu
         keeps = tt;
       }
 
-  stops-closing : (mid : Option Decoder) (new : State) (s0 s1 s2 : S) (x y z : Unit {0}) (stop : Stop) → (let a : Result (Unit {0}) Stop = Ok x in a ≡ emulation_checked unit.from unit.body) → (let a : Result (Unit {0}) Stop = Ok y in a ≡ judged (header_demands (8 * unit.from) (header_of unit))) → ((made : ℕ → Frame) → Plays (took_with made took) failures (λ (q : Unit {0}). q) (tells (Said (unit_call unit.from (header_of unit) (length unit.body)))) s0 s1 (Ok z)) → EndsFrames terms.mode took failures frames (goes_on before) ends (runs_of before) (steps_outcome (close_steps terms.mode ends before)) mid s1 s2 (Err stop) → Turns {X = Unit {0}} terms took failures frames before unit new s0 s2 (Err stop)
+  stops-closing : (mid : Option Decoder) (new : State) (s0 s1 s2 : S) (x y z : Unit {0}) (stop : Stop) → (let a : Result (Unit {0}) Stop = Ok x in a ≡ emulation_checked unit.from unit.body) → (let a : Result (Unit {0}) Stop = Ok y in a ≡ judged (header_demands (8 * unit.from) (header_of unit))) → ((made : ℕ → Frame) → Plays (span (took_with made took) failures s0 s1) (λ (q : Unit {0}). q) (tells (Said (unit_call unit.from (header_of unit) (length unit.body)))) (Ok z)) → EndsFrames terms.mode (frame_span took failures frames s1 s2) (closing (goes_on before) ends (runs_of before)) (steps_outcome (close_steps terms.mode ends before)) mid (Err stop) → Turns {X = Unit {0}} terms (frame_span took failures frames s0 s2) before unit new (Err stop)
   unfolding unit_by_steps
   stops-closing mid new s0 s1 s2 x y z stop sound header told e =
       let view : Unit {0} → History = λ q. [] in

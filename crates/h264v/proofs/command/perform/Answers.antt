@@ -1,6 +1,7 @@
 use Rattle.std.proofs.Common.{◌≡◌, ℕ, List, Option, None, Some, refl, inl, inr, ⊎_elim}
 use Rattle.h264_base.specs.declared.mode.Mode.TheVariants as modes
 use Rattle.h264_verify.specs.Units.{terms_of}
+use Rattle.h264_report.specs.Sent.{wrote}
 use Rattle.h264_report.specs.Written.{OfBytes, Lists, Checks}
 use Rattle.h264_report.specs.declared.listing.Listing.TheVariants as listings
 use Rattle.h264v.proofs.command.perform.Goals as goal
@@ -11,22 +12,22 @@ beside None Is held p = (p.0, (p.1, refl))
 beside (Some bytes) Is held p = (p, refl)
 
 pub returns-in-Check-clause-performs : goal.returns-in-Check-clause-performs
-returns-in-Check-clause-performs g c = rw c.in-Check.is (beside (g.R.Source.left c.args.source.now) (λ bytes. Checks c.args.target bytes c.check.result.answer c.check.result.written (g.W.Device.contents c.args.out.now) (g.W.Device.contents c.check.new.out)) (g.E.Device.contents c.args.err.now) c.check.ensures.checks)
+returns-in-Check-clause-performs g c = rw c.in-Check.is (beside (g.R.Source.left c.args.source.now) (λ bytes. Checks c.args.target bytes c.check.result (wrote (g.W.Device.contents c.args.out.now) (g.W.Device.contents c.check.new.out))) (g.E.Device.contents c.args.err.now) c.check.ensures.checks)
 
 pub returns-in-Units-clause-performs : goal.returns-in-Units-clause-performs
-returns-in-Units-clause-performs g c = rw c.in-Units.is (beside (g.R.Source.left c.args.source.now) (λ bytes. Lists (terms_of modes.Units c.args.target) listings.Units bytes c.list.result.answer c.list.result.written (g.W.Device.contents c.args.out.now) (g.W.Device.contents c.list.new.out)) (g.E.Device.contents c.args.err.now) (rw c.terms-units.ensures at c.list.ensures.lists))
+returns-in-Units-clause-performs g c = rw c.in-Units.is (beside (g.R.Source.left c.args.source.now) (λ bytes. Lists (terms_of modes.Units c.args.target) listings.Units bytes c.list.result (wrote (g.W.Device.contents c.args.out.now) (g.W.Device.contents c.list.new.out))) (g.E.Device.contents c.args.err.now) (rw c.terms-units.ensures at c.list.ensures.lists))
 
 pub returns-in-Headers-clause-performs : goal.returns-in-Headers-clause-performs
-returns-in-Headers-clause-performs g c = rw c.in-Headers.is (beside (g.R.Source.left c.args.source.now) (λ bytes. Lists (terms_of modes.Headers c.args.target) listings.Slices bytes c.list-in-Headers.result.answer c.list-in-Headers.result.written (g.W.Device.contents c.args.out.now) (g.W.Device.contents c.list-in-Headers.new.out)) (g.E.Device.contents c.args.err.now) (rw c.terms-headers.ensures at c.list-in-Headers.ensures.lists))
+returns-in-Headers-clause-performs g c = rw c.in-Headers.is (beside (g.R.Source.left c.args.source.now) (λ bytes. Lists (terms_of modes.Headers c.args.target) listings.Slices bytes c.list-in-Headers.result (wrote (g.W.Device.contents c.args.out.now) (g.W.Device.contents c.list-in-Headers.new.out))) (g.E.Device.contents c.args.err.now) (rw c.terms-headers.ensures at c.list-in-Headers.ensures.lists))
 
 pub returns-in-Frames-clause-performs : goal.returns-in-Frames-clause-performs
-returns-in-Frames-clause-performs g c = rw c.in-Frames.is (beside (g.R.Source.left c.args.source.now) (λ bytes. Lists (terms_of modes.Full c.args.target) listings.Frames bytes c.list-in-Frames.result.answer c.list-in-Frames.result.written (g.W.Device.contents c.args.out.now) (g.W.Device.contents c.list-in-Frames.new.out)) (g.E.Device.contents c.args.err.now) (rw c.terms-whole.ensures at c.list-in-Frames.ensures.lists))
+returns-in-Frames-clause-performs g c = rw c.in-Frames.is (beside (g.R.Source.left c.args.source.now) (λ bytes. Lists (terms_of modes.Full c.args.target) listings.Frames bytes c.list-in-Frames.result (wrote (g.W.Device.contents c.args.out.now) (g.W.Device.contents c.list-in-Frames.new.out))) (g.E.Device.contents c.args.err.now) (rw c.terms-whole.ensures at c.list-in-Frames.ensures.lists))
 
 pub returns-in-Decode-clause-performs : goal.returns-in-Decode-clause-performs
 returns-in-Decode-clause-performs g c = rw c.in-Decode.is c.decode.ensures.decodes
 
 pub returns-in-Elements-clause-performs : goal.returns-in-Elements-clause-performs
-returns-in-Elements-clause-performs g c = rw c.in-Elements.is (beside (g.R.Source.left c.args.source.now) (λ bytes. Lists (terms_of modes.Full c.args.target) listings.Elements bytes c.list-in-Elements.result.answer c.list-in-Elements.result.written (g.W.Device.contents c.args.out.now) (g.W.Device.contents c.list-in-Elements.new.out)) (g.E.Device.contents c.args.err.now) (rw c.terms-whole.ensures at c.list-in-Elements.ensures.lists))
+returns-in-Elements-clause-performs g c = rw c.in-Elements.is (beside (g.R.Source.left c.args.source.now) (λ bytes. Lists (terms_of modes.Full c.args.target) listings.Elements bytes c.list-in-Elements.result (wrote (g.W.Device.contents c.args.out.now) (g.W.Device.contents c.list-in-Elements.new.out))) (g.E.Device.contents c.args.err.now) (rw c.terms-whole.ensures at c.list-in-Elements.ensures.lists))
 
 pub returns-in-Check-clause-excused : goal.returns-in-Check-clause-excused
 returns-in-Check-clause-excused g c = record {

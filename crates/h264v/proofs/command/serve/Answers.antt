@@ -1,5 +1,6 @@
 use Rattle.std.proofs.Common.{◌≡◌, ℕ, ◌⊎◌, ap, ◌∙◌, inl, inr, ⊎_elim}
 use Rattle.h264_report.proofs.Accounts.{of-kept}
+use Rattle.h264_report.specs.Sent.{wrote}
 use Rattle.h264_report.specs.Written.{status_of}
 use Rattle.h264v.specs.Commands.{Performs, Unopened, Done}
 use Rattle.h264v.proofs.Failing.{read-since}
@@ -14,8 +15,8 @@ returns-in-Err g c words asks target = Unopened c.args.request.task c.args.reque
 
 pub returns-in-Ok : goal.returns-in-Ok
 returns-in-Ok g c words asks target =
-    Done c.args.request.task c.args.request.file.now c.args.target c.perform.result.answer c.perform.result.written asks target c.status.ensures
+    Done c.args.request.task c.args.request.file.now c.args.target c.perform.result asks target c.status.ensures
     (record { failures = c.perform.ensures.excused.failures; read = λ e. read-since (g.F.Source.was_read c.perform.new.source) c.in-Ok.ensures.kept c.in-Ok.ensures.reads (c.perform.ensures.excused.read e); read_told = told-since c.in-Ok.ensures.kept c.perform.ensures.excused.read_told })
     (of-kept (g.F.Files.holds c.args.files.now c.args.request.file.now) _
-    (λ bytes. Performs c.args.request.task c.args.target bytes c.perform.result.answer c.perform.result.written (g.W.Device.contents c.args.out.now) (g.W.Device.contents c.perform.new.out) (g.E.Device.contents c.args.err.now) (g.E.Device.contents c.perform.new.err))
+    (λ bytes. Performs c.args.request.task c.args.target bytes c.perform.result (wrote (g.W.Device.contents c.args.out.now) (g.W.Device.contents c.perform.new.out)) (wrote (g.E.Device.contents c.args.err.now) (g.E.Device.contents c.perform.new.err)))
     c.in-Ok.ensures.opened c.perform.ensures.performs)

@@ -63,6 +63,6 @@ returns g c =
     let at : length names ≡ c.loop-name.name-index = let t = c.loop-name-test.false in let a = c.loop-name.auto.name-index-end in omega arith in
     let all = take_all c.loop-name.name-index names (omega (arith, at)) in
     let texts : List (Bor (List ℕ)) → List (List ℕ) = map (λ (n : Bor (List ℕ)). n.now) in
-    each-written job.task job.options (λ n. g.O.Opener.holds c.args.files.now.opener n) _ i.0 (texts names) _ _ _ _ (i.1 ∙ ap texts all) (λ e. c.requires.several (sym (length-map names (λ (n : Bor (List ℕ)). n.now)) ∙ e)) i.2 i.5 i.3
+    each-written job.task job.options (λ n. g.O.Opener.holds c.args.files.now.opener n) _ _ i.0 (texts names) _ _ _ _ (i.1 ∙ ap texts all) (λ e. c.requires.several (sym (length-map names (λ (n : Bor (List ℕ)). n.now)) ∙ e)) i.2 i.5 i.3
     (λ e. i.4 (sym (c.put_text.ensures.quiet c.if-not-put_text.false) ∙ e)) (c.put_text.ensures.handed_over c.if-not-put_text.false)
     c.as_str.result.now (λ none. sends-more i.10 (taken c.put_text.result _ c.put_text.ensures.text c.put_text.ensures.failed none))

@@ -25,7 +25,8 @@ returns-clause-failures g c =
 
 pub returns-in_default-clause-text : goal.returns-in_default-clause-text
 returns-in_default-clause-text g c =
-    unjudged-text _ _ _ (no-verdict c.did_fail-failed.result c.put_no_verdict.result.ending.answer (c.put_no_verdict.ensures.answer ∙ c.stop_of.ensures)) (rw c.in_default.ensures.untouched at c.send_rest.ensures.kept) c.put_no_verdict.ensures.text
+    let none = no-verdict c.did_fail-failed.result _ c.stop_of.ensures in
+    rw c.put_no_verdict.ensures.answer (unjudged-text _ _ _ none (rw c.in_default.ensures.untouched at c.send_rest.ensures.kept) (c.put_no_verdict.ensures.text none))
 
 pub returns-clause-text : goal.returns-clause-text
 returns-clause-text g c =

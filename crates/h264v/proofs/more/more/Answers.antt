@@ -1,7 +1,5 @@
 use Rattle.std.proofs.Common.{◌≡◌, ℕ, List, [], Bor, IsSome, slice_index_or, length, option_map, refl, sym, ap, ◌∙◌, subst, arith, rules}
 use Rattle.clap.specs.Words.{subcommand_rows_of}
-use Rattle.std.proofs.lemmas.List.{length-map}
-use Rattle.h264v.specs.Files.{counts}
 use Rattle.h264v.specs.More.{Refused, Explained, Judged}
 use Rattle.h264v.specs.Options.{Same}
 use Rattle.h264v.specs.declared.refusal.Clash.TheVariants as clashes
@@ -21,9 +19,7 @@ pub returns-then-names-ne1 : goal.returns-then-names-ne1
 returns-then-names-ne1 g c =
     let names = names-given c.files.result c.unwrap_or-names.result _ (subcommand_rows_of c.args.wanted.now.matches) c.files.ensures c.unwrap_or-names.ensures refl in
     Judged c.in-Ok.options c.in-Ok.ensures.given c.in-Ok.ensures.used
-    (of-words (counts c.args.files.now.file.failures c.args.files.now.file.reads c.args.files.now.unread)
-    (counts c.do_files.new.files.file.failures c.do_files.new.files.file.reads c.do_files.new.files.unread) names
-    (λ e. c.if-names-ne1.true (sym (length-map c.unwrap_or-names.result.now (λ (n : Bor (List ℕ)). n.now)) ∙ e)) c.do_files.ensures)
+    (of-words names c.do_files.ensures)
 
 pub returns-in_default : goal.returns-in_default
 returns-in_default g c =

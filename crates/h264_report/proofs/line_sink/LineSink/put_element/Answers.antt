@@ -7,7 +7,7 @@ use Rattle.h264_report.proofs.Sinks.{take-line, unsent-line, on-ok, err-map}
 use Rattle.h264_report.proofs.line_sink.LineSink.put_element.Goals as goal
 
 pub returns-clause-ok : goal.returns-clause-ok
-returns-clause-ok g c start was before h =
+returns-clause-ok g c start before h =
     let call = OfElement c.args.name c.args.bit c.args.value in
     let text : ℤ → List ℕ = λ z. element_in (opening_of c.args.self.now.form) c.args.name c.args.bit z in
     let same : c.put_line.new.self.frames ≡ c.args.self.now.frames + counted c.args.self.now.listing call =
@@ -15,5 +15,5 @@ returns-clause-ok g c start was before h =
     rw (c.put_line.ensures.form, c.put_line.ensures.listing) (on-ok c.put_line.result (λ b s. take-line call (ap (λ l. line_of (opening_of c.args.self.now.form) l c.args.self.now.frames call) c.requires.listing) c.requires.whole same h s b) c.put_line.ensures.blamed (c.put_line.ensures.ok _ (subst (λ z. OnOk c.put_element-made.result (string_bytes c.put_element-made.new.text ≡ text z)) (to_z-of_z w64 c.args.value c.ranges.value) c.put_element-made.ensures)))
 
 pub returns-clause-refused : goal.returns-clause-refused
-returns-clause-refused g c start was before h =
+returns-clause-refused g c start before h =
     err-map c.put_line.result (λ u. unsent-line (ap opening_of c.put_line.ensures.form) c.put_line.ensures.listing c.put_line.ensures.frames u.0 (ap g.W.Device.has_failed u.1) (ap g.W.Device.contents u.1) h) c.put_line.ensures.unsent
