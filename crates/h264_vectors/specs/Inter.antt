@@ -56,10 +56,10 @@ two_parts width slice picture inferred p q = do
 unfoldable pub quarters : ℕ → SliceContext → List CodedMacroblock → List ℕ → List ℕ → Grammar Derived
 quarters width slice picture types indices =
     let quarter = λ (x y n : ℕ) (d : Derived). part_motions width slice picture (slice_index indices n) (sub_parts_of x y (slice_index types n)) d in do
-  d0 ← quarter 0 0 0 none_yet
-  d1 ← quarter 2 0 1 d0
-  d2 ← quarter 0 2 2 d1
-  quarter 2 2 3 d2
+      d0 ← quarter 0 0 0 none_yet
+      d1 ← quarter 2 0 1 d0
+      d2 ← quarter 0 2 2 d1
+      quarter 2 2 3 d2
 
 -- mb_type 3 and 4
 unfoldable pub split_parts : ℕ → SliceContext → List CodedMacroblock → Bool → Grammar Derived

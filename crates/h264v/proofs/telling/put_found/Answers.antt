@@ -14,6 +14,8 @@ returns-then-is_short-clause-text g c =
       | then-not-job w ↦ w.if-not-job.true
       | else-not-job w ↦ absurd (true≢false (sym c.if-is_short.true ∙ c.is_short.ensures ∙ ap (λ l. is_cut l) w.lines-is ∙ c.new-lines.ensures.whole))
     ] in
-    let none = c.short_of-stop.ensures.no_verdict in
-    (prefix ++ ended c.unjudged_line.result.now, c.put_line.ensures.text,
-    Short told none prefix (ap (λ line. prefix ++ ended line) (c.unjudged_line.ensures (mode_of c.args.job.now.task) none)))
+    let none = c.short_of-stop.ensures.no_verdict in (
+      prefix ++ ended c.unjudged_line.result.now,
+      c.put_line.ensures.text,
+      Short told none prefix (ap (λ line. prefix ++ ended line) (c.unjudged_line.ensures (mode_of c.args.job.now.task) none)),
+    )

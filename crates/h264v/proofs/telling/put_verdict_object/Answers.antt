@@ -7,6 +7,11 @@ pub returns : goal.returns
 returns c whole =
     let closed = c.close_object.ensures whole in
     let filled = c.put_verdict_fields.ensures closed.0 in
-    let opened = c.open_object.ensures filled.0 in
-    (opened.0, (filled.1.0, object-closed (text_on c.args.page.now) (codes "{\"file\":" ++ quoted c.args.job.now.file.now) (text_field (codes "kind") (codes "verdict")) (answer_fields c.args.found.now.answer) filled.1.0 (codes "}\n")
-    _ _ _ opened.1 filled.1.1 closed.1))
+    let opened = c.open_object.ensures filled.0 in (
+      opened.0,
+      (
+        filled.1.0,
+        object-closed (text_on c.args.page.now) (codes "{\"file\":" ++ quoted c.args.job.now.file.now) (text_field (codes "kind") (codes "verdict")) (answer_fields c.args.found.now.answer) filled.1.0 (codes "}\n")
+            _ _ _ opened.1 filled.1.1 closed.1,
+      ),
+    )

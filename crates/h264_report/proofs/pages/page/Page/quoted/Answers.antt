@@ -13,7 +13,8 @@ returns c short =
     let all = sym (map-id c.loop-c.yielded) ∙ end.0 in
     let closed = c.put-2.ensures short in
     let so_far = c.loop-c.invariant closed.0 in
-    let before = string_bytes c.args.self.now.text in
-    (so_far.0,
-    closed.1 ∙ ap (λ t. t ++ 34 ∷ []) (so_far.1 ∙ ap (λ l. before ++ 34 ∷ flat_map escaped_character l) all)
-    ∙ append_assoc before (34 ∷ flat_map escaped_character (chars c.args.text.now)) (34 ∷ []))
+    let before = string_bytes c.args.self.now.text in (
+      so_far.0,
+      closed.1 ∙ ap (λ t. t ++ 34 ∷ []) (so_far.1 ∙ ap (λ l. before ++ 34 ∷ flat_map escaped_character l) all)
+          ∙ append_assoc before (34 ∷ flat_map escaped_character (chars c.args.text.now)) (34 ∷ []),
+    )
