@@ -1,5 +1,5 @@
 -- What C reads of a frame. To be read beside include/h264v.h.
-use Rattle.std.specs.Prelude.{◌≡◌, ℕ, ◌<◌, ◌^◌, length}
+use Rattle.std.specs.Prelude.{◌≡◌, ◌<◌, ◌^◌, length}
 use Rattle.std.specs.Vec.{vec_ptr}
 use Rattle.h264_c.specs.declared.frame.CFrame.{CFrame}
 use Rattle.h264_report.specs.declared.queue.ShownFrame.{ShownFrame}

@@ -4,7 +4,6 @@ use Rattle.std.specs.Prelude.{IfNone, IfSome}
 use Rattle.h264_base.specs.Call.{Call, span}
 use Rattle.h264_base.specs.declared.stop.Stop.{Stop}
 use Rattle.h264_base.specs.declared.stop.Stop.TheVariants.{No, Outside, Memory, Read, Write}
-use Rattle.h264_dpb.specs.Kept.{shown_call}
 use Rattle.h264_plane.specs.Frames.{no_frame}
 use Rattle.h264_plane.specs.declared.frame.Frame.{Frame}
 use Rattle.h264_report.specs.Decoding.{IsDecoding, HasDecoded, HasGrown}
@@ -15,7 +14,7 @@ use Rattle.h264_report.proofs.Queued.{waits-begun, waits-taken, waits-filled}
 use Rattle.h264_verify.proofs.AgreeingUnits.{calls-both, decoded-both}
 use Rattle.h264_verify.specs.Feeding.{WasFed, IsFed}
 use Rattle.h264_verify.specs.Progress.{Progress}
-use Rattle.h264_verify.specs.Telling.{Told, Said, Decodes, Shows, Tells, took_with, calls_of, AreDecoded}
+use Rattle.h264_verify.specs.Telling.{Told, Tells, took_with, calls_of, AreDecoded}
 use Rattle.h264_verify.specs.Verdict.{Judged, JudgedBy}
 use Rattle.h264_verify.specs.declared.state.Summary.{Summary}
 use Rattle.h264_verify.specs.declared.state.Terms.{Terms}

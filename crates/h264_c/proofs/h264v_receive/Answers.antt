@@ -1,4 +1,4 @@
-use Rattle.std.proofs.Common.{◌≡◌, sym, ap, ◌∙◌}
+use Rattle.std.proofs.Common.{sym, ap, ◌∙◌}
 use Rattle.h264_c.proofs.h264v_receive.Goals as goal
 
 pub returns-in-Some-clause-first : goal.returns-in-Some-clause-first

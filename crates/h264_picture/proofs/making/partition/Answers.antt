@@ -1,4 +1,4 @@
-use Rattle.std.proofs.Common.{◌≡◌, Option, Some, None, refl, sym, ◌∙◌}
+use Rattle.std.proofs.Common.{◌≡◌, Option, Some, None, refl}
 use Rattle.h264_near.specs.declared.partition.Partition.{Partition}
 use Rattle.h264_deblock.specs.Steps.{MovesBy}
 use Rattle.h264_picture.proofs.making.partition.Goals as goal

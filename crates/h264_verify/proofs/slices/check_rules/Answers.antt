@@ -1,5 +1,5 @@
 use Rattle.h264_base.specs.Call.{span}
-use Rattle.std.proofs.Common.{◌*◌, List, ◌∙◌, sym, ap, subst, [], map, length}
+use Rattle.std.proofs.Common.{List, ◌∙◌, sym, ap, subst, [], map, length}
 use Rattle.h264_verify.specs.Keeping.{slice_at}
 use Rattle.h264_verify.specs.Telling.{took_with}
 use Rattle.h264_verify.specs.Outcome.{Plays}

@@ -1,4 +1,3 @@
-use Rattle.std.proofs.Common.{◌∙◌}
 use Rattle.h264v.proofs.Further.{broken-told, no-verdict, told-answer}
 use Rattle.h264v.proofs.ToldReads.{told-kept}
 use Rattle.h264v.specs.Commands.{output_of}
