@@ -8,6 +8,7 @@ use Rattle.h264_report.specs.declared.survey.reading.Reading.{Reading}
 use Rattle.h264_report.specs.declared.survey.reading.Reach.{Reach}
 use Rattle.h264_report.specs.declared.survey.narrowed.Choice.{Choice}
 use Rattle.h264_report.specs.declared.lines.UnitCall.{UnitCall}
+use Rattle.h264_verify.specs.UnitTypes.{type_number}
 
 -- a value as a count; 0 for one below 0
 abbrev pub count_in : ℤ → ℕ
@@ -66,10 +67,10 @@ has_macroblock (Some address) reading = reaches address reading.reach
 abbrev pub is_chosen : Choice → Reading → Bool
 is_chosen choice reading = has_picture choice.picture reading && has_macroblock choice.macroblock reading
 
--- how far the stream was read, and the unit of which nothing is left yet
+-- how far the stream was read, and the call of the unit of which nothing is left yet
 pub record Choosing : Type 0 where
   pub reading : Reading
-  pub pending : Option UnitCall
+  pub pending : Option Call
 
 abbrev pub at_first : Choosing
 at_first = record { reading = record { pictures = 0; reach = None }; pending = None }
@@ -80,9 +81,8 @@ reading_after (OfElement name bit value) reading = after_element name value read
 reading_after call reading = reading
 
 -- with the reading after the call
-abbrev pub pending_after : Choice → Call → Reading → Option UnitCall → Option UnitCall
-pending_after choice (OfUnit byte kind reference length) reading pending =
-    Some (record { byte = byte; nal_unit_type = kind; nal_ref_idc = reference; length = length })
+abbrev pub pending_after : Choice → Call → Reading → Option Call → Option Call
+pending_after choice (OfUnit byte kind reference length) reading pending = Some (OfUnit byte kind reference length)
 pending_after choice (OfElement name bit value) reading pending = if is_chosen choice reading then None else pending
 pending_after choice call reading pending = pending
 
@@ -90,12 +90,17 @@ abbrev pub next : Choice → Choosing → Call → Choosing
 next choice s call =
     let reading = reading_after call s.reading in record { reading = reading; pending = pending_after choice call reading s.pending }
 
-abbrev pub held : Option UnitCall → List Call
+abbrev pub held : Option Call → List Call
 held None = []
-held (Some u) = OfUnit u.byte u.nal_unit_type u.nal_ref_idc u.length ∷ []
+held (Some call) = call ∷ []
+
+-- the call of a unit that is kept
+abbrev pub pending_call : Option UnitCall → Option Call
+pending_call None = None
+pending_call (Some u) = Some (OfUnit u.byte (type_number u.nal_unit_type) u.nal_ref_idc u.length)
 
 -- What is left of a call, with the reading after it: of the elements those that are chosen, each unit of them before the first, and no frames.
-abbrev pub left_of : Choice → Call → Reading → Option UnitCall → List Call
+abbrev pub left_of : Choice → Call → Reading → Option Call → List Call
 left_of choice (OfElement name bit value) reading pending =
     if is_chosen choice reading then held pending ++ (OfElement name bit value ∷ []) else []
 left_of choice (OfSlice byte mb kind frame_num count) reading None =

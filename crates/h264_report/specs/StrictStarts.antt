@@ -2,6 +2,7 @@
 use Rattle.std.specs.Prelude.{◌≡◌, ℕ, ◌*◌, ◌-◌, ◌/◌, ◌==◌, ◌&&◌, ◌||◌, Bool, false, not, nat_lt, nat_le, if◌then◌else◌}
 use Rattle.std.specs.Prelude.{List, [], ◌∷◌, ◌++◌, Option, None, get_or}
 use Rattle.h264_units.specs.Stream.{NalUnit, past}
+use Rattle.h264_verify.specs.Units.{is_slice}
 use Rattle.h264_report.specs.declared.sei.timing.KnownSet.TheVariants.{NotYet}
 use Rattle.h264_report.specs.BufferUnits.{no_buffer, came, ended_at, ended_bits, lack_in, watches_after}
 use Rattle.h264_report.specs.Strict.{begins_access_unit, bits_for, with_places}
@@ -22,9 +23,6 @@ abbrev pub no_units : UnitsBefore
 no_units = record { past = 0; begun = false; pic_type = 7; set = NotYet; buffer = no_buffer }
 
 -- ---- the first unit of an access unit (7.4.1.2.3)
-
-abbrev pub is_slice : ℕ → Bool
-is_slice kind = (kind == 1) || (kind == 5)
 
 -- the first byte of the RBSP, or 0 where there is none; no emulation prevention byte stands so early
 abbrev pub first_byte : List ℕ → ℕ

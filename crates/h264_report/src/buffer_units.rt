@@ -6,6 +6,7 @@ ghost use Rattle.h264_report.specs.BufferUnits as say;
 ghost use Rattle.h264_report.specs.Strict.{with_places};
 ghost use Rattle.h264_report.specs.StrictRules.{place_of};
 ghost use Rattle.h264_report.specs.declared.strict_rule.StrictRule.{StrictRule as Rule};
+ghost use Rattle.h264_verify.specs.UnitTypes.{type_number};
 
 use crate::buffer::{Coded, Lack, Pace, Rates, Step, Watch};
 use crate::sei::{
@@ -18,10 +19,7 @@ use crate::strict_rule::{STRICT_RULES, StrictRule, broken_if};
 use h264_sps::hrd::Hrd;
 use h264_sps::sps::Sps;
 use h264_units::NalUnit;
-use h264_verify::kinds::FILLER;
-
-/// The last nal_unit_type of a VCL NAL unit.
-const LAST_VCL: u8 = 5;
+use h264_verify::NalUnitType;
 
 /// An access unit that has not ended.
 #[derive(Clone, Copy)]
@@ -162,24 +160,33 @@ fn vcl_delay(period: Option<FirstDelays>) -> Option<InitialDelay>
 }
 
 /// Whether a unit is known to arrive, and to hide no end of an access unit.
-fn is_plain(nal_unit_type: u8) -> bool
-    ensures { result ≡ say.is_plain nal_unit_type }
+fn is_plain(kind: NalUnitType) -> bool
+    ensures { result ≡ say.is_plain (type_number kind) }
 {
-    1 <= nal_unit_type && nal_unit_type <= FILLER
+    is_vcl(kind)
+        || matches!(
+            kind,
+            NalUnitType::Sei
+                | NalUnitType::SequenceSet
+                | NalUnitType::PictureSet
+                | NalUnitType::Delimiter
+                | NalUnitType::EndOfSequence
+                | NalUnitType::EndOfStream
+        )
 }
 
 /// Whether a unit is a VCL NAL unit: a slice, or a part of one.
-fn is_slice_part(nal_unit_type: u8) -> bool
-    ensures { result ≡ say.is_slice_part nal_unit_type }
+fn is_slice_part(kind: NalUnitType) -> bool
+    ensures { result ≡ say.is_slice_part (type_number kind) }
 {
-    1 <= nal_unit_type && nal_unit_type <= LAST_VCL
+    kind.is_slice() || kind.is_partition()
 }
 
 /// Whether a unit is a VCL NAL unit, or filler data.
-fn is_vcl(nal_unit_type: u8) -> bool
-    ensures { result ≡ say.is_vcl nal_unit_type }
+fn is_vcl(kind: NalUnitType) -> bool
+    ensures { result ≡ say.is_vcl (type_number kind) }
 {
-    is_slice_part(nal_unit_type) || nal_unit_type == FILLER
+    is_slice_part(kind) || matches!(kind, NalUnitType::Filler)
 }
 
 /// So many bytes with those of a unit, if that counts.
@@ -308,10 +315,10 @@ impl Watches {
     }
 
     /// After a unit of this type.
-    fn after(self, nal_unit_type: u8) -> Watches
-        ensures { result ≡ say.watched self nal_unit_type }
+    fn after(self, kind: NalUnitType) -> Watches
+        ensures { result ≡ say.watched self (type_number kind) }
     {
-        if is_plain(nal_unit_type) {
+        if is_plain(kind) {
             self
         } else {
             Watches {

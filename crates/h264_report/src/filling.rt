@@ -7,7 +7,7 @@ use crate::queue::FrameQueue;
 use h264_base::{ElementName, Elements, Failed, SliceType};
 use h264_dpb::{FrameOut, Rectangle};
 use h264_plane::Frame;
-use h264_verify::FrameSink;
+use h264_verify::{FrameSink, NalUnitType};
 use std::marker::{Brand, PhantomData};
 
 /// For proofs alone: how a queue stood before a sink filled it.
@@ -96,7 +96,7 @@ impl<K: Before> FrameSink for Filling<K> {
     fn unit(
         &mut self,
         _byte: u64,
-        _nal_unit_type: u8,
+        _nal_unit_type: NalUnitType,
         _nal_ref_idc: u8,
         _length: u64,
     ) -> Result<(), Failed> {

@@ -16,7 +16,7 @@ use crate::sheet::{Pen, Sheet};
 use h264_base::{ElementName, Elements, Failed, SliceType};
 use h264_dpb::{FrameOut, Rectangle};
 use h264_plane::Frame;
-use h264_verify::FrameSink;
+use h264_verify::{FrameSink, NalUnitType};
 use std::alloc::{AllocError, Global};
 use std::marker::PhantomData;
 
@@ -139,6 +139,7 @@ impl<'a, 'b, W: Device, K: Sheet> LineSink<'a, 'b, W, K> {
     ghost use Rattle.h264_base.specs.Call.{Call, OfUnit, OfSlice, OfElement};
     ghost use Rattle.h264_dpb.specs.Shown.{fits, frame_call};
     ghost use Rattle.h264_report.specs.Objects.{unit_in, slice_in};
+    ghost use Rattle.h264_verify.specs.UnitTypes.{type_number};
     ghost use Rattle.h264_report.specs.Sent.{LentWriter};
     ghost use Rattle.h264_report.specs.Told.{HoldsLines, line_state, line_of, counted};
     ghost use Rattle.h264_report.specs.declared.listing.Listing.TheVariants as listings;
@@ -147,20 +148,21 @@ impl<'a, 'b, W: Device, K: Sheet> LineSink<'a, 'b, W, K> {
     fn put_unit(
         &mut self,
         byte: u64,
-        nal_unit_type: u8,
+        nal_unit_type: NalUnitType,
         nal_ref_idc: u8,
         length: u64,
     ) -> Result<(), Failed>
-        requires line { (n : ℕ) → line_of (opening_of self.old.form) self.old.listing n (OfUnit byte nal_unit_type nal_ref_idc length) ≡ ended
-            (unit_in (opening_of self.old.form) byte nal_unit_type nal_ref_idc length) }
-        requires uncounted { counted self.old.listing (OfUnit byte nal_unit_type nal_ref_idc length) ≡ 0 }
+        requires line { (n : ℕ) → line_of (opening_of self.old.form) self.old.listing n (OfUnit byte (type_number nal_unit_type) nal_ref_idc length) ≡ ended
+            (unit_in (opening_of self.old.form) byte (type_number nal_unit_type) nal_ref_idc length) }
+        requires uncounted { counted self.old.listing (OfUnit byte (type_number nal_unit_type) nal_ref_idc length) ≡ 0 }
         requires whole { self.old.broke_off ≡ false }
         requires room { self.old.failures < 2 ^ 64 - 1 }
         ensures form { self.new.form ≡ self.old.form }
         ensures listing { self.new.listing ≡ self.old.listing }
         ensures same_reference { self.new.pen.out.ghost_name ≡ self.old.pen.out.ghost_name }
         ensures ok { (start : LentWriter) (before : List Call) → HoldsLines start (line_state W.contents W.has_failed self.old) before →
-            OnOk result (HoldsLines start (line_state W.contents W.has_failed self.new) (before ++ OfUnit byte nal_unit_type nal_ref_idc length ∷ [])) }
+            OnOk result (HoldsLines start (line_state W.contents W.has_failed self.new)
+            (before ++ OfUnit byte (type_number nal_unit_type) nal_ref_idc length ∷ [])) }
         ensures refused { (start : LentWriter) (before : List Call) → HoldsLines start (line_state W.contents W.has_failed self.old) before →
             OnErr result (HoldsLines start (line_state W.contents W.has_failed self.new) before) }
         ensures kept { OnOk result (self.new.failures ≡ self.old.failures) }
@@ -306,7 +308,7 @@ impl<'a, 'b, W: Device, K: Sheet> FrameSink for LineSink<'a, 'b, W, K> {
     fn unit(
         &mut self,
         byte: u64,
-        nal_unit_type: u8,
+        nal_unit_type: NalUnitType,
         nal_ref_idc: u8,
         length: u64,
     ) -> Result<(), Failed> {

@@ -4,6 +4,7 @@
 ghost use Rattle.std.specs.Prelude.{◌≡◌, ◌++◌, IfOk, IsTrue, OnOk, string_bytes};
 ghost use Rattle.h264_dpb.specs.Shown.{fits, width_in, height_in};
 ghost use Rattle.h264_report.specs.Frames.{shown_bytes};
+ghost use Rattle.h264_verify.specs.UnitTypes.{type_number};
 ghost use Rattle.h264_report.specs.Lines.{unit_text, type_text, slice_text, frame_text, element_text, yes_text, no_text, outside_text, verdict_text};
 
 use crate::frames::digest;
@@ -11,14 +12,14 @@ use crate::rows::{height, width};
 use h264_base::{ElementName, Feature, Mode, Rule, SliceType, Stop};
 use h264_dpb::Rectangle;
 use h264_plane::Frame;
-use h264_verify::Summary;
+use h264_verify::{NalUnitType, Summary};
 use std::alloc::{AllocError, Global};
 
 /// A unit: the byte of the input where it begins, its nal_unit_type and nal_ref_idc, and its length in bytes.
 #[derive(Clone, Copy)]
 pub struct UnitCall {
     pub byte: u64,
-    pub nal_unit_type: u8,
+    pub nal_unit_type: NalUnitType,
     pub nal_ref_idc: u8,
     pub length: u64,
 }
@@ -42,7 +43,7 @@ pub struct FrameCall<'a> {
 
 /// Makes a line that of a unit, with this text before it. AllocError where there is no memory for it; the line is then a part of it.
 pub fn unit_line(line: &mut String, prefix: &str, unit: UnitCall) -> Result<(), AllocError>
-    ensures { OnOk result (string_bytes line.new ≡ prefix.now ++ unit_text unit.byte unit.nal_unit_type unit.nal_ref_idc unit.length) }
+    ensures { OnOk result (string_bytes line.new ≡ prefix.now ++ unit_text unit.byte (type_number unit.nal_unit_type) unit.nal_ref_idc unit.length) }
 {
     let UnitCall {
         byte,
@@ -50,10 +51,11 @@ pub fn unit_line(line: &mut String, prefix: &str, unit: UnitCall) -> Result<(), 
         nal_ref_idc,
         length,
     } = unit;
+    let number = nal_unit_type.number();
     line.clear();
     write!(
         line,
-        "{prefix}unit {byte} type {nal_unit_type} ref {nal_ref_idc} bytes {length}"
+        "{prefix}unit {byte} type {number} ref {nal_ref_idc} bytes {length}"
     )?;
     Ok(())
 }

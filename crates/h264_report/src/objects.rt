@@ -4,6 +4,7 @@
 ghost use Rattle.std.specs.Prelude.{◌≡◌, IsTrue, OnOk, string_bytes};
 ghost use Rattle.h264_dpb.specs.Shown.{fits, width_in, height_in};
 ghost use Rattle.h264_report.specs.Frames.{shown_bytes};
+ghost use Rattle.h264_verify.specs.UnitTypes.{type_number};
 ghost use Rattle.h264_report.specs.Objects.{unit_object, slice_object, element_object, frame_object, opening_of, unit_in, slice_in, element_in, frame_in};
 
 use crate::form::Form;
@@ -17,7 +18,7 @@ use std::alloc::{AllocError, Global};
 
 /// Makes a text the object of a unit. AllocError where there is no memory for it; the text is then a part of it.
 fn put_unit_object(text: &mut String, head: &str, unit: UnitCall) -> Result<(), AllocError>
-    ensures { OnOk result (string_bytes text.new ≡ unit_object head.now unit.byte unit.nal_unit_type unit.nal_ref_idc unit.length) }
+    ensures { OnOk result (string_bytes text.new ≡ unit_object head.now unit.byte (type_number unit.nal_unit_type) unit.nal_ref_idc unit.length) }
 {
     let UnitCall {
         byte,
@@ -25,17 +26,18 @@ fn put_unit_object(text: &mut String, head: &str, unit: UnitCall) -> Result<(), 
         nal_ref_idc,
         length,
     } = unit;
+    let number = nal_unit_type.number();
     text.clear();
     write!(
         text,
-        "{head},\"kind\":\"unit\",\"byte\":{byte},\"nal_unit_type\":{nal_unit_type},\"nal_ref_idc\":{nal_ref_idc},\"bytes\":{length}}}"
+        "{head},\"kind\":\"unit\",\"byte\":{byte},\"nal_unit_type\":{number},\"nal_ref_idc\":{nal_ref_idc},\"bytes\":{length}}}"
     )?;
     Ok(())
 }
 
 /// Makes a text what is written of a unit. AllocError where there is no memory for it; the text is then a part of it.
 pub fn put_unit(text: &mut String, form: Form<'_>, unit: UnitCall) -> Result<(), AllocError>
-    ensures { OnOk result (string_bytes text.new ≡ unit_in (opening_of form.entry) unit.byte unit.nal_unit_type unit.nal_ref_idc unit.length) }
+    ensures { OnOk result (string_bytes text.new ≡ unit_in (opening_of form.entry) unit.byte (type_number unit.nal_unit_type) unit.nal_ref_idc unit.length) }
 {
     match form {
         Form::Lines(prefix) => unit_line(text, prefix, unit),

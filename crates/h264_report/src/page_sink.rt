@@ -7,7 +7,7 @@ use crate::pages::album::Album;
 use h264_base::{ElementName, Elements, Failed, SliceType};
 use h264_dpb::{FrameOut, Rectangle};
 use h264_plane::Frame;
-use h264_verify::FrameSink;
+use h264_verify::{FrameSink, NalUnitType};
 
 /// Keeps pictures of the first and the last frames, and hands each call to the sink inside, whose answer it gives.
 #[derive(Drop)]
@@ -37,7 +37,7 @@ impl<S: FrameSink + Drop> FrameSink for PageSink<S> {
     fn unit(
         &mut self,
         byte: u64,
-        nal_unit_type: u8,
+        nal_unit_type: NalUnitType,
         nal_ref_idc: u8,
         length: u64,
     ) -> Result<(), Failed> {

@@ -9,7 +9,8 @@ ghost use Rattle.h264_report.specs.StrictRules.{listed, place_of};
 ghost use Rattle.h264_report.specs.Strict.{by_marking, marking_after, by_macroblock, by_element, by_order, has_other_length, picture_in, has_idr_count};
 ghost use Rattle.h264_report.specs.Strict.{comes_too_soon, by_numbers, by_time, after_element, after_unit, start, with_place, first_bit};
 ghost use Rattle.h264_report.specs.Strict.{after_beginning, by_beginning, bytes_before, bytes_with, by_bytes};
-ghost use Rattle.h264_report.specs.Strict.{TookStrict, Advances, found_of, with_places, bits_for};
+ghost use Rattle.h264_report.specs.Strict.{TookStrict, Advances, found_of, with_places, bits_for, begins_access_unit};
+ghost use Rattle.h264_verify.specs.UnitTypes.{type_number};
 
 use crate::strict_pictures::{NewPicture, Pictures};
 use crate::strict_rule::{STRICT_RULES, StrictRule, broken_if};
@@ -17,10 +18,7 @@ use crate::strict_sets::SetFacts;
 use crate::strict_vectors::Vectors;
 use crate::survey::element::count_of;
 use h264_base::ElementName;
-use h264_verify::kinds::{
-    DELIMITER, END_OF_SEQUENCE, END_OF_STREAM, FILLER, IDR_SLICE, SEQUENCE_SET_EXTENSION, SLICE,
-    SUBSET_SEQUENCE_SET,
-};
+use h264_verify::NalUnitType;
 
 /// Where a rule is broken: the first bit, and at how many places, as far as 64 bits count.
 #[derive(Clone, Copy)]
@@ -88,12 +86,33 @@ pub struct Standing {
     pub vectors: Vectors,
 }
 
-/// Whether a unit is longer or shorter than its syntax allows.
-fn has_other_length(nal_unit_type: u8, length: u64) -> bool
-    ensures { result ≡ has_other_length nal_unit_type length }
+/// Whether a unit is of a kind that begins an access unit before its first slice.
+pub(crate) fn begins_access_unit(kind: NalUnitType) -> bool
+    ensures { result ≡ begins_access_unit (type_number kind) }
 {
-    let is_end = nal_unit_type == END_OF_SEQUENCE || nal_unit_type == END_OF_STREAM;
-    nal_unit_type == DELIMITER && length != 2 || is_end && length != 1
+    matches!(
+        kind,
+        NalUnitType::Sei
+            | NalUnitType::SequenceSet
+            | NalUnitType::PictureSet
+            | NalUnitType::Delimiter
+            | NalUnitType::Prefix
+            | NalUnitType::SubsetSequenceSet
+            | NalUnitType::DepthSet
+            | NalUnitType::Reserved17
+            | NalUnitType::Reserved18
+    )
+}
+
+/// Whether a unit is longer or shorter than its syntax allows.
+fn has_other_length(kind: NalUnitType, length: u64) -> bool
+    ensures { result ≡ has_other_length (type_number kind) length }
+{
+    match kind {
+        NalUnitType::Delimiter => length != 2,
+        NalUnitType::EndOfSequence | NalUnitType::EndOfStream => length != 1,
+        _ => false,
+    }
 }
 
 /// Whether the count of an IDR picture is not 0.
@@ -161,22 +180,20 @@ impl Standing {
 
     /// The rule that a unit breaks by its place among the others, or by its nal_ref_idc.
     #[tactic(auto, unfolding(crate::specs::Strict::by_order))]
-    fn by_order(&self, nal_unit_type: u8, nal_ref_idc: u8) -> Option<StrictRule>
-        ensures { result ≡ by_order self.now nal_unit_type nal_ref_idc }
+    fn by_order(&self, kind: NalUnitType, nal_ref_idc: u8) -> Option<StrictRule>
+        ensures { result ≡ by_order self.now (type_number kind) nal_ref_idc }
     {
-        if nal_unit_type == DELIMITER {
-            return broken_if(self.begun, StrictRule::DelimiterFirst);
+        match kind {
+            NalUnitType::Delimiter => broken_if(self.begun, StrictRule::DelimiterFirst),
+            NalUnitType::EndOfSequence | NalUnitType::EndOfStream => {
+                broken_if(self.begun, StrictRule::EndFirst)
+            }
+            NalUnitType::Filler => broken_if(self.begun, StrictRule::FillerFirst),
+            NalUnitType::SequenceSetExtension | NalUnitType::SubsetSequenceSet => {
+                broken_if(nal_ref_idc == 0, StrictRule::SetRefIdc)
+            }
+            _ => None,
         }
-        if nal_unit_type == END_OF_SEQUENCE || nal_unit_type == END_OF_STREAM {
-            return broken_if(self.begun, StrictRule::EndFirst);
-        }
-        if nal_unit_type == FILLER {
-            return broken_if(self.begun, StrictRule::FillerFirst);
-        }
-        if nal_unit_type == SEQUENCE_SET_EXTENSION || nal_unit_type == SUBSET_SEQUENCE_SET {
-            return broken_if(nal_ref_idc == 0, StrictRule::SetRefIdc);
-        }
-        None
     }
 
     /// The picture that a slice with first_mb_in_slice 0 begins.
@@ -237,14 +254,11 @@ impl Standing {
     }
 
     /// Notes a unit.
-    fn note_unit(&mut self, nal_unit_type: u8, nal_ref_idc: u8, length: u64)
-        ensures { self.new ≡ after_unit self.old nal_unit_type nal_ref_idc length }
+    fn note_unit(&mut self, kind: NalUnitType, nal_ref_idc: u8, length: u64)
+        ensures { self.new ≡ after_unit self.old (type_number kind) nal_ref_idc length }
     {
-        let is_slice = nal_unit_type == SLICE || nal_unit_type == IDR_SLICE;
-        let begins = 6 <= nal_unit_type && nal_unit_type <= 9
-            || 14 <= nal_unit_type && nal_unit_type <= 18;
-        self.begun = begins || self.begun && !is_slice;
-        self.ended = self.ended || nal_unit_type == END_OF_STREAM;
+        self.begun = begins_access_unit(kind) || self.begun && !kind.is_slice();
+        self.ended = self.ended || matches!(kind, NalUnitType::EndOfStream);
         self.is_reference = nal_ref_idc != 0;
         self.unit_length = length;
     }
@@ -339,16 +353,16 @@ impl Strict {
     }
 
     /// Notes a unit.
-    pub fn note_unit(&mut self, byte: u64, nal_unit_type: u8, nal_ref_idc: u8, length: u64)
-        ensures { Advances (OfUnit byte nal_unit_type nal_ref_idc length) self.old self.new }
+    pub fn note_unit(&mut self, byte: u64, kind: NalUnitType, nal_ref_idc: u8, length: u64)
+        ensures { Advances (OfUnit byte (type_number kind) nal_ref_idc length) self.old self.new }
     {
         let bit = first_bit(byte);
-        let order = self.standing.by_order(nal_unit_type, nal_ref_idc);
-        let is_other = has_other_length(nal_unit_type, length);
+        let order = self.standing.by_order(kind, nal_ref_idc);
+        let is_other = has_other_length(kind, length);
         let ended = self.standing.ended;
         self.note_two(order, broken_if(is_other, StrictRule::UnitLength), bit);
         self.note(broken_if(ended, StrictRule::AfterEndOfStream), bit);
-        self.standing.note_unit(nal_unit_type, nal_ref_idc, length);
+        self.standing.note_unit(kind, nal_ref_idc, length);
     }
 
     /// Notes an element.

@@ -3,11 +3,12 @@
 
 ghost use Rattle.std.specs.Prelude.{◌≡◌, ◌≤◌, ◌^◌, length};
 ghost use Rattle.h264_report.specs.StrictBytes.{is_delimiter, is_filler, is_judged, by_rbsp, kind_of};
+ghost use Rattle.h264_verify.specs.UnitTypes.{type_number};
 
 use crate::sei::{after, ff_bytes, is_sei, is_trailing};
 use crate::strict_rule::{StrictRule, broken_if};
 use h264_units::NalUnit;
-use h264_verify::kinds::{DELIMITER, FILLER, SEI, SEQUENCE_SET};
+use h264_verify::NalUnitType;
 
 /// Whether the trailing bits of a delimiter follow its first 3 bits.
 fn is_delimiter(bytes: &[u8]) -> bool
@@ -27,35 +28,31 @@ fn is_filler(bytes: &[u8]) -> bool
 }
 
 /// The nal_unit_type of a unit.
-pub(crate) fn kind_of(unit: &NalUnit) -> u8
-    ensures { result ≡ kind_of unit.now }
+pub(crate) fn kind_of(unit: &NalUnit) -> NalUnitType
+    ensures { type_number result ≡ kind_of unit.now }
 {
-    unit.body()[0] % 32
+    NalUnitType::of(unit.body()[0])
 }
 
 /// Whether the bytes of units of this type are looked at: rules are on them, or messages need what they say.
-pub(crate) fn is_judged(nal_unit_type: u8) -> bool
-    ensures { result ≡ is_judged nal_unit_type }
+pub(crate) fn is_judged(kind: NalUnitType) -> bool
+    ensures { result ≡ is_judged (type_number kind) }
 {
-    nal_unit_type == SEI
-        || nal_unit_type == SEQUENCE_SET
-        || nal_unit_type == DELIMITER
-        || nal_unit_type == FILLER
+    matches!(
+        kind,
+        NalUnitType::Sei | NalUnitType::SequenceSet | NalUnitType::Delimiter | NalUnitType::Filler
+    )
 }
 
 /// The rule that the RBSP of a unit of this type breaks.
-pub(crate) fn by_rbsp(nal_unit_type: u8, bytes: &[u8]) -> Option<StrictRule>
+pub(crate) fn by_rbsp(kind: NalUnitType, bytes: &[u8]) -> Option<StrictRule>
     requires { length bytes.now ≤ 2 ^ 28 }
-    ensures { result ≡ by_rbsp nal_unit_type bytes.now }
+    ensures { result ≡ by_rbsp (type_number kind) bytes.now }
 {
-    if nal_unit_type == SEI {
-        return broken_if(!is_sei(bytes), StrictRule::SeiSizes);
+    match kind {
+        NalUnitType::Sei => broken_if(!is_sei(bytes), StrictRule::SeiSizes),
+        NalUnitType::Delimiter => broken_if(!is_delimiter(bytes), StrictRule::DelimiterBits),
+        NalUnitType::Filler => broken_if(!is_filler(bytes), StrictRule::FillerBytes),
+        _ => None,
     }
-    if nal_unit_type == DELIMITER {
-        return broken_if(!is_delimiter(bytes), StrictRule::DelimiterBits);
-    }
-    if nal_unit_type == FILLER {
-        return broken_if(!is_filler(bytes), StrictRule::FillerBytes);
-    }
-    None
 }

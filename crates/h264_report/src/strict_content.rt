@@ -6,6 +6,7 @@ ghost use Rattle.h264_base.specs.declared.stop.Stop.{Stop};
 ghost use Rattle.h264_report.specs.Strict.{with_places};
 ghost use Rattle.h264_report.specs.StrictContent.{message_bits, content_bits, bits_by_bytes, set_by, set_after, times_told};
 ghost use Rattle.h264_report.specs.StrictRules.{place_of};
+ghost use Rattle.h264_verify.specs.UnitTypes.{type_number};
 
 use crate::sei::{KnownSet, TimesTold, is_sei, message_at, times_of};
 use crate::strict::{Places, note_in};
@@ -14,7 +15,7 @@ use crate::strict_rule::{STRICT_RULES, StrictRule, broken_if};
 use h264_base::Stop;
 use h264_rbsp::Rbsp;
 use h264_units::NalUnit;
-use h264_verify::kinds::{SEI, SEQUENCE_SET};
+use h264_verify::NalUnitType;
 use std::alloc::Global;
 
 /// What a unit leaves for later ones.
@@ -46,25 +47,29 @@ fn note_messages(found: &mut [Option<Places>; STRICT_RULES], known: &KnownSet, r
 fn note_content(
     found: &mut [Option<Places>; STRICT_RULES],
     known: &KnownSet,
-    nal_unit_type: u8,
+    kind: NalUnitType,
     rbsp: &Rbsp,
 )
     ensures { (r : StrictRule) → get_or found.new (place_of r) None ≡ with_places (get_or found.old (place_of r) None)
-        (content_bits r known.now nal_unit_type rbsp.now) }
+        (content_bits r known.now (type_number kind) rbsp.now) }
 {
-    if nal_unit_type == SEI && is_sei(rbsp.bytes()) {
-        note_messages(found, known, rbsp);
+    match kind {
+        NalUnitType::Sei => {
+            if is_sei(rbsp.bytes()) {
+                note_messages(found, known, rbsp);
+            }
+        }
+        _ => {}
     }
 }
 
 /// The set that is known after a unit of this type.
-fn set_by(known: &KnownSet, nal_unit_type: u8, rbsp: &Rbsp) -> KnownSet
-    ensures { result ≡ set_by known.now nal_unit_type rbsp.now }
+fn set_by(known: &KnownSet, kind: NalUnitType, rbsp: &Rbsp) -> KnownSet
+    ensures { result ≡ set_by known.now (type_number kind) rbsp.now }
 {
-    if nal_unit_type == SEQUENCE_SET {
-        known.after(rbsp)
-    } else {
-        *known
+    match kind {
+        NalUnitType::SequenceSet => known.after(rbsp),
+        _ => *known,
     }
 }
 

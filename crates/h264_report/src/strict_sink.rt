@@ -8,7 +8,7 @@ use crate::strict::Strict;
 use h264_base::{ElementName, Elements, Failed, SliceType};
 use h264_dpb::{FrameOut, Rectangle};
 use h264_plane::Frame;
-use h264_verify::FrameSink;
+use h264_verify::{FrameSink, NalUnitType};
 
 /// Hands each call to the sink inside, whose answer it gives, and judges the further rules over the calls that it took.
 #[derive(Drop)]
@@ -54,7 +54,7 @@ impl<S: FrameSink + Drop> FrameSink for StrictSink<S> {
     fn unit(
         &mut self,
         byte: u64,
-        nal_unit_type: u8,
+        nal_unit_type: NalUnitType,
         nal_ref_idc: u8,
         length: u64,
     ) -> Result<(), Failed> {

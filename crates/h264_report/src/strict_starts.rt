@@ -2,19 +2,19 @@
 #![tactic(auto)]
 
 ghost use Rattle.std.specs.Prelude.{◌≡◌};
-ghost use Rattle.h264_report.specs.Strict.{begins_access_unit};
 ghost use Rattle.h264_report.specs.StrictContent.{set_after, times_told};
-ghost use Rattle.h264_report.specs.StrictStarts.{no_units, is_slice, first_byte, begins_picture, is_first, needs_zero_byte, has_zero_byte, lacks_zero_byte};
+ghost use Rattle.h264_report.specs.StrictStarts.{no_units, first_byte, begins_picture, is_first, needs_zero_byte, has_zero_byte, lacks_zero_byte};
 ghost use Rattle.h264_report.specs.StrictStarts.{told_pic_type, pic_type_after, is_left_out, breaks_pic_type};
 ghost use Rattle.h264_report.specs.StrictStarts.{came_after, ended_last, after_unit, by_zero_byte, by_pic_type};
+ghost use Rattle.h264_verify.specs.UnitTypes.{type_number};
 
 use crate::buffer_units::{Buffer, Came, Ended};
 use crate::sei::{KnownSet, TimesTold};
-use crate::strict::Places;
+use crate::strict::{Places, begins_access_unit};
 use crate::strict_bytes::kind_of;
 use crate::strict_rule::{STRICT_RULES, StrictRule, broken_if};
 use h264_units::NalUnit;
-use h264_verify::kinds::{DELIMITER, IDR_SLICE, PICTURE_SET, SEQUENCE_SET, SLICE};
+use h264_verify::NalUnitType;
 
 /// A primary_pic_type that leaves no slice out.
 const EVERY_SLICE: u8 = 7;
@@ -64,25 +64,11 @@ fn told_pic_type(body: &[u8]) -> u8
     }
 }
 
-/// Whether a unit is a slice.
-fn is_slice(nal_unit_type: u8) -> bool
-    ensures { result ≡ is_slice nal_unit_type }
-{
-    nal_unit_type == SLICE || nal_unit_type == IDR_SLICE
-}
-
-/// Whether a unit is of a kind that begins an access unit before its first slice.
-fn begins_access_unit(nal_unit_type: u8) -> bool
-    ensures { result ≡ begins_access_unit nal_unit_type }
-{
-    6 <= nal_unit_type && nal_unit_type <= 9 || 14 <= nal_unit_type && nal_unit_type <= 18
-}
-
 /// Whether a unit is the slice of macroblock 0.
-fn begins_picture(nal_unit_type: u8, body: &[u8]) -> bool
-    ensures { result ≡ begins_picture nal_unit_type body.now }
+fn begins_picture(kind: NalUnitType, body: &[u8]) -> bool
+    ensures { result ≡ begins_picture (type_number kind) body.now }
 {
-    is_slice(nal_unit_type) && 128 <= first_byte(body)
+    kind.is_slice() && 128 <= first_byte(body)
 }
 
 /// Whether a primary_pic_type leaves out the slice of macroblock 0 whose RBSP begins with this byte.
@@ -111,19 +97,18 @@ impl UnitsBefore {
     }
 
     /// Whether a unit is the first of its access unit.
-    fn is_first(self, nal_unit_type: u8, body: &[u8]) -> bool
-        ensures { result ≡ is_first self nal_unit_type body.now }
+    fn is_first(self, kind: NalUnitType, body: &[u8]) -> bool
+        ensures { result ≡ is_first self (type_number kind) body.now }
     {
-        !self.begun && (begins_access_unit(nal_unit_type) || begins_picture(nal_unit_type, body))
+        !self.begun && (begins_access_unit(kind) || begins_picture(kind, body))
     }
 
     /// Whether a unit has to have a zero_byte.
-    fn needs_zero_byte(self, nal_unit_type: u8, body: &[u8]) -> bool
-        ensures { result ≡ needs_zero_byte self nal_unit_type body.now }
+    fn needs_zero_byte(self, kind: NalUnitType, body: &[u8]) -> bool
+        ensures { result ≡ needs_zero_byte self (type_number kind) body.now }
     {
-        nal_unit_type == SEQUENCE_SET
-            || nal_unit_type == PICTURE_SET
-            || nal_unit_type < 14 && self.is_first(nal_unit_type, body)
+        matches!(kind, NalUnitType::SequenceSet | NalUnitType::PictureSet)
+            || kind.number() < NalUnitType::Prefix.number() && self.is_first(kind, body)
     }
 
     /// Whether a unit at this place has a zero_byte.
@@ -134,13 +119,13 @@ impl UnitsBefore {
     }
 
     /// The primary_pic_type of the access unit of a unit.
-    fn pic_type_after(self, nal_unit_type: u8, body: &[u8]) -> u8
-        ensures { result ≡ pic_type_after self nal_unit_type body.now }
+    fn pic_type_after(self, kind: NalUnitType, body: &[u8]) -> u8
+        ensures { result ≡ pic_type_after self (type_number kind) body.now }
     {
-        if nal_unit_type == DELIMITER {
+        if matches!(kind, NalUnitType::Delimiter) {
             return told_pic_type(body);
         }
-        if self.is_first(nal_unit_type, body) {
+        if self.is_first(kind, body) {
             EVERY_SLICE
         } else {
             self.pic_type
@@ -196,7 +181,7 @@ impl UnitsBefore {
         let body = unit.body();
         UnitsBefore {
             past: unit.from() + body.len() as u64,
-            begun: begins_access_unit(kind) || self.begun && !is_slice(kind),
+            begun: begins_access_unit(kind) || self.begun && !kind.is_slice(),
             pic_type: self.pic_type_after(kind, body),
             set,
             buffer,

@@ -7,7 +7,7 @@ use crate::trail::Trail;
 use h264_base::{ElementName, Elements, Failed, SliceType};
 use h264_dpb::{FrameOut, Rectangle};
 use h264_plane::Frame;
-use h264_verify::FrameSink;
+use h264_verify::{FrameSink, NalUnitType};
 use std::alloc::{AllocError, Global};
 
 /// Keeps the last 16 syntax elements of a stream, and passes over all else. It never fails.
@@ -59,7 +59,7 @@ impl FrameSink for TrailSink {
     fn unit(
         &mut self,
         _byte: u64,
-        _nal_unit_type: u8,
+        _nal_unit_type: NalUnitType,
         _nal_ref_idc: u8,
         _length: u64,
     ) -> Result<(), Failed> {

@@ -9,7 +9,7 @@ ghost use Rattle.h264_verify.specs.Units.{terms_of};
 use h264_base::{ElementName, Elements, Failed, Mode, SliceType, Stop, Target};
 use h264_dpb::{FrameOut, Rectangle};
 use h264_plane::Frame;
-use h264_verify::{FrameSink, Session, Summary};
+use h264_verify::{FrameSink, NalUnitType, Session, Summary};
 use std::alloc::Global;
 
 /// Passes over all that it is told.
@@ -36,7 +36,7 @@ impl FrameSink for NoSink {
     fn unit(
         &mut self,
         _byte: u64,
-        _nal_unit_type: u8,
+        _nal_unit_type: NalUnitType,
         _nal_ref_idc: u8,
         _length: u64,
     ) -> Result<(), Failed> {

@@ -17,7 +17,7 @@ use crate::sheet::{Pen, Sheet};
 use h264_base::{ElementName, Elements, Failed, SliceType};
 use h264_dpb::{FrameOut, Rectangle};
 use h264_plane::Frame;
-use h264_verify::FrameSink;
+use h264_verify::{FrameSink, NalUnitType};
 use std::alloc::{AllocError, Global};
 use std::marker::PhantomData;
 
@@ -289,7 +289,7 @@ impl<'a, W: Device, K: Sheet> FrameSink for Y4mSink<'a, W, K> {
     fn unit(
         &mut self,
         _byte: u64,
-        _nal_unit_type: u8,
+        _nal_unit_type: NalUnitType,
         _nal_ref_idc: u8,
         _length: u64,
     ) -> Result<(), Failed> {

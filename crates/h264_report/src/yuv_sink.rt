@@ -9,7 +9,7 @@ use crate::sheet::{Pen, Sheet};
 use h264_base::{ElementName, Elements, Failed, SliceType};
 use h264_dpb::{FrameOut, Rectangle};
 use h264_plane::Frame;
-use h264_verify::FrameSink;
+use h264_verify::{FrameSink, NalUnitType};
 use std::marker::PhantomData;
 
 /// Writes what is shown of each frame of a stream, in the order of output: the rows of Y, then of Cb, then of Cr, a byte a sample.
@@ -105,7 +105,7 @@ impl<'a, W: Device, K: Sheet> FrameSink for YuvSink<'a, W, K> {
     fn unit(
         &mut self,
         _byte: u64,
-        _nal_unit_type: u8,
+        _nal_unit_type: NalUnitType,
         _nal_ref_idc: u8,
         _length: u64,
     ) -> Result<(), Failed> {

@@ -7,6 +7,7 @@ pub mod Turning
 pub mod Outcome
 pub mod Demands
 pub mod UnitHeader
+pub mod UnitTypes
 pub mod Content
 pub mod Steps
 pub mod History

@@ -2,10 +2,10 @@
 #![tactic(auto)]
 
 ghost use Rattle.std.specs.Prelude.{◌≡◌, true, IfOk, IfErr};
-ghost use Rattle.h264_verify.specs.Units.{is_slice};
+ghost use Rattle.h264_verify.specs.UnitTypes.{type_number};
 ghost use Rattle.h264_verify.specs.Memory.{reads_slices, is_kind_read, is_read, bytes_of};
 
-use crate::kinds::{IDR_SLICE, PICTURE_SET, SEQUENCE_SET, SLICE};
+use crate::nal_unit_type::NalUnitType;
 use h264_base::{Mode, Stop};
 use h264_rbsp::Rbsp;
 use h264_units::NalUnit;
@@ -22,18 +22,12 @@ fn reads_slices(mode: Mode) -> bool
     }
 }
 
-/// Whether a unit of this type is a slice.
-fn is_slice(kind: u8) -> bool
-    ensures { result ≡ is_slice kind }
-{
-    kind == SLICE || kind == IDR_SLICE
-}
-
 /// Whether a unit of this type is read: a parameter set, or a slice where slices are read.
-fn is_kind_read(mode: Mode, kind: u8) -> bool
-    ensures { result ≡ is_kind_read mode kind }
+fn is_kind_read(mode: Mode, kind: NalUnitType) -> bool
+    ensures { result ≡ is_kind_read mode (type_number kind) }
 {
-    kind == SEQUENCE_SET || kind == PICTURE_SET || is_slice(kind) && reads_slices(mode)
+    let is_set = matches!(kind, NalUnitType::SequenceSet | NalUnitType::PictureSet);
+    is_set || kind.is_slice() && reads_slices(mode)
 }
 
 /// The RBSP of a unit that is read in this mode (7.3.1); None for one that is passed over, of which no byte is copied.
@@ -43,7 +37,7 @@ pub fn read_bytes(alloc: Global, mode: Mode, unit: &NalUnit) -> Result<Option<Rb
     ensures bytes { IfOk result (λ rbsp. rbsp ≡ bytes_of mode unit.now) }
     ensures err { IfErr result (λ e. (e ≡ Stop.Memory) × (is_read mode unit.now ≡ true)) }
 {
-    if !is_kind_read(mode, unit.body()[0] % 32) {
+    if !is_kind_read(mode, NalUnitType::of(unit.body()[0])) {
         return Ok(None);
     }
     match Rbsp::of(alloc, unit) {

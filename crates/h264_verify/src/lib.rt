@@ -24,8 +24,8 @@ pub mod data;
 pub mod decoder;
 mod frame_num;
 mod head;
-pub mod kinds;
 pub mod laws;
+pub mod nal_unit_type;
 pub mod picture;
 pub mod rules;
 pub mod running;
@@ -37,6 +37,7 @@ pub mod source;
 pub mod state;
 pub mod unit;
 
+pub use nal_unit_type::NalUnitType;
 pub use running::run;
 pub use session::Session;
 pub use sink::FrameSink;

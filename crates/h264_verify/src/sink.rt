@@ -3,7 +3,9 @@
 
 ghost use Rattle.std.specs.Prelude.{ℕ, ◌≡◌, ◌+◌, ◌-◌, ◌<◌, ◌^◌, [], ◌∷◌, OnOk, OnErr};
 ghost use Rattle.h264_base.specs.Call.{OfUnit, OfSlice, Tells, HasRoom, IsQuiet};
+ghost use Rattle.h264_verify.specs.UnitTypes.{type_number};
 
+use crate::nal_unit_type::NalUnitType;
 use h264_base::{Failed, SliceType};
 use h264_dpb::FrameOut;
 
@@ -14,12 +16,12 @@ pub trait FrameSink: FrameOut {
     fn unit(
         &mut self,
         byte: u64,
-        nal_unit_type: u8,
+        nal_unit_type: NalUnitType,
         nal_ref_idc: u8,
         length: u64,
     ) -> Result<(), Failed>
         requires { HasRoom Self.failures self.old }
-        ensures ok { OnOk result (Tells Self.took self.old self.new (OfUnit byte nal_unit_type nal_ref_idc length ∷ [])) }
+        ensures ok { OnOk result (Tells Self.took self.old self.new (OfUnit byte (type_number nal_unit_type) nal_ref_idc length ∷ [])) }
         ensures kept { OnOk result (IsQuiet Self.failures self.old self.new) }
         ensures refused { OnErr result (Tells Self.took self.old self.new []) }
         ensures failed { OnErr result (Self.failures self.new ≡ Self.failures self.old + 1) };

@@ -22,6 +22,7 @@ ghost use Rattle.h264_verify.specs.Keeping.{HoldsOpen, IsLeft, first_by, later_b
 ghost use Rattle.h264_verify.specs.StepOutcome.{steps_outcome};
 ghost use Rattle.h264_verify.specs.Pictures.{CodedSlice, CodedPicture, open_of, joined_to, runs_of, goes_on, bit_after};
 ghost use Rattle.h264_verify.specs.Pictures.{prev_ref_frame_num_after, begins_at, begins_after, ends_picture};
+ghost use Rattle.h264_verify.specs.UnitTypes.{type_number};
 ghost use Rattle.h264_poc.specs.OfSlice.{picture_of};
 ghost use Rattle.h264_marking.specs.Ended.{numbering_of, resets};
 ghost use Rattle.h264_header.specs.Picture.{is_idr, is_reference};
@@ -31,7 +32,7 @@ ghost use Rattle.h264_verify.specs.Lists.{list_of};
 use crate::decoder::Decoder;
 use crate::frame_num::{check_gap, check_idr_num};
 use crate::head::{SliceHead, SlicePlace};
-use crate::kinds::{END_OF_SEQUENCE, END_OF_STREAM, SEI};
+use crate::nal_unit_type::NalUnitType;
 use crate::picture::{OpenPicture, begin, go_on};
 use crate::rules::{
     build_list, check_id, check_marking, check_qp, check_same_type, check_type, idr_id,
@@ -460,24 +461,17 @@ pub fn no_slices() -> Slices
     }
 }
 
-/// A unit of this nal_unit_type that is no slice ends the picture before it, or does not (7.4.1.2.3); after the end of a sequence
-/// or of the stream an IDR picture is due.
-pub fn pass_by(slices: &mut Slices, kind: u8)
-    ensures picture { IsLeft (ends_picture kind) slices.old.picture slices.new.picture }
-    ensures due { slices.new.due ≡ ((kind == 10 || kind == 11) || slices.old.due) }
+/// A unit of this type that is no slice ends the picture before it, or does not (7.4.1.2.3); after the end of a sequence or of the
+/// stream an IDR picture is due.
+pub fn pass_by(slices: &mut Slices, kind: NalUnitType)
+    ensures picture { IsLeft (ends_picture (type_number kind)) slices.old.picture slices.new.picture }
+    ensures due { slices.new.due ≡ ((type_number kind == 10 || type_number kind == 11) || slices.old.due) }
     ensures others { slices.new ≡ record slices.old { picture = slices.new.picture; due = slices.new.due } }
 {
-    if kind == END_OF_SEQUENCE || kind == END_OF_STREAM {
+    if matches!(kind, NalUnitType::EndOfSequence | NalUnitType::EndOfStream) {
         slices.due = true;
     }
-    if ends_picture(kind) {
+    if kind.ends_picture() {
         slices.picture = None;
     }
-}
-
-/// Whether a unit of this nal_unit_type ends the picture before it (7.4.1.2.3): each from SEI to the end of the stream does.
-pub fn ends_picture(kind: u8) -> bool
-    ensures { result ≡ ends_picture kind }
-{
-    SEI <= kind && kind <= END_OF_STREAM
 }

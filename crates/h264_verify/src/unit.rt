@@ -10,7 +10,8 @@ ghost use Rattle.h264_header.specs.Layout.{sets_of};
 ghost use Rattle.h264_units.specs.Stream.{NalUnit as UnitView};
 ghost use Rattle.h264_verify.specs.Outcome.{Plays, tells};
 ghost use Rattle.h264_verify.specs.Demands.{judged};
-ghost use Rattle.h264_verify.specs.UnitHeader.{header_of, nal_unit_type, nal_ref_idc, is_partition, is_always_reference, is_never_reference};
+ghost use Rattle.h264_verify.specs.UnitHeader.{header_of, nal_unit_type, nal_ref_idc};
+ghost use Rattle.h264_verify.specs.UnitTypes.{type_number};
 ghost use Rattle.h264_verify.specs.UnitHeader.{fits_kind};
 ghost use Rattle.h264_verify.specs.Order.{header_demands};
 ghost use Rattle.h264_verify.specs.History.{History, maps_of};
@@ -35,14 +36,12 @@ use crate::close::close_if;
 use crate::data::read_data;
 use crate::decoder::Decoder;
 use crate::head::{SlicePlace, sets_named};
-use crate::kinds::{
-    DELIMITER, FILLER, IDR_SLICE, PARTITION_A, PARTITION_C, PICTURE_SET, SEI, SEQUENCE_SET,
-};
+use crate::nal_unit_type::NalUnitType;
 use crate::picture::begins;
 use crate::rules::check;
 use crate::sink::FrameSink;
 use crate::slice::place_slice;
-use crate::slices::{ends_picture, judge_rules, pass_by};
+use crate::slices::{judge_rules, pass_by};
 use crate::state::{State, Summary, Terms};
 use h264_base::{Failed, Mode, Rule, Stop};
 use h264_bits::Bits;
@@ -54,50 +53,16 @@ use h264_sps::read::read_sps;
 use h264_units::NalUnit;
 use std::alloc::Global;
 
-/// Whether a unit of this type is a slice data partition.
-fn is_partition(kind: u8) -> bool
-    ensures { result ≡ is_partition kind }
-{
-    PARTITION_A <= kind && kind <= PARTITION_C
-}
-
-/// Whether nal_ref_idc of a unit of this type is never 0 (7.4.1).
-fn is_always_reference(kind: u8) -> bool
-    ensures { result ≡ is_always_reference kind }
-{
-    kind == IDR_SLICE || kind == SEQUENCE_SET || kind == PICTURE_SET
-}
-
-/// Whether nal_ref_idc of a unit of this type is always 0 (7.4.1).
-fn is_never_reference(kind: u8) -> bool
-    ensures { result ≡ is_never_reference kind }
-{
-    kind == SEI || DELIMITER <= kind && kind <= FILLER
-}
-
-/// Whether a unit of this type may have this nal_ref_idc (7.4.1).
-fn fits_kind(kind: u8, reference: u8) -> bool
-    ensures { result ≡ fits_kind kind reference }
-{
-    if is_always_reference(kind) {
-        reference != 0
-    } else if is_never_reference(kind) {
-        reference == 0
-    } else {
-        true
-    }
-}
-
 /// The rules of a unit's first byte.
 fn check_header(from: u64, header: u8) -> Result<(), Stop>
     requires { from ≤ 2 ^ 40 }
     ensures { result ≡ judged (header_demands (8 * from) header) }
 {
     let bit = 8 * from;
-    let kind = header % 32;
+    let kind = NalUnitType::of(header);
     check(header / 128 == 0, Rule::ForbiddenBit, bit)?;
-    check(fits_kind(kind, header / 32 % 4), Rule::RefIdc, bit)?;
-    check(!is_partition(kind), Rule::Partition, bit)
+    check(kind.fits(header / 32 % 4), Rule::RefIdc, bit)?;
+    check(!kind.is_partition(), Rule::Partition, bit)
 }
 
 /// Tells the sink a unit of so many bytes, which begins at this byte.
@@ -107,7 +72,7 @@ fn tell_unit<S: FrameSink>(from: u64, header: u8, length: u64, sink: &mut S) -> 
         (tells (Said (unit_call from header length))) result }
     ensures no_memory { IsErrOf result Stop.Memory → ⊥ }
 {
-    match sink.unit(from, header % 32, header / 32 % 4, length) {
+    match sink.unit(from, NalUnitType::of(header), header / 32 % 4, length) {
         Ok(()) => Ok(()),
         Err(Failed) => Err(Stop::Write),
     }
@@ -118,7 +83,7 @@ fn slice_unit(header: u8) -> SliceUnit
     ensures { result ≡ slice_unit_of header }
 {
     SliceUnit {
-        idr_pic_flag: header % 32 == IDR_SLICE,
+        idr_pic_flag: matches!(NalUnitType::of(header), NalUnitType::IdrSlice),
         nal_ref_idc: (header / 32 % 4) as u32,
     }
 }
@@ -147,12 +112,12 @@ fn read_slice_unit<S: FrameSink>(
 }
 
 /// Adds a unit that is no slice to those before it.
-fn pass(state: &mut State, kind: u8)
+fn pass(state: &mut State, kind: NalUnitType)
     requires { state.old.units ≤ 2 ^ 40 }
     ensures units { state.new.units ≡ state.old.units + 1 }
     ensures sets { state.new.sets ≡ state.old.sets }
-    ensures picture { IsLeft (ends_picture kind) state.old.slices.picture state.new.slices.picture }
-    ensures due { state.new.slices.due ≡ ((kind == 10 || kind == 11) || state.old.slices.due) }
+    ensures picture { IsLeft (ends_picture (type_number kind)) state.old.slices.picture state.new.slices.picture }
+    ensures due { state.new.slices.due ≡ ((type_number kind == 10 || type_number kind == 11) || state.old.slices.due) }
     ensures decoder { state.new.decoder ≡ state.old.decoder }
     ensures others { state.new.slices ≡ record state.old.slices { picture = state.new.slices.picture; due = state.new.slices.due } }
 {
@@ -165,7 +130,7 @@ fn pass(state: &mut State, kind: u8)
 fn join_sps<S: FrameSink>(
     terms: Terms,
     state: &mut State,
-    kind: u8,
+    kind: NalUnitType,
     unit: &NalUnit,
     rbsp: &Rbsp,
     sink: &mut S,
@@ -173,11 +138,11 @@ fn join_sps<S: FrameSink>(
     requires room { HasRoom S.failures sink.old }
     requires units { state.old.units ≤ 2 ^ 40 }
     requires pictures { state.old.slices.pictures ≤ state.old.units }
-    requires kind { kind ≡ nal_unit_type (header_of unit.now) }
+    requires kind { type_number kind ≡ nal_unit_type (header_of unit.now) }
     requires rbsp { rbsp.now ≡ body_of unit.now }
-    ensures joins { (frames : ℕ → Frame) (before : History) → KeepsWithin terms.mode frames before (ends_picture kind) state.old →
+    ensures joins { (frames : ℕ → Frame) (before : History) → KeepsWithin terms.mode frames before (ends_picture (type_number kind)) state.old →
         Joins terms.mode (frame_span S.took S.failures frames sink.old sink.new)
-        (length (ended_pictures (goes_on before) (ends_picture kind) (runs_of before)))
+        (length (ended_pictures (goes_on before) (ends_picture (type_number kind)) (runs_of before)))
         (joined terms.mode before unit.now (sps_outcome terms.target unit.now)) state.new result }
     ensures counts { OnOk result (state.new.units ≡ state.old.units + 1) }
     ensures pictures { OnOk result (state.new.slices.pictures ≤ state.new.units) }
@@ -195,7 +160,7 @@ fn join_sps<S: FrameSink>(
 fn join_pps<S: FrameSink>(
     terms: Terms,
     state: &mut State,
-    kind: u8,
+    kind: NalUnitType,
     unit: &NalUnit,
     rbsp: &Rbsp,
     sink: &mut S,
@@ -203,12 +168,12 @@ fn join_pps<S: FrameSink>(
     requires room { HasRoom S.failures sink.old }
     requires units { state.old.units ≤ 2 ^ 40 }
     requires pictures { state.old.slices.pictures ≤ state.old.units }
-    requires ends { ends_picture kind ≡ true }
-    requires kind { kind ≡ nal_unit_type (header_of unit.now) }
+    requires ends { ends_picture (type_number kind) ≡ true }
+    requires kind { type_number kind ≡ nal_unit_type (header_of unit.now) }
     requires rbsp { rbsp.now ≡ body_of unit.now }
-    ensures joins { (frames : ℕ → Frame) (before : History) → KeepsWithin terms.mode frames before (ends_picture kind) state.old →
+    ensures joins { (frames : ℕ → Frame) (before : History) → KeepsWithin terms.mode frames before (ends_picture (type_number kind)) state.old →
         Joins terms.mode (frame_span S.took S.failures frames sink.old sink.new)
-        (length (ended_pictures (goes_on before) (ends_picture kind) (runs_of before)))
+        (length (ended_pictures (goes_on before) (ends_picture (type_number kind)) (runs_of before)))
         (joined terms.mode before unit.now (pps_outcome terms.target unit.now)) state.new result }
     ensures counts { OnOk result (state.new.units ≡ state.old.units + 1) }
     ensures pictures { OnOk result (state.new.slices.pictures ≤ state.new.units) }
@@ -384,19 +349,18 @@ fn join<S: FrameSink>(
     ensures kept { OnOk result (IsQuiet S.failures sink.old sink.new) }
 {
     let UnitBytes { unit, header, rbsp } = *bytes;
+    let kind = NalUnitType::of(header);
     let Some(rbsp) = rbsp else {
-        pass(state, header % 32);
+        pass(state, kind);
         return Ok(());
     };
-    if header % 32 == SEQUENCE_SET {
-        return join_sps(terms, state, header % 32, unit, rbsp, sink);
-    }
-    if header % 32 == PICTURE_SET {
-        return join_pps(terms, state, header % 32, unit, rbsp, sink);
-    }
-    match &state.decoder {
-        None => join_slice(state, header, unit, rbsp, sink),
-        Some(_) => join_whole_slice(alloc, state, header, unit, rbsp, sink),
+    match kind {
+        NalUnitType::SequenceSet => join_sps(terms, state, kind, unit, rbsp, sink),
+        NalUnitType::PictureSet => join_pps(terms, state, kind, unit, rbsp, sink),
+        _ => match &state.decoder {
+            None => join_slice(state, header, unit, rbsp, sink),
+            Some(_) => join_whole_slice(alloc, state, header, unit, rbsp, sink),
+        },
     }
 }
 
@@ -432,7 +396,7 @@ pub fn judge_unit<S: FrameSink>(
     let header = body[0];
     check_header(from, header)?;
     tell_unit(from, header, body.len() as u64, sink)?;
-    let ends = ends_picture(header % 32);
+    let ends = NalUnitType::of(header).ends_picture();
     close_if(ends, &mut state.slices, &mut state.decoder, sink)?;
     let bytes = UnitBytes { unit, header, rbsp };
     join(alloc, terms, state, &bytes, sink)

@@ -9,7 +9,6 @@ use Rattle.h264_plane.specs.Frames.{no_frame}
 use Rattle.h264_plane.specs.declared.frame.Frame.{Frame}
 use Rattle.h264_report.specs.Chosen.{TookChosen}
 use Rattle.h264_report.specs.Written.{OfBytes, Account, calls_in, told_of}
-use Rattle.h264_report.specs.declared.lines.UnitCall.{UnitCall}
 use Rattle.h264_report.specs.declared.survey.narrowed.Choice.{Choice}
 use Rattle.h264_report.specs.declared.survey.reading.Reading.{Reading}
 use Rattle.h264_report.proofs.Accounts.{accounts, of-bytes, of-map}
@@ -48,7 +47,7 @@ took-calls {took = took} {s' = s'} task target mode left answer is known some ju
     (of-bytes left (λ bytes. (a : Account (terms_of mode target) bytes answer) × took s' (calls_in a)) (λ bytes h. accounts (known bytes h (λ k. no_frame)) none) (some, accounts (judged (λ k. no_frame)) none))
 
 -- and those of which a choice leaves something
-pub chosen-calls : {S : Type 0} (took : S → List Call → Type 0) (terms : Terms) (answer : Result Summary Stop) (left : Option (List ℕ)) (choice k : Choice) (broke_off : Bool) (reading : Reading) (pending : Option UnitCall) (sink : S) →
+pub chosen-calls : {S : Type 0} (took : S → List Call → Type 0) (terms : Terms) (answer : Result Summary Stop) (left : Option (List ℕ)) (choice k : Choice) (broke_off : Bool) (reading : Reading) (pending : Option Call) (sink : S) →
     OfBytes left (λ bytes. (a : Account terms bytes answer) × ((choice ≡ k) × TookChosen took choice broke_off (record { reading = reading; pending = pending }) sink (calls_in a))) →
     OfBytes left (λ bytes. (a : Account terms bytes answer) × TookChosen took k broke_off (record { reading = reading; pending = pending }) sink (calls_in a))
 chosen-calls took terms answer left choice k broke_off reading pending sink h =

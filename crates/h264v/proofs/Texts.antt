@@ -18,7 +18,6 @@ use Rattle.h264_report.specs.declared.head.Head.{Head}
 use Rattle.h264_report.specs.declared.listing.Listing.{Listing}
 use Rattle.h264_report.specs.declared.survey.narrowed.Choice.{Choice}
 use Rattle.h264_report.specs.declared.survey.reading.Reading.{Reading}
-use Rattle.h264_report.specs.declared.lines.UnitCall.{UnitCall}
 use Rattle.h264_verify.specs.Units.{terms_of}
 use Rattle.h264_verify.specs.declared.state.Summary.{Summary}
 use Rattle.h264_verify.specs.declared.state.Terms.{Terms}
@@ -42,13 +41,13 @@ made true make start was new calls h b none = absurd (true≢false (sym b ∙ no
 made false make start was new calls h b none = h
 
 -- the calls of which something is left, and some more
-pub left-calls : {S : Type 0} (took : S → List Call → Type 0) (choice : Choice) (broke_off : Bool) (reading : Reading) (pending : Option UnitCall) (sink : S) (calls : List Call) → TookChosen took choice broke_off (record { reading = reading; pending = pending }) sink calls →
+pub left-calls : {S : Type 0} (took : S → List Call → Type 0) (choice : Choice) (broke_off : Bool) (reading : Reading) (pending : Option Call) (sink : S) (calls : List Call) → TookChosen took choice broke_off (record { reading = reading; pending = pending }) sink calls →
     (more : List Call) × took sink (left_in choice at_first calls ++ more) × ((more ≡ []) ⊎ IsFrontOfNext choice calls more)
 left-calls took choice false reading pending sink calls h = ([], subst (took sink) (sym (append-nil (left_in choice at_first calls))) h.tells, inl refl)
 left-calls took choice true reading pending sink calls h = (h.front, h.tells, inr (record { call = h.refused; rest = h.rest; whole = h.whole }))
 
 -- what a sink took of which a choice leaves something
-pub left-some : {S : Type 0} (took : S → List Call → Type 0) (choice : Choice) (broke_off : Bool) (reading : Reading) (pending : Option UnitCall) (sink : S) (calls : List Call) → TookChosen took choice broke_off (record { reading = reading; pending = pending }) sink calls →
+pub left-some : {S : Type 0} (took : S → List Call → Type 0) (choice : Choice) (broke_off : Bool) (reading : Reading) (pending : Option Call) (sink : S) (calls : List Call) → TookChosen took choice broke_off (record { reading = reading; pending = pending }) sink calls →
     (left : List Call) × took sink left
 left-some took choice broke_off reading pending sink calls h = let l = left-calls took choice broke_off reading pending sink calls h in (left_in choice at_first calls ++ l.0, l.1)
 
@@ -101,7 +100,7 @@ takes-left {head = head} {listing = listing} {start = start} {was = was} choice 
 }
 
 pub takes-chosen : {name reference : ℕ} {head begins : Opening} {listing l : Listing} {start : Option (List ℕ)} {was : Bool} {frames : ℕ} {terms : Terms} {bytes : List ℕ} {answer : Result Summary Stop} {S : Type 0} (took : S → List Call → Type 0)
-    (choice : Choice) (is_broken : Bool) (reading : Reading) (pending : Option UnitCall) (sink : S) (broke_off : Bool) (new : Output) → chooses choice ≡ true →
+    (choice : Choice) (is_broken : Bool) (reading : Reading) (pending : Option Call) (sink : S) (broke_off : Bool) (new : Output) → chooses choice ≡ true →
     (a : Account terms bytes answer) × TookChosen took choice is_broken (record { reading = reading; pending = pending }) sink (calls_in a) →
     ((calls : List Call) → took sink calls → TookLines (lent name start was) head listing (lined begins l (lent reference new.bytes new.has_failed) frames broke_off) calls) → TakesText (IsListed choice (lines_of head listing 0) terms bytes answer) start new
 takes-chosen took choice is_broken reading pending sink broke_off new chosen t of =

@@ -4,7 +4,7 @@
 ghost use Rattle.std.specs.Prelude.{◌≡◌, ◌-◌, ◌<◌, ◌^◌, List, [], true, false, None, IsErrOf, IsSome, IfSome, IfNone, string_bytes};
 ghost use Rattle.h264_base.specs.Call.{Call, HasRoom};
 ghost use Rattle.h264_base.specs.declared.stop.Stop.TheVariants.{Read};
-ghost use Rattle.h264_report.specs.Chosen.{TookChosen};
+ghost use Rattle.h264_report.specs.Chosen.{TookChosen, pending_call};
 ghost use Rattle.h264_report.specs.Written.{OfBytes, Account, calls_in, trail_text};
 ghost use Rattle.h264_verify.specs.Units.{terms_of};
 ghost use Rattle.h264v.specs.Files.{left_of, HasReadAll, IsUnread, TellsUnread};
@@ -391,7 +391,8 @@ pub fn judge_chosen<S: FrameSink + Drop, K: Sheet, F: io::Read + Drop>(
     ensures read_told { TellsUnread file.old.failures file.new.failures result.1 }
     ensures took { S.took sink [] → OfBytes (left_of F.remaining file.old.reader) (λ bytes.
         (a : Account (terms_of (mode_of job.now.task) job.now.options.target) bytes result.1)
-        × TookChosen S.took K.choice result.0.broke_off (record { reading = result.0.reading; pending = result.0.pending }) result.0.sink (calls_in a)) }
+        × TookChosen S.took K.choice result.0.broke_off (record { reading = result.0.reading; pending = pending_call result.0.pending })
+        result.0.sink (calls_in a)) }
     ensures some { S.took sink [] → (calls : List Call) × S.took result.0.sink calls }
 {
     let mut narrowed: Narrowed<S, K> = Narrowed::new(sink, survey, job.options.choice);

@@ -5,7 +5,7 @@ use h264_base::{ElementName, Elements, Failed, Mode, SliceType, Target};
 use h264_dpb::{FrameOut, Rectangle};
 use h264_plane::Frame;
 use h264_verify::running::run_pieces;
-use h264_verify::{FrameSink, Summary, laws};
+use h264_verify::{FrameSink, NalUnitType, Summary, laws};
 use std::process::Abort;
 use std::test::Fail;
 
@@ -47,7 +47,7 @@ impl FrameSink for Counter {
     fn unit(
         &mut self,
         _byte: u64,
-        _nal_unit_type: u8,
+        _nal_unit_type: NalUnitType,
         _nal_ref_idc: u8,
         _length: u64,
     ) -> Result<(), Failed> {

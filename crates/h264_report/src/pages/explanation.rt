@@ -26,7 +26,7 @@ fn put_place(page: &mut Page, survey: &Survey, finding: &Finding) {
         page.put(" unit ");
         page.number(unit.byte);
         page.put(" type ");
-        page.number(u64::from(unit.nal_unit_type));
+        page.number(u64::from(unit.nal_unit_type.number()));
     }
     page.put("\n");
     if let Some(picture) = finding.picture {

@@ -82,16 +82,22 @@ fn put_reason(page: &mut Page, reason: Reason)
     }
 }
 
-/// Adds the fields of the place and of what was found there.
-fn put_finding(page: &mut Page, survey: &Survey, finding: &Finding)
+/// Adds the fields of a bit and of the unit that it is in.
+fn put_bit(page: &mut Page, survey: &Survey, finding: &Finding)
     ensures { Grows page.old page.new }
 {
     page.number_field("bit", finding.bit);
     page.number_field("byte", finding.byte());
     if let Some(unit) = survey.unit() {
         page.number_field("unit", unit.byte);
-        page.number_field("nal_unit_type", u64::from(unit.nal_unit_type));
+        page.number_field("nal_unit_type", u64::from(unit.nal_unit_type.number()));
     }
+}
+
+/// Adds the fields of a picture, a slice and a macroblock.
+fn put_picture(page: &mut Page, finding: &Finding)
+    ensures { Grows page.old page.new }
+{
     page.maybe_field("picture", finding.picture);
     page.maybe_field("frame_num", finding.frame_num);
     page.maybe_field("slice", finding.slice);
@@ -100,11 +106,26 @@ fn put_finding(page: &mut Page, survey: &Survey, finding: &Finding)
         page.number_field("column", macroblock.column);
         page.number_field("row", macroblock.row);
     }
+}
+
+/// Adds the fields of the element that breaks a rule, or of the last one before.
+fn put_element_found(page: &mut Page, finding: &Finding)
+    ensures { Grows page.old page.new }
+{
     if let Some(element) = finding.element {
         put_element(page, element);
     } else if let Some(element) = finding.last {
         page.text_field("after", element.name.text());
     }
+}
+
+/// Adds the fields of the place and of what was found there.
+fn put_finding(page: &mut Page, survey: &Survey, finding: &Finding)
+    ensures { Grows page.old page.new }
+{
+    put_bit(page, survey, finding);
+    put_picture(page, finding);
+    put_element_found(page, finding);
     page.bool_field("ends_in_unit", finding.ends_in_unit);
     if let Some(reason) = finding.reason {
         put_reason(page, reason);

@@ -2,6 +2,7 @@
 #![tactic(auto)]
 
 ghost use Rattle.std.specs.Prelude.{◌≡◌, ℕ, ◌*◌, ◌≤◌, length};
+ghost use Rattle.h264_verify.specs.UnitTypes.{type_number};
 ghost use Rattle.h264_report.specs.SeiTimes.{no_times, times_more, with_period, with_removal, times_by, times_with, times_from, times_of};
 ghost use Rattle.h264_report.specs.SeiPart.{read_so};
 
@@ -10,7 +11,7 @@ use crate::sei::payload::{BUFFERING_PERIOD, Message, PIC_TIMING, message_at};
 use crate::sei::timing::{FirstDelays, KnownSet, buffering_period, pic_timing};
 use h264_bits::Bits;
 use h264_rbsp::Rbsp;
-use h264_verify::kinds::SEI;
+use h264_verify::NalUnitType;
 
 /// What SEI says of an access unit's times.
 #[derive(Clone, Copy)]
@@ -119,10 +120,10 @@ fn times_in(known: &KnownSet, rbsp: &Rbsp) -> TimesTold
 }
 
 /// What a unit of this type says of times.
-pub(crate) fn times_of(known: &KnownSet, nal_unit_type: u8, rbsp: &Rbsp) -> TimesTold
-    ensures { result ≡ times_of known.now nal_unit_type rbsp.now.bytes }
+pub(crate) fn times_of(known: &KnownSet, kind: NalUnitType, rbsp: &Rbsp) -> TimesTold
+    ensures { result ≡ times_of known.now (type_number kind) rbsp.now.bytes }
 {
-    if nal_unit_type == SEI && is_sei(rbsp.bytes()) {
+    if matches!(kind, NalUnitType::Sei) && is_sei(rbsp.bytes()) {
         times_in(known, rbsp)
     } else {
         TimesTold::new()

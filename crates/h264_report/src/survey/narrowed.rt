@@ -4,7 +4,7 @@
 ghost use Rattle.std.specs.Prelude.{◌≡◌, ℕ, ◌+◌, ◌-◌, ◌<◌, ◌^◌, OnOk, OnErr};
 ghost use Rattle.std.specs.Prelude.{[]};
 ghost use Rattle.h264_base.specs.Call.{HasRoom, IsQuiet, Tells};
-ghost use Rattle.h264_report.specs.Chosen.{held, is_chosen, has_picture, has_macroblock, TookChosen, after_element};
+ghost use Rattle.h264_report.specs.Chosen.{held, pending_call, is_chosen, has_picture, has_macroblock, TookChosen, after_element};
 
 use crate::lines::UnitCall;
 use crate::sheet::Sheet;
@@ -13,7 +13,7 @@ use crate::survey::reading::Reading;
 use h264_base::{ElementName, Elements, Failed, SliceType};
 use h264_dpb::{FrameOut, Rectangle};
 use h264_plane::Frame;
-use h264_verify::FrameSink;
+use h264_verify::{FrameSink, NalUnitType};
 use std::marker::PhantomData;
 
 /// What is chosen of a stream.
@@ -91,7 +91,7 @@ impl<S: FrameSink + Drop, K: Sheet> Narrowed<S, K> {
         ensures sink { result.sink ≡ sink }
         ensures choice { result.choice ≡ choice }
         ensures took { S.took sink [] → TookChosen S.took result.choice result.broke_off
-            (record { reading = result.reading; pending = result.pending }) result.sink [] }
+            (record { reading = result.reading; pending = pending_call result.pending }) result.sink [] }
     {
         Narrowed {
             sink,
@@ -119,7 +119,7 @@ impl<S: FrameSink + Drop, K: Sheet> Narrowed<S, K> {
 /// Hands a unit to a sink, where there is one.
 fn put_pending<S: FrameSink>(sink: &mut S, pending: Option<UnitCall>) -> Result<(), Failed>
     requires { HasRoom S.failures sink.old }
-    ensures ok { OnOk result (Tells S.took sink.old sink.new (held pending)) }
+    ensures ok { OnOk result (Tells S.took sink.old sink.new (held (pending_call pending))) }
     ensures kept { OnOk result (IsQuiet S.failures sink.old sink.new) }
     ensures refused { OnErr result (Tells S.took sink.old sink.new []) }
     ensures failed { OnErr result (S.failures sink.new ≡ S.failures sink.old + 1) }
@@ -132,7 +132,7 @@ fn put_pending<S: FrameSink>(sink: &mut S, pending: Option<UnitCall>) -> Result<
 
 impl<S: FrameSink + Drop, K: Sheet> Elements for Narrowed<S, K> {
     ghost took = { λ s calls. (s.choice ≡ K.choice) × TookChosen S.took s.choice s.broke_off
-        (record { reading = s.reading; pending = s.pending }) s.sink calls };
+        (record { reading = s.reading; pending = pending_call s.pending }) s.sink calls };
 
     ghost failures = { λ s. s.failures + S.failures s.sink };
 
@@ -177,7 +177,7 @@ impl<S: FrameSink + Drop, K: Sheet> FrameSink for Narrowed<S, K> {
     fn unit(
         &mut self,
         byte: u64,
-        nal_unit_type: u8,
+        nal_unit_type: NalUnitType,
         nal_ref_idc: u8,
         length: u64,
     ) -> Result<(), Failed> {

@@ -8,22 +8,11 @@ use crate::survey::reading::Reading;
 use crate::survey::sequence::{PictureSet, Sequence};
 use circular_buffer::HeapCircularBuffer;
 use h264_base::{ElementName, SliceType};
+use h264_verify::NalUnitType;
 use std::alloc::{AllocError, Global};
 
 /// How many elements are kept: more than a slice's header or a macroblock has.
 const KEPT: usize = 4096;
-
-/// nal_unit_type of a slice of an IDR picture (table 7-1).
-const IDR_SLICE: u8 = 5;
-
-/// nal_unit_type of a slice of another picture.
-const SLICE: u8 = 1;
-
-/// nal_unit_type of a sequence parameter set.
-const SEQUENCE_SET: u8 = 7;
-
-/// nal_unit_type of a picture parameter set.
-const PICTURE_SET: u8 = 8;
 
 /// memory_management_control_operation that unmarks all (7.4.3.3).
 const RESET: i64 = 5;
@@ -36,7 +25,7 @@ const SLICE_TYPES: i64 = 5;
 pub struct Unit {
     /// The byte of the input where it begins.
     pub byte: u64,
-    pub nal_unit_type: u8,
+    pub nal_unit_type: NalUnitType,
     pub nal_ref_idc: u8,
     /// Its length in bytes.
     pub length: u64,
@@ -117,7 +106,13 @@ impl Survey {
     }
 
     /// Notes a unit.
-    pub fn note_unit(&mut self, byte: u64, nal_unit_type: u8, nal_ref_idc: u8, length: u64) {
+    pub fn note_unit(
+        &mut self,
+        byte: u64,
+        nal_unit_type: NalUnitType,
+        nal_ref_idc: u8,
+        length: u64,
+    ) {
         self.keep_sets();
         self.slice = None;
         self.reading.note_unit();
@@ -129,11 +124,10 @@ impl Survey {
             number: self.units,
         });
         self.units = self.units.saturating_add(1);
-        if nal_unit_type == SEQUENCE_SET {
-            self.sequence = Some(Sequence::default());
-        }
-        if nal_unit_type == PICTURE_SET {
-            self.picture_set = Some(PictureSet::default());
+        match nal_unit_type {
+            NalUnitType::SequenceSet => self.sequence = Some(Sequence::default()),
+            NalUnitType::PictureSet => self.picture_set = Some(PictureSet::default()),
+            _ => {}
         }
     }
 
@@ -194,7 +188,7 @@ impl Survey {
     fn unit_read(&self) -> Unit {
         self.unit.unwrap_or(Unit {
             byte: 0,
-            nal_unit_type: SLICE,
+            nal_unit_type: NalUnitType::Slice,
             nal_ref_idc: 0,
             length: 0,
             number: 0,
@@ -230,10 +224,9 @@ impl Survey {
             }
         }
         let picture = Picture {
-            kind: if unit.nal_unit_type == IDR_SLICE {
-                PictureKind::Idr
-            } else {
-                PictureKind::I
+            kind: match unit.nal_unit_type {
+                NalUnitType::IdrSlice => PictureKind::Idr,
+                _ => PictureKind::I,
             },
             is_reference: unit.nal_ref_idc != 0,
             frame_num: 0,

@@ -8,7 +8,7 @@ use crate::survey::notes::Survey;
 use h264_base::{ElementName, Elements, Failed, SliceType};
 use h264_dpb::{FrameOut, Rectangle};
 use h264_plane::Frame;
-use h264_verify::FrameSink;
+use h264_verify::{FrameSink, NalUnitType};
 
 /// Notes each call in a survey, and hands it to the sink inside, whose answer it gives.
 #[derive(Drop)]
@@ -40,7 +40,7 @@ impl<S: FrameSink + Drop, M: Meter + Drop> FrameSink for Surveyed<S, M> {
     fn unit(
         &mut self,
         byte: u64,
-        nal_unit_type: u8,
+        nal_unit_type: NalUnitType,
         nal_ref_idc: u8,
         length: u64,
     ) -> Result<(), Failed> {

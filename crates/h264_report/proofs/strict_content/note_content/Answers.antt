@@ -1,19 +1,22 @@
-use Rattle.std.proofs.Common.{◌==◌, ◌&&◌, sym, ap, ◌∙◌}
-use Rattle.std.proofs.Math.Bool.{and-false}
-use Rattle.std.proofs.lemmas.Bool.{ne_eqb}
+use Rattle.std.proofs.Common.{◌≡◌, ◌==◌, ◌&&◌, false, refl, sym, ap, ◌∙◌}
+use Rattle.h264_verify.specs.UnitTypes.{type_number}
+use Rattle.h264_verify.specs.declared.nal_unit_type.NalUnitType.{NalUnitType}
+use Rattle.h264_verify.specs.declared.nal_unit_type.NalUnitType.TheVariants as types
 use Rattle.h264_report.specs.SeiMessages.{is_sei}
 use Rattle.h264_report.proofs.Contents.{content-not, none-noted}
-use Rattle.h264_report.proofs.strict_content.note_content.Goals.{else-nal_unit_type-eq-SEI-via-then-nal_unit_type-eq-SEI+else-is_sei, else-nal_unit_type-eq-SEI-via-else-nal_unit_type-eq-SEI}
 use Rattle.h264_report.proofs.strict_content.note_content.Goals as goal
 
-pub returns-else-nal_unit_type-eq-SEI : goal.returns-else-nal_unit_type-eq-SEI
-returns-else-nal_unit_type-eq-SEI c r =
-    let kind = c.args.nal_unit_type in
+-- a unit of another type
+not-six : (t : NalUnitType) → (t ≡ types.Sei → ⊥) → (type_number t == 6) ≡ false
+not-six types.Sei other = absurd (other refl)
+not-six _ other = refl
+
+pub returns-else-is_sei : goal.returns-else-is_sei
+returns-else-is_sei c r =
+    sym (none-noted _ _ (content-not r c.args.known.now (type_number c.args.kind) c.args.rbsp.now
+    (rw c.in-Sei.is (ap is_sei (sym c.bytes.ensures.bytes) ∙ sym c.is_sei.ensures.value ∙ c.if-is_sei.false))))
+
+pub returns-in_default : goal.returns-in_default
+returns-in_default c r =
     let body = c.args.rbsp.now in
-    elim c.else-nal_unit_type-eq-SEI.branch [
-      | else-nal_unit_type-eq-SEI-via-then-nal_unit_type-eq-SEI+else-is_sei w ↦
-          sym (none-noted _ _ (content-not r c.args.known.now kind body
-          (ap (λ t. (kind == 6) && t) (ap is_sei (sym w.bytes.ensures.bytes) ∙ sym w.is_sei.ensures.value ∙ w.if-is_sei.false) ∙ and-false (kind == 6))))
-      | else-nal_unit_type-eq-SEI-via-else-nal_unit_type-eq-SEI w ↦
-          sym (none-noted _ _ (content-not r c.args.known.now kind body (ap (λ t. t && is_sei body.bytes) (ne_eqb kind 6 w.if-nal_unit_type-eq-SEI.false))))
-    ]
+    sym (none-noted _ _ (content-not r c.args.known.now (type_number c.args.kind) body (ap (λ t. t && is_sei body.bytes) (not-six c.args.kind c.in_default.not-Sei))))

@@ -11,6 +11,9 @@ use Rattle.h264_verify.specs.Outcome.{Outcome}
 use Rattle.h264_verify.specs.History.{History}
 use Rattle.h264_verify.specs.Content as contents
 use Rattle.h264_verify.specs.UnitHeader.{header_of, nal_unit_type}
+use Rattle.h264_verify.specs.UnitTypes.{type_number}
+use Rattle.h264_verify.specs.declared.nal_unit_type.NalUnitType.{NalUnitType}
+use Rattle.h264_verify.specs.declared.nal_unit_type.NalUnitType.TheVariants as types
 use Rattle.h264_verify.specs.Pictures.{ends_picture, goes_on, runs_of}
 use Rattle.h264_verify.specs.Keeping.{ended_pictures, ended_in}
 use Rattle.h264_verify.proofs.Playing.{gives-plays}
@@ -39,13 +42,13 @@ unfolding joined_by
 joined-eight terms kind before unit e = subst (λ (k : ℕ). joined_by terms k before unit ≡ joined terms.mode before unit (pps_outcome terms.target unit)) (sym e) refl
 
 pub join_pps-requires-clause-ends : goal.join_pps-requires-clause-ends
-join_pps-requires-clause-ends g c = ap (λ (k : ℕ). ends_picture k) c.if-header-eq-PICTURE_SET.true
+join_pps-requires-clause-ends g c = ap (λ k. ends_picture (type_number k)) c.in-PictureSet.is
 
-pub returns-then-header-eq-SEQUENCE_SET-clause-joins : goal.returns-then-header-eq-SEQUENCE_SET-clause-joins
-returns-then-header-eq-SEQUENCE_SET-clause-joins g c = λ frames before k. rw (joined-seven c.args.terms _ before c.args.bytes.now.unit.now c.if-header-eq-SEQUENCE_SET.true) (c.join_sps.ensures.joins frames before k)
+pub returns-in-SequenceSet-clause-joins : goal.returns-in-SequenceSet-clause-joins
+returns-in-SequenceSet-clause-joins g c = let joins = rw c.of-kind.ensures at c.join_sps.ensures.joins in λ frames before k. rw (joined-seven c.args.terms _ before c.args.bytes.now.unit.now (sym c.of-kind.ensures ∙ ap type_number c.in-SequenceSet.is)) (joins frames before k)
 
-pub returns-then-header-eq-PICTURE_SET-clause-joins : goal.returns-then-header-eq-PICTURE_SET-clause-joins
-returns-then-header-eq-PICTURE_SET-clause-joins g c = λ frames before k. rw (joined-eight c.args.terms _ before c.args.bytes.now.unit.now c.if-header-eq-PICTURE_SET.true) (c.join_pps.ensures.joins frames before k)
+pub returns-in-PictureSet-clause-joins : goal.returns-in-PictureSet-clause-joins
+returns-in-PictureSet-clause-joins g c = let joins = rw c.of-kind.ensures at c.join_pps.ensures.joins in λ frames before k. rw (joined-eight c.args.terms _ before c.args.bytes.now.unit.now (sym c.of-kind.ensures ∙ ap type_number c.in-PictureSet.is)) (joins frames before k)
 
 -- where no picture ends
 joins-here : {S X : Type 0} (mode : Mode) (took : S → List Call → Type 0) (failures : S → ℕ) (frames : ℕ → Frame) (before : History) (ends : Bool) (o : Outcome History) (new : State) (s s' : S) (r : Result X Stop) → ends ≡ false → Joins {X = X} mode (frame_span took failures frames s s') (ended_in before) o new r → Joins {X = X} mode (frame_span took failures frames s s') (length (ended_pictures (goes_on before) ends (runs_of before))) o new r
@@ -56,7 +59,7 @@ returns-in_default-clause-joins g c = λ frames before k.
     let bytes = bytes-by c.args.terms.mode c.args.bytes.now.unit.now c.args.bytes.now.header c.args.bytes.now.rbsp.now c.requires.header c.requires.bytes in
     rw (passed-by c.args.terms (nal_unit_type c.args.bytes.now.header) before c.args.bytes.now.unit.now (unread _ _ _ c.in_default.is bytes))
     (joins-on c.args.terms.mode frames _ _ _ before _ _ _ (λ (u : Unit {0}). contents.Passed) _ _ _ tt _ (gives-plays _ _ (λ (u : Unit {0}). contents.Passed) tt _) (gives-plays _ _ (λ (u : Unit {0}). u) tt _)
-    (passed-joins c.args.terms.mode frames before c.args.bytes.now.unit.now contents.Passed (nal_unit_type c.args.bytes.now.header) c.args.state.now _ tt tt (rw c.requires.header refl) k c.pass.ensures.units (c.pass.ensures.sets ∙ k.sets) c.pass.ensures.picture c.pass.ensures.due c.pass.ensures.others c.pass.ensures.decoder))
+    (passed-joins c.args.terms.mode frames before c.args.bytes.now.unit.now contents.Passed (nal_unit_type c.args.bytes.now.header) c.args.state.now _ tt tt (rw c.requires.header refl) k c.pass.ensures.units (c.pass.ensures.sets ∙ k.sets) (rw c.of-kind.ensures at c.pass.ensures.picture) (rw c.of-kind.ensures at c.pass.ensures.due) c.pass.ensures.others c.pass.ensures.decoder))
 
 pub join_sps-requires-clause-rbsp : goal.join_sps-requires-clause-rbsp
 join_sps-requires-clause-rbsp g c = (read-bytes _ _ _ _ c.in-Some.is c.requires.bytes).1
@@ -64,16 +67,25 @@ join_sps-requires-clause-rbsp g c = (read-bytes _ _ _ _ c.in-Some.is c.requires.
 pub join_pps-requires-clause-rbsp : goal.join_pps-requires-clause-rbsp
 join_pps-requires-clause-rbsp g c = (read-bytes _ _ _ _ c.in-Some.is c.requires.bytes).1
 
-pub returns-then-header-eq-SEQUENCE_SET-clause-no_memory : goal.returns-then-header-eq-SEQUENCE_SET-clause-no_memory
-returns-then-header-eq-SEQUENCE_SET-clause-no_memory g c = λ frames before k m. absurd (c.join_sps.ensures.no_memory m)
+pub returns-in-SequenceSet-clause-no_memory : goal.returns-in-SequenceSet-clause-no_memory
+returns-in-SequenceSet-clause-no_memory g c = λ frames before k m. absurd (c.join_sps.ensures.no_memory m)
 
-pub returns-then-header-eq-PICTURE_SET-clause-no_memory : goal.returns-then-header-eq-PICTURE_SET-clause-no_memory
-returns-then-header-eq-PICTURE_SET-clause-no_memory g c = λ frames before k m. absurd (c.join_pps.ensures.no_memory m)
+pub returns-in-PictureSet-clause-no_memory : goal.returns-in-PictureSet-clause-no_memory
+returns-in-PictureSet-clause-no_memory g c = λ frames before k m. absurd (c.join_pps.ensures.no_memory m)
 
 -- a unit whose RBSP was made, and that is no set
 slice-here : (mode : Mode) (unit : NalUnit) (byte : ℕ) (o : Option Body) (x : Body) → byte ≡ header_of unit → o ≡ bytes_of mode unit → o ≡ Some x → (nal_unit_type byte ≡ 7 → ⊥) → (nal_unit_type byte ≡ 8 → ⊥) → (is_slice (nal_unit_type byte) ≡ true) × (reads_slices mode ≡ true)
 slice-here mode unit byte o x e b s seven eight =
     read-slice mode (nal_unit_type byte) (read-bytes _ _ _ _ s (bytes-by mode unit byte o e b)).0 (ne_eqb _ _ seven) (ne_eqb _ _ eight)
+
+-- a unit of another type than a set's has another number
+not-seven : (t : NalUnitType) (n : ℕ) → type_number t ≡ n → (t ≡ types.SequenceSet → ⊥) → n ≡ 7 → ⊥
+not-seven types.SequenceSet n is other e = other refl
+not-seven _ n is other e = let both = is ∙ e in cc
+
+not-eight : (t : NalUnitType) (n : ℕ) → type_number t ≡ n → (t ≡ types.PictureSet → ⊥) → n ≡ 8 → ⊥
+not-eight types.PictureSet n is other e = other refl
+not-eight _ n is other e = let both = is ∙ e in cc
 
 -- the mode of a unit that is read, and is no set, by whether frames are made
 headers-of : (P : Decoder → Type 0) (m : Mode) (o : Option Decoder) → o ≡ None → WhereMade m P o → reads_slices m ≡ true → m ≡ modes.Headers
@@ -89,18 +101,18 @@ join_slice-requires-clause-rbsp g c = (read-bytes _ _ _ _ c.in-Some.is c.require
 
 pub join_slice-requires-clause-goes_on : goal.join_slice-requires-clause-goes_on
 join_slice-requires-clause-goes_on g c =
-    let here = slice-here c.args.terms.mode c.args.bytes.now.unit.now c.args.bytes.now.header c.args.bytes.now.rbsp.now _ c.requires.header c.requires.bytes c.in-Some.is c.if-header-eq-SEQUENCE_SET.false c.if-header-eq-PICTURE_SET.false in
+    let here = slice-here c.args.terms.mode c.args.bytes.now.unit.now c.args.bytes.now.header c.args.bytes.now.rbsp.now _ c.requires.header c.requires.bytes c.in-Some.is (not-seven _ _ c.of-kind.ensures c.in_default-kind.not-SequenceSet) (not-eight _ _ c.of-kind.ensures c.in_default-kind.not-PictureSet) in
     slice-goes-on (nal_unit_type c.args.bytes.now.header) here.0
 
 pub join_slice-requires-clause-kept : goal.join_slice-requires-clause-kept
 join_slice-requires-clause-kept g c =
-    let here = slice-here c.args.terms.mode c.args.bytes.now.unit.now c.args.bytes.now.header c.args.bytes.now.rbsp.now _ c.requires.header c.requires.bytes c.in-Some.is c.if-header-eq-SEQUENCE_SET.false c.if-header-eq-PICTURE_SET.false in
+    let here = slice-here c.args.terms.mode c.args.bytes.now.unit.now c.args.bytes.now.header c.args.bytes.now.rbsp.now _ c.requires.header c.requires.bytes c.in-Some.is (not-seven _ _ c.of-kind.ensures c.in_default-kind.not-SequenceSet) (not-eight _ _ c.of-kind.ensures c.in_default-kind.not-PictureSet) in
     let mode = headers-of _ c.args.terms.mode c.args.state.now.decoder c.in-None.is c.requires.kept.keeps.decoder here.1 in
     here-in c.args.terms.mode modes.Headers _ _ mode (slice-goes-on (nal_unit_type c.args.bytes.now.header) here.0) c.requires.kept
 
 pub join_whole_slice-requires-clause-kept : goal.join_whole_slice-requires-clause-kept
 join_whole_slice-requires-clause-kept g c =
-    let here = slice-here c.args.terms.mode c.args.bytes.now.unit.now c.args.bytes.now.header c.args.bytes.now.rbsp.now _ c.requires.header c.requires.bytes c.in-Some.is c.if-header-eq-SEQUENCE_SET.false c.if-header-eq-PICTURE_SET.false in
+    let here = slice-here c.args.terms.mode c.args.bytes.now.unit.now c.args.bytes.now.header c.args.bytes.now.rbsp.now _ c.requires.header c.requires.bytes c.in-Some.is (not-seven _ _ c.of-kind.ensures c.in_default-kind.not-SequenceSet) (not-eight _ _ c.of-kind.ensures c.in_default-kind.not-PictureSet) in
     let mode = (some-made _ c.args.terms.mode c.args.state.now.decoder _ c.in-Some-decoder.is c.requires.kept.keeps.decoder).0 in
     here-in c.args.terms.mode modes.Full _ _ mode (slice-goes-on (nal_unit_type c.args.bytes.now.header) here.0) c.requires.kept
 
@@ -109,16 +121,16 @@ join_whole_slice-requires-clause-rbsp g c = (read-bytes _ _ _ _ c.in-Some.is c.r
 
 pub join_whole_slice-requires-clause-goes_on : goal.join_whole_slice-requires-clause-goes_on
 join_whole_slice-requires-clause-goes_on g c =
-    let here = slice-here c.args.terms.mode c.args.bytes.now.unit.now c.args.bytes.now.header c.args.bytes.now.rbsp.now _ c.requires.header c.requires.bytes c.in-Some.is c.if-header-eq-SEQUENCE_SET.false c.if-header-eq-PICTURE_SET.false in
+    let here = slice-here c.args.terms.mode c.args.bytes.now.unit.now c.args.bytes.now.header c.args.bytes.now.rbsp.now _ c.requires.header c.requires.bytes c.in-Some.is (not-seven _ _ c.of-kind.ensures c.in_default-kind.not-SequenceSet) (not-eight _ _ c.of-kind.ensures c.in_default-kind.not-PictureSet) in
     slice-goes-on (nal_unit_type c.args.bytes.now.header) here.0
 
 pub returns-in-None-clause-joins : goal.returns-in-None-clause-joins
 unfolding joined_by
 returns-in-None-clause-joins g c = λ frames before k.
-    let here = slice-here c.args.terms.mode c.args.bytes.now.unit.now c.args.bytes.now.header c.args.bytes.now.rbsp.now _ c.requires.header c.requires.bytes c.in-Some.is c.if-header-eq-SEQUENCE_SET.false c.if-header-eq-PICTURE_SET.false in
+    let here = slice-here c.args.terms.mode c.args.bytes.now.unit.now c.args.bytes.now.header c.args.bytes.now.rbsp.now _ c.requires.header c.requires.bytes c.in-Some.is (not-seven _ _ c.of-kind.ensures c.in_default-kind.not-SequenceSet) (not-eight _ _ c.of-kind.ensures c.in_default-kind.not-PictureSet) in
     let mode = headers-of _ c.args.terms.mode c.args.state.now.decoder c.in-None.is c.requires.kept.keeps.decoder here.1 in
     let kept = subst (λ m. KeepsWithin m frames before (ends_picture (nal_unit_type c.args.bytes.now.header)) c.args.state.now) mode k in
-    rw (ne_eqb _ _ c.if-header-eq-SEQUENCE_SET.false, ne_eqb _ _ c.if-header-eq-PICTURE_SET.false, mode, slice-other (nal_unit_type c.args.bytes.now.header) before c.args.bytes.now.unit.now here.0) (joins-here modes.Headers _ _ frames before (ends_picture (nal_unit_type c.args.bytes.now.header)) _ _ _ _ _ (slice-goes-on (nal_unit_type c.args.bytes.now.header) here.0) (c.join_slice.ensures.joins frames before kept))
+    rw (ne_eqb _ _ (not-seven _ _ c.of-kind.ensures c.in_default-kind.not-SequenceSet), ne_eqb _ _ (not-eight _ _ c.of-kind.ensures c.in_default-kind.not-PictureSet), mode, slice-other (nal_unit_type c.args.bytes.now.header) before c.args.bytes.now.unit.now here.0) (joins-here modes.Headers _ _ frames before (ends_picture (nal_unit_type c.args.bytes.now.header)) _ _ _ _ _ (slice-goes-on (nal_unit_type c.args.bytes.now.header) here.0) (c.join_slice.ensures.joins frames before kept))
 
 pub returns-in-None-clause-no_memory : goal.returns-in-None-clause-no_memory
 returns-in-None-clause-no_memory g c = λ frames before k m. absurd (c.join_slice.ensures.no_memory m)
@@ -126,14 +138,14 @@ returns-in-None-clause-no_memory g c = λ frames before k m. absurd (c.join_slic
 pub returns-in-Some-decoder-clause-joins : goal.returns-in-Some-decoder-clause-joins
 unfolding joined_by
 returns-in-Some-decoder-clause-joins g c = λ frames before k.
-    let here = slice-here c.args.terms.mode c.args.bytes.now.unit.now c.args.bytes.now.header c.args.bytes.now.rbsp.now _ c.requires.header c.requires.bytes c.in-Some.is c.if-header-eq-SEQUENCE_SET.false c.if-header-eq-PICTURE_SET.false in
+    let here = slice-here c.args.terms.mode c.args.bytes.now.unit.now c.args.bytes.now.header c.args.bytes.now.rbsp.now _ c.requires.header c.requires.bytes c.in-Some.is (not-seven _ _ c.of-kind.ensures c.in_default-kind.not-SequenceSet) (not-eight _ _ c.of-kind.ensures c.in_default-kind.not-PictureSet) in
     let mode = (some-made _ c.args.terms.mode c.args.state.now.decoder _ c.in-Some-decoder.is c.requires.kept.keeps.decoder).0 in
     let kept = subst (λ m. KeepsWithin m frames before (ends_picture (nal_unit_type c.args.bytes.now.header)) c.args.state.now) mode k in
-    rw (ne_eqb _ _ c.if-header-eq-SEQUENCE_SET.false, ne_eqb _ _ c.if-header-eq-PICTURE_SET.false, mode, whole-other (nal_unit_type c.args.bytes.now.header) before c.args.bytes.now.unit.now here.0) (joins-here modes.Full _ _ frames before (ends_picture (nal_unit_type c.args.bytes.now.header)) _ _ _ _ _ (slice-goes-on (nal_unit_type c.args.bytes.now.header) here.0) (c.join_whole_slice.ensures.joins frames before kept))
+    rw (ne_eqb _ _ (not-seven _ _ c.of-kind.ensures c.in_default-kind.not-SequenceSet), ne_eqb _ _ (not-eight _ _ c.of-kind.ensures c.in_default-kind.not-PictureSet), mode, whole-other (nal_unit_type c.args.bytes.now.header) before c.args.bytes.now.unit.now here.0) (joins-here modes.Full _ _ frames before (ends_picture (nal_unit_type c.args.bytes.now.header)) _ _ _ _ _ (slice-goes-on (nal_unit_type c.args.bytes.now.header) here.0) (c.join_whole_slice.ensures.joins frames before kept))
 
 pub returns-in-Some-decoder-clause-no_memory : goal.returns-in-Some-decoder-clause-no_memory
 returns-in-Some-decoder-clause-no_memory g c = λ frames before k m.
-    let here = slice-here c.args.terms.mode c.args.bytes.now.unit.now c.args.bytes.now.header c.args.bytes.now.rbsp.now _ c.requires.header c.requires.bytes c.in-Some.is c.if-header-eq-SEQUENCE_SET.false c.if-header-eq-PICTURE_SET.false in
+    let here = slice-here c.args.terms.mode c.args.bytes.now.unit.now c.args.bytes.now.header c.args.bytes.now.rbsp.now _ c.requires.header c.requires.bytes c.in-Some.is (not-seven _ _ c.of-kind.ensures c.in_default-kind.not-SequenceSet) (not-eight _ _ c.of-kind.ensures c.in_default-kind.not-PictureSet) in
     let mode = (some-made _ c.args.terms.mode c.args.state.now.decoder _ c.in-Some-decoder.is c.requires.kept.keeps.decoder).0 in
     let kept = subst (λ q. KeepsWithin q frames before (ends_picture (nal_unit_type c.args.bytes.now.header)) c.args.state.now) mode k in
     record {

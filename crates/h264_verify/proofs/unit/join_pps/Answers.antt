@@ -13,6 +13,7 @@ use Rattle.h264_plane.specs.declared.frame.Frame.{Frame}
 use Rattle.h264_verify.specs.Telling.{took_with}
 use Rattle.h264_verify.specs.Outcome.{Plays, structure_outcome}
 use Rattle.h264_verify.specs.Content as contents
+use Rattle.h264_verify.specs.UnitTypes.{type_number}
 use Rattle.h264_verify.specs.UnitOutcome.{pps_outcome}
 use Rattle.h264_verify.proofs.Playing.{gives-plays, plays-gives, meets-plays}
 use Rattle.h264_verify.proofs.Memory.{answers-memory, error-as}
@@ -39,4 +40,4 @@ returns-in_err-set g c =
 pub returns-clause-joins : goal.returns-clause-joins
 returns-clause-joins g c =
     let first = rw c.requires.rbsp at c.new-bits.ensures in
-    λ frames before k. joins-on c.args.terms.mode frames _ _ _ before c.args.unit.now (pps_outcome c.args.terms.target c.args.unit.now) _ contents.OfPps _ _ _ _ _ (set-read c.args.terms.target frames _ _ c.args.unit.now _ _ _ _ _ first c.in_ok-set.ensures.meets c.in_ok-set.ensures.answers) (gives-plays _ _ (λ (u : Unit {0}). u) tt _) (passed-joins c.args.terms.mode frames before c.args.unit.now (contents.OfPps c.in_ok-set.set) c.args.kind c.args.state.now _ tt c.requires.ends c.requires.kind k c.pass.ensures.units (c.pass.ensures.sets ∙ c.put_pps.ensures.replaced ∙ ap (λ m. with_pps m c.in_ok-set.set) k.sets) c.pass.ensures.picture c.pass.ensures.due c.pass.ensures.others c.pass.ensures.decoder)
+    λ frames before k. joins-on c.args.terms.mode frames _ _ _ before c.args.unit.now (pps_outcome c.args.terms.target c.args.unit.now) _ contents.OfPps _ _ _ _ _ (set-read c.args.terms.target frames _ _ c.args.unit.now _ _ _ _ _ first c.in_ok-set.ensures.meets c.in_ok-set.ensures.answers) (gives-plays _ _ (λ (u : Unit {0}). u) tt _) (passed-joins c.args.terms.mode frames before c.args.unit.now (contents.OfPps c.in_ok-set.set) (type_number c.args.kind) c.args.state.now _ tt c.requires.ends c.requires.kind k c.pass.ensures.units (c.pass.ensures.sets ∙ c.put_pps.ensures.replaced ∙ ap (λ m. with_pps m c.in_ok-set.set) k.sets) c.pass.ensures.picture c.pass.ensures.due c.pass.ensures.others c.pass.ensures.decoder)

@@ -130,7 +130,7 @@ join-requires-clause-kept g c =
     let k = c.requires.kept in
     let ended = c.in_ok-close_if.ensures.ended k.before k.keeps.slices in
     let e = c.in_ok-close_if.ensures.closes c.args.terms.mode k.frames k.before k.keeps.slices k.keeps.decoder in
-    record { frames = e.made; before = k.before; keeps = within {mode = c.args.terms.mode} {frames = k.frames} {made = e.made} {before = k.before} c.args.state.now c.close_if.new.slices c.close_if.new.decoder k.keeps (rw c.ends_picture-ends.ensures at ended) (rw c.ends_picture-ends.ensures at e.keeps) }
+    record { frames = e.made; before = k.before; keeps = within {mode = c.args.terms.mode} {frames = k.frames} {made = e.made} {before = k.before} c.args.state.now c.close_if.new.slices c.close_if.new.decoder k.keeps (rw (c.ends_picture-ends.ensures, c.of.ensures) at ended) (rw (c.ends_picture-ends.ensures, c.of.ensures) at e.keeps) }
 
 pub returns-in_err-check_emulation-clause-turns : goal.returns-in_err-check_emulation-clause-turns
 returns-in_err-check_emulation-clause-turns g c =
@@ -156,17 +156,17 @@ returns-in_err-close_if-clause-turns g c =
     let p = err_from_is_err_and c.from_residual-in_err-close_if.result c.from_residual-in_err-close_if.ensures.1 in
     let header = rw (c.from-from.ensures.value, c.body-body.ensures.value) at c.in_ok-check_header.ensures in
     let says = rw (c.from-from.ensures.value, c.body-body.ensures.value) at c.in_ok-tell_unit.ensures.plays in
-    let closes = rw (c.ends_picture-ends.ensures, c.body-body.ensures.value) at c.in_err-close_if.ensures.closes in
+    let closes = rw (c.ends_picture-ends.ensures, c.of.ensures, c.body-body.ensures.value) at c.in_err-close_if.ensures.closes in
     rw (p.1, p.2) (λ frames before k. stops-closing c.args.terms _ _ frames before c.args.unit.now _ _ _ _ _ _ _ _ _ c.in_ok-check_emulation.ensures.value header says (closes c.args.terms.mode frames before k.slices k.decoder))
 
 pub returns-clause-turns : goal.returns-clause-turns
 returns-clause-turns g c =
     let header = rw (c.from-from.ensures.value, c.body-body.ensures.value) at c.in_ok-check_header.ensures in
     let says = rw (c.from-from.ensures.value, c.body-body.ensures.value) at c.in_ok-tell_unit.ensures.plays in
-    let closes = rw (c.ends_picture-ends.ensures, c.body-body.ensures.value) at c.in_ok-close_if.ensures.closes in
+    let closes = rw (c.ends_picture-ends.ensures, c.of.ensures, c.body-body.ensures.value) at c.in_ok-close_if.ensures.closes in
     let joins = rw c.body-body.ensures.value at c.join.ensures.joins in
     λ frames before k.
-    let slices = rw (c.ends_picture-ends.ensures, c.body-body.ensures.value) at (c.in_ok-close_if.ensures.ended before k.slices) in
+    let slices = rw (c.ends_picture-ends.ensures, c.of.ensures, c.body-body.ensures.value) at (c.in_ok-close_if.ensures.ended before k.slices) in
     let e = closes c.args.terms.mode frames before k.slices k.decoder in
     let j = joins e.made before (within {mode = c.args.terms.mode} {frames = frames} {made = e.made} {before = before} c.args.state.now c.close_if.new.slices c.close_if.new.decoder k slices e.keeps) in
     turns-by c.args.terms _ _ frames before c.args.unit.now _ _ _ _ _ _ _ _ _ _ _ c.in_ok-check_emulation.ensures.value header says e j
@@ -195,9 +195,9 @@ returns-in_err-close_if-clause-no_memory g c =
 
 pub returns-clause-no_memory : goal.returns-clause-no_memory
 returns-clause-no_memory g c =
-    let closes = rw (c.ends_picture-ends.ensures, c.body-body.ensures.value) at c.in_ok-close_if.ensures.closes in
+    let closes = rw (c.ends_picture-ends.ensures, c.of.ensures, c.body-body.ensures.value) at c.in_ok-close_if.ensures.closes in
     let joins = rw c.body-body.ensures.value at c.join.ensures.no_memory in
     λ frames before k m.
-    let slices = rw (c.ends_picture-ends.ensures, c.body-body.ensures.value) at (c.in_ok-close_if.ensures.ended before k.slices) in
+    let slices = rw (c.ends_picture-ends.ensures, c.of.ensures, c.body-body.ensures.value) at (c.in_ok-close_if.ensures.ended before k.slices) in
     let e = closes c.args.terms.mode frames before k.slices k.decoder in
     joins e.made before (within {mode = c.args.terms.mode} {frames = frames} {made = e.made} {before = before} c.args.state.now c.close_if.new.slices c.close_if.new.decoder k slices e.keeps) m

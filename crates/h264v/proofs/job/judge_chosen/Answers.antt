@@ -1,6 +1,7 @@
 use Rattle.std.proofs.Common.{◌∙◌}
 use Rattle.h264_plane.specs.Frames.{no_frame}
 use Rattle.h264_report.proofs.Accounts.{accounts}
+use Rattle.h264_report.specs.Chosen.{pending_call}
 use Rattle.h264_report.specs.Written.{calls_in}
 use Rattle.h264v.proofs.Texts.{left-some}
 use Rattle.h264v.proofs.Answered.{answered, chosen-calls, took-calls}
@@ -18,4 +19,4 @@ pub returns-clause-some : goal.returns-clause-some
 returns-clause-some g c none =
     let n = c.run-answer.new.sink in
     let a = accounts {s' = n} (c.run-answer.ensures.some.4 (λ k. no_frame)) (c.new-narrowed.ensures.choice ∙ c.requires.choice, c.new-narrowed.ensures.took none) in
-    left-some g.S.Elements.took n.choice n.broke_off n.reading n.pending n.sink (calls_in a.0) a.1.1
+    left-some g.S.Elements.took n.choice n.broke_off n.reading (pending_call n.pending) n.sink (calls_in a.0) a.1.1

@@ -1,5 +1,6 @@
 use Rattle.std.proofs.Common.{◌≡◌, ◌+◌, ap, arith}
 use Rattle.h264_base.specs.Call.{OfUnit}
+use Rattle.h264_verify.specs.UnitTypes.{type_number}
 use Rattle.h264_report.specs.Told.{counted}
 use Rattle.h264_report.specs.Objects.{opening_of}
 use Rattle.h264_report.proofs.Sinks.{take-line, unsent-line, on-ok, err-map}
@@ -7,7 +8,7 @@ use Rattle.h264_report.proofs.line_sink.LineSink.put_unit.Goals as goal
 
 pub returns-clause-ok : goal.returns-clause-ok
 returns-clause-ok g c start before h =
-    let call = OfUnit c.args.byte c.args.nal_unit_type c.args.nal_ref_idc c.args.length in
+    let call = OfUnit c.args.byte (type_number c.args.nal_unit_type) c.args.nal_ref_idc c.args.length in
     let same : c.put_line.new.self.frames ≡ c.args.self.now.frames + counted c.args.self.now.listing call =
     let e = c.put_line.ensures.frames in let d = c.requires.uncounted in omega (arith, e, d) in
     rw (c.put_line.ensures.form, c.put_line.ensures.listing) (on-ok c.put_line.result (λ b s. take-line call (c.requires.line c.args.self.now.frames) c.requires.whole same h s b) c.put_line.ensures.blamed (c.put_line.ensures.ok _ c.put_unit-made.ensures))

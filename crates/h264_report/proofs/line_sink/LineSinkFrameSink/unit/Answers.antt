@@ -1,5 +1,6 @@
 use Rattle.std.proofs.Common.{ap, refl, ◌∙◌}
 use Rattle.h264_base.specs.Call.{OfUnit}
+use Rattle.h264_verify.specs.UnitTypes.{type_number}
 use Rattle.h264_report.specs.Told.{line_of, counted}
 use Rattle.h264_report.specs.Objects.{opening_of}
 use Rattle.h264_report.proofs.Sinks.{skipped, lines-none, on-err-all, ok-map, err-map, ok-tells, err-tells}
@@ -7,17 +8,17 @@ use Rattle.h264_report.proofs.line_sink.LineSinkFrameSink.unit.Goals as goal
 
 pub returns-in-Nothing : goal.returns-in-Nothing
 returns-in-Nothing g c =
-    let call = OfUnit c.args.byte c.args.nal_unit_type c.args.nal_ref_idc c.args.length in
+    let call = OfUnit c.args.byte (type_number c.args.nal_unit_type) c.args.nal_ref_idc c.args.length in
     record { ok = record { told = λ before h. skipped call (λ m. ap (λ l. line_of (opening_of c.args.self.now.form) l m call) c.in-Nothing.is) (ap (λ l. counted l call) c.in-Nothing.is) (c.is_stopped.ensures.whole c.if-is_stopped.false) h }; kept = refl; refused = tt; failed = tt }
 
 pub returns-in-Slices : goal.returns-in-Slices
 returns-in-Slices g c =
-    let call = OfUnit c.args.byte c.args.nal_unit_type c.args.nal_ref_idc c.args.length in
+    let call = OfUnit c.args.byte (type_number c.args.nal_unit_type) c.args.nal_ref_idc c.args.length in
     record { ok = record { told = λ before h. skipped call (λ m. ap (λ l. line_of (opening_of c.args.self.now.form) l m call) c.in-Slices.is) (ap (λ l. counted l call) c.in-Slices.is) (c.is_stopped.ensures.whole c.if-is_stopped.false) h }; kept = refl; refused = tt; failed = tt }
 
 pub returns-in-Frames : goal.returns-in-Frames
 returns-in-Frames g c =
-    let call = OfUnit c.args.byte c.args.nal_unit_type c.args.nal_ref_idc c.args.length in
+    let call = OfUnit c.args.byte (type_number c.args.nal_unit_type) c.args.nal_ref_idc c.args.length in
     record { ok = record { told = λ before h. skipped call (λ m. ap (λ l. line_of (opening_of c.args.self.now.form) l m call) c.in-Frames.is) (ap (λ l. counted l call) c.in-Frames.is) (c.is_stopped.ensures.whole c.if-is_stopped.false) h }; kept = refl; refused = tt; failed = tt }
 
 pub returns-then-is_stopped-clause-refused : goal.returns-then-is_stopped-clause-refused
