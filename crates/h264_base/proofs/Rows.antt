@@ -1,5 +1,6 @@
 -- The row that stands at a place is the one that is found, so there is at most one.
-use Rattle.std.proofs.Common.{◌≡◌, ℕ, zero, suc, ◌+◌, ◌*◌, ◌-◌, ◌/◌, ◌^◌, ◌<◌, ◌≤◌, Bool, true, false, not, List, [], ◌∷◌, Option, Some, None, refl, ap, sym, ◌∙◌, arith, if◌then◌else◌, ◌==◌, ◌&&◌, inl, inr}
+use Rattle.std.proofs.Common.{◌≡◌, ℕ, zero, suc, ◌+◌, ◌*◌, ◌-◌, ◌/◌, ◌^◌, ◌<◌, ◌≤◌, Bool, true, false, not, List, [], ◌∷◌, Option, Some, None, refl, ap, sym}
+use Rattle.std.proofs.Common.{◌∙◌, arith, if◌then◌else◌, ◌==◌, ◌&&◌, inl, inr}
 use Rattle.std.proofs.lemmas.Bool.{and_parts, eqb-true, eq-eqb, le-leb, cases_lt, false≢true}
 use Rattle.std.proofs.lemmas.Nat.{pow-add, pow_pos}
 use Rattle.std.proofs.Math.Nat.{mul-add-div_right, div-eq_of_lt}
@@ -55,7 +56,8 @@ nested (suc m) (suc n) x bytes i h e =
 some-same : (a b : ℕ) → ◌≡◌ {A = Option ℕ} (Some a) (Some b) → a ≡ b
 some-same a b e = cc
 
-prefix : (q r : Row) (bytes : List ℕ) (i : ℕ) → q.length ≤ r.length → number_at q.length bytes i ≡ Some q.bits → number_at r.length bytes i ≡ Some r.bits → is_prefix q r ≡ true
+prefix : (q r : Row) (bytes : List ℕ) (i : ℕ) → q.length ≤ r.length → number_at q.length bytes i ≡ Some q.bits → number_at r.length bytes i ≡ Some r.bits →
+    is_prefix q r ≡ true
 unfolding is_prefix
 prefix q r bytes i g e f = rw (le-leb q.length r.length g) (eq-eqb _ _ (some-same _ _ (sym (nested q.length r.length r.bits bytes i g f) ∙ e)))
 
@@ -73,7 +75,8 @@ apart-from q r (s ∷ rows) h (inl e) =
 apart-from q r (s ∷ rows) h (inr m) = apart-from q r rows (and_parts (not (is_prefix q s) && not (is_prefix s q)) (is_apart q rows) h).1 m
 
 -- the row whose word stands there is found
-pub row-found : (rows : List Row) (r : Row) (bytes : List ℕ) (i : ℕ) → is_prefix_free rows ≡ true → IsRow rows r → number_at r.length bytes i ≡ Some r.bits → rows_at rows bytes i ≡ Some (r.value, i + r.length)
+pub row-found : (rows : List Row) (r : Row) (bytes : List ℕ) (i : ℕ) → is_prefix_free rows ≡ true → IsRow rows r → number_at r.length bytes i ≡ Some r.bits →
+    rows_at rows bytes i ≡ Some (r.value, i + r.length)
 unfolding rows_at is_prefix_free
 row-found [] r bytes i h m e = absurd m
 row-found (q ∷ rows) r bytes i h (inl s) e = rw (s, e, eq-eqb r.bits r.bits refl) refl
@@ -81,7 +84,8 @@ row-found (q ∷ rows) r bytes i h (inr m) e =
     let s = and_parts (is_apart q rows) (is_prefix_free rows) h in
     rw (go (number_at q.length bytes i) refl (apart-from q r rows s.0 m)) (row-found rows r bytes i s.1 m e)
   where
-    two : (x : ℕ) → number_at q.length bytes i ≡ Some x → (is_prefix q r ≡ false) × (is_prefix r q ≡ false) → (b : Bool) → (x == q.bits) ≡ b → (x == q.bits) ≡ false
+    two : (x : ℕ) → number_at q.length bytes i ≡ Some x → (is_prefix q r ≡ false) × (is_prefix r q ≡ false) → (b : Bool) → (x == q.bits) ≡ b →
+        (x == q.bits) ≡ false
     two x f a false g = g
     two x f a true g = absurd (let y : x ≡ q.bits = eqb-true _ _ g in let f' = f ∙ ap Some y in elim (cases_lt q.length r.length) [
       | inl less ↦ false≢true (sym a.0 ∙ prefix q r bytes i (omega arith) f' e)
@@ -111,7 +115,9 @@ end_or (Some x) = x.1
 found-later : (r : Row) (rows : List Row) (bytes : List ℕ) (i v j : ℕ) → FoundRow rows bytes i v j → FoundRow (r ∷ rows) bytes i v j
 found-later r rows bytes i v j p = record { row = p.row; is_row = inr p.is_row; stands = p.stands; value = p.value; end = p.end }
 
-found-here : (r : Row) (rows : List Row) (bytes : List ℕ) (i v j x : ℕ) → number_at r.length bytes i ≡ Some x → (rows_at rows bytes i ≡ Some (v, j) → FoundRow rows bytes i v j) → (b : Bool) → (x == r.bits) ≡ b → (if b then Some (r.value, i + r.length) else rows_at rows bytes i) ≡ Some (v, j) → FoundRow (r ∷ rows) bytes i v j
+found-here : (r : Row) (rows : List Row) (bytes : List ℕ) (i v j x : ℕ) → number_at r.length bytes i ≡ Some x →
+    (rows_at rows bytes i ≡ Some (v, j) → FoundRow rows bytes i v j) → (b : Bool) → (x == r.bits) ≡ b →
+    (if b then Some (r.value, i + r.length) else rows_at rows bytes i) ≡ Some (v, j) → FoundRow (r ∷ rows) bytes i v j
 unfolding value_or end_or
 found-here r rows bytes i v j x f more true g e = record {
   row = r;
@@ -122,7 +128,9 @@ found-here r rows bytes i v j x f more true g e = record {
 }
 found-here r rows bytes i v j x f more false g e = found-later r rows bytes i v j (more e)
 
-found-next : (r : Row) (rows : List Row) (bytes : List ℕ) (i v j : ℕ) → (rows_at rows bytes i ≡ Some (v, j) → FoundRow rows bytes i v j) → (o : Option ℕ) → number_at r.length bytes i ≡ o → (if spells r.bits o then Some (r.value, i + r.length) else rows_at rows bytes i) ≡ Some (v, j) → FoundRow (r ∷ rows) bytes i v j
+found-next : (r : Row) (rows : List Row) (bytes : List ℕ) (i v j : ℕ) → (rows_at rows bytes i ≡ Some (v, j) → FoundRow rows bytes i v j) →
+    (o : Option ℕ) → number_at r.length bytes i ≡ o → (if spells r.bits o then Some (r.value, i + r.length) else rows_at rows bytes i) ≡ Some (v, j) →
+    FoundRow (r ∷ rows) bytes i v j
 found-next r rows bytes i v j more None f e = found-later r rows bytes i v j (more e)
 found-next r rows bytes i v j more (Some x) f e = found-here r rows bytes i v j x f more (x == r.bits) refl e
 

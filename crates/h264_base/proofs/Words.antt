@@ -1,10 +1,12 @@
 -- The functions on bits find the words.
-use Rattle.std.proofs.Common.{◌≡◌, ℕ, ◌+◌, ◌*◌, ◌-◌, ◌^◌, ◌<◌, ◌≤◌, ℤ, pos, zero, suc, Bool, true, false, not, ◌&&◌, nat_lt, nat_le, List, [], ◌∷◌, ◌++◌, length, replicate, Option, Some, None, refl, ap, sym, ◌∙◌, subst, arith, if◌then◌else◌}
+use Rattle.std.proofs.Common.{◌≡◌, ℕ, ◌+◌, ◌*◌, ◌-◌, ◌^◌, ◌<◌, ◌≤◌, ℤ, pos, zero, suc, Bool, true, false, not, ◌&&◌, nat_lt, nat_le, List, [], ◌∷◌, ◌++◌}
+use Rattle.std.proofs.Common.{length, replicate, Option, Some, None, refl, ap, sym, ◌∙◌, subst, arith, if◌then◌else◌}
 use Rattle.std.proofs.lemmas.List.{length-replicate}
 use Rattle.std.proofs.Common.{pow_pos, length-append, ltb-true, leb-true, lt-ltb, le-leb}
 use Rattle.std.specs.Cmp.Derive.{both_true}
 use Rattle.std.specs.Option.{option_map, option_and_then}
-use Rattle.h264_base.specs.Word.{Code, Fixed, Unsigned, Signed, Words, Reads, StandsAt, IsGolomb, Word, number, digit, bit_of, number_at, zeros_at, golomb_at, rows_at, value_at, closes_at, ends_at, no_zero_at, signed, is_bit, stands_at}
+use Rattle.h264_base.specs.Word.{Code, Fixed, Unsigned, Signed, Words, Reads, StandsAt, IsGolomb, Word, number, digit, bit_of, number_at, zeros_at, golomb_at}
+use Rattle.h264_base.specs.Word.{rows_at, value_at, closes_at, ends_at, no_zero_at, signed, is_bit, stands_at}
 use Rattle.h264_base.proofs.Chains.{map-some, then-some}
 use Rattle.h264_base.proofs.Rows.{row-found, found-row}
 use Rattle.h264_base.specs.Grammar.{Ends, HasMore, IsClosed}
@@ -33,7 +35,9 @@ ZerosStand n bytes i rest k = (k < n) × StandsAt bytes i (replicate k false ++ 
 moved : (bytes : List ℕ) (rest : Word) (i j : ℕ) → i ≡ j → StandsAt bytes i rest → StandsAt bytes j rest
 moved bytes rest i j e s = let P : ℕ → Type 0 = λ q. StandsAt bytes q rest in subst P e s
 
-zeros-later : (n : ℕ) (bytes : List ℕ) (i k : ℕ) (rest : Word) → ((k : ℕ) → zeros_at n bytes (i + 1) ≡ Some k → StandsAt bytes (i + 1 + k + 1) rest → ZerosStand n bytes (i + 1) rest k) → bit_of bytes i ≡ Some false → (o : Option ℕ) → zeros_at n bytes (i + 1) ≡ o → option_map suc o ≡ Some k → StandsAt bytes (i + k + 1) rest → ZerosStand (suc n) bytes i rest k
+zeros-later : (n : ℕ) (bytes : List ℕ) (i k : ℕ) (rest : Word) →
+    ((k : ℕ) → zeros_at n bytes (i + 1) ≡ Some k → StandsAt bytes (i + 1 + k + 1) rest → ZerosStand n bytes (i + 1) rest k) → bit_of bytes i ≡ Some false →
+    (o : Option ℕ) → zeros_at n bytes (i + 1) ≡ o → option_map suc o ≡ Some k → StandsAt bytes (i + k + 1) rest → ZerosStand (suc n) bytes i rest k
 zeros-later n bytes i k rest h b o f g s =
     let p = map-some suc o k g in
     let q = p.2 in
@@ -41,9 +45,13 @@ zeros-later n bytes i k rest h b o f g s =
     let below = more.0 in
     subst (ZerosStand (suc n) bytes i rest) p.2 (omega arith, (b, more.1))
 
-zeros-next : (n : ℕ) (bytes : List ℕ) (i k : ℕ) (rest : Word) → ((k : ℕ) → zeros_at n bytes (i + 1) ≡ Some k → StandsAt bytes (i + 1 + k + 1) rest → ZerosStand n bytes (i + 1) rest k) → (o : Option Bool) → bit_of bytes i ≡ o → option_and_then (λ b. if b then Some 0 else option_map suc (zeros_at n bytes (i + 1))) o ≡ Some k → StandsAt bytes (i + k + 1) rest → ZerosStand (suc n) bytes i rest k
+zeros-next : (n : ℕ) (bytes : List ℕ) (i k : ℕ) (rest : Word) →
+    ((k : ℕ) → zeros_at n bytes (i + 1) ≡ Some k → StandsAt bytes (i + 1 + k + 1) rest → ZerosStand n bytes (i + 1) rest k) →
+    (o : Option Bool) → bit_of bytes i ≡ o → option_and_then (λ b. if b then Some 0 else option_map suc (zeros_at n bytes (i + 1))) o ≡ Some k →
+    StandsAt bytes (i + k + 1) rest → ZerosStand (suc n) bytes i rest k
 zeros-next n bytes i k rest h None b g s = absurd (cc)
-zeros-next n bytes i k rest h (Some true) b g s = let z : 0 ≡ k = cc in subst (ZerosStand (suc n) bytes i rest) z (omega arith, (b, moved bytes rest (i + k + 1) (i + 1) (omega arith) s))
+zeros-next n bytes i k rest h (Some true) b g s = let z : 0 ≡ k = cc in
+    subst (ZerosStand (suc n) bytes i rest) z (omega arith, (b, moved bytes rest (i + k + 1) (i + 1) (omega arith) s))
 zeros-next n bytes i k rest h (Some false) b g s = zeros-later n bytes i k rest h b (zeros_at n bytes (i + 1)) refl g s
 
 pub zeros-stand : (n : ℕ) (bytes : List ℕ) (i k : ℕ) (rest : Word) → zeros_at n bytes i ≡ Some k → StandsAt bytes (i + k + 1) rest → ZerosStand n bytes i rest k
@@ -51,10 +59,12 @@ unfolding zeros_at
 zeros-stand zero bytes i k rest e s = absurd (cc)
 zeros-stand (suc n) bytes i k rest e s = zeros-next n bytes i k rest (λ k. zeros-stand n bytes (i + 1) k rest) (bit_of bytes i) refl e s
 
-stands-zeros : (n k : ℕ) (bytes : List ℕ) (i : ℕ) (rest : Word) → k < n → StandsAt bytes i (replicate k false ++ true ∷ rest) → (zeros_at n bytes i ≡ Some k) × StandsAt bytes (i + k + 1) rest
+stands-zeros : (n k : ℕ) (bytes : List ℕ) (i : ℕ) (rest : Word) → k < n → StandsAt bytes i (replicate k false ++ true ∷ rest) →
+    (zeros_at n bytes i ≡ Some k) × StandsAt bytes (i + k + 1) rest
 unfolding zeros_at
 stands-zeros zero k bytes i rest h s = absurd (omega arith)
-stands-zeros (suc n) zero bytes i rest h s = (rw s.0 refl, let P : ℕ → Type 0 = λ q. StandsAt bytes q rest in let e : i + 1 ≡ i + 0 + 1 = omega arith in subst P e s.1)
+stands-zeros (suc n) zero bytes i rest h s =
+    (rw s.0 refl, let P : ℕ → Type 0 = λ q. StandsAt bytes q rest in let e : i + 1 ≡ i + 0 + 1 = omega arith in subst P e s.1)
 stands-zeros (suc n) (suc k) bytes i rest h s =
     let more = stands-zeros n k bytes (i + 1) rest (omega arith) s.1 in
     (rw (s.0, more.0) refl, let P : ℕ → Type 0 = λ p. StandsAt bytes p rest in let e : i + 1 + k + 1 ≡ i + suc k + 1 = omega arith in subst P e more.1)
@@ -114,8 +124,13 @@ value-reads Signed bytes i v j e =
 value-reads (Words t) bytes i v j e =
     let first = map-some (λ (x : ℕ × ℕ). (pos x.0, x.1)) (rows_at t.rows bytes i) (v, j) e in
     let f = found-row t.rows bytes i first.0.0 first.0.1 first.1 in
-    let w = number-stands f.row.length bytes i f.row.bits f.stands in
-    (w.0, (f.row, f.is_row, (w.1, w.2), sym (ap (λ (p : ℤ × ℕ). p.0) first.2) ∙ ap pos (sym f.value)), w.3, sym (ap (λ (p : ℤ × ℕ). p.1) first.2) ∙ sym f.end ∙ ap (λ k. i + k) (sym w.1))
+    let w = number-stands f.row.length bytes i f.row.bits f.stands in (
+      w.0,
+      (f.row, f.is_row, (w.1, w.2), sym (ap (λ (p : ℤ × ℕ). p.0) first.2) ∙ ap pos (sym f.value)),
+      w.3,
+      sym (ap (λ (p : ℤ × ℕ). p.1) first.2) ∙
+          sym f.end ∙ ap (λ k. i + k) (sym w.1),
+    )
 
 pub reads-value : (code : Code) (bytes : List ℕ) (i : ℕ) (v : ℤ) (j : ℕ) → Reads code bytes i v j → value_at code bytes i ≡ Some (v, j)
 unfolding value_at
@@ -211,7 +226,8 @@ closes-from bytes i h =
     let whole = h.2.1 in
     both_true (le-leb (8 * length bytes) (i + 8) (omega arith)) (ends-from bytes i h.0 h.2)
 
-padded-next : (n : ℕ) (bytes : List ℕ) (i : ℕ) → (no_zero_at n bytes (i + 1) ≡ None → StandsAt bytes (i + 1) (replicate n false)) → (b : Bool) → is_bit false (bit_of bytes i) ≡ b → (if b then no_zero_at n bytes (i + 1) else Some i) ≡ None → StandsAt bytes i (replicate (suc n) false)
+padded-next : (n : ℕ) (bytes : List ℕ) (i : ℕ) → (no_zero_at n bytes (i + 1) ≡ None → StandsAt bytes (i + 1) (replicate n false)) →
+    (b : Bool) → is_bit false (bit_of bytes i) ≡ b → (if b then no_zero_at n bytes (i + 1) else Some i) ≡ None → StandsAt bytes i (replicate (suc n) false)
 padded-next n bytes i more true f e = (bit-is false (bit_of bytes i) f, more e)
 padded-next n bytes i more false f e = absurd (cc)
 
@@ -242,16 +258,26 @@ pub record FirstSet (n : ℕ) (bytes : List ℕ) (i j : ℕ) : Type 0 where
   pub set : bit_of bytes j ≡ Some false → ⊥
   pub is : j ≡ i + zeros
 
-unpadded-next : (n : ℕ) (bytes : List ℕ) (i j : ℕ) → (no_zero_at n bytes (i + 1) ≡ Some j → FirstSet n bytes (i + 1) j) → (b : Bool) → is_bit false (bit_of bytes i) ≡ b → (if b then no_zero_at n bytes (i + 1) else Some i) ≡ Some j → FirstSet (suc n) bytes i j
-unpadded-next n bytes i j more true f e = let p = more e in let few = p.few in let is = p.is in record { zeros = suc p.zeros; few = omega arith; stands = (bit-is false (bit_of bytes i) f, p.stands); set = p.set; is = omega arith }
-unpadded-next n bytes i j more false f e = let same : i ≡ j = cc in record { zeros = 0; few = omega arith; stands = tt; set = λ h. let z = is_zero (bit_of bytes i) (rw same h) in let c : true ≡ false = sym z ∙ f in cc; is = omega arith }
+unpadded-next : (n : ℕ) (bytes : List ℕ) (i j : ℕ) → (no_zero_at n bytes (i + 1) ≡ Some j → FirstSet n bytes (i + 1) j) →
+    (b : Bool) → is_bit false (bit_of bytes i) ≡ b → (if b then no_zero_at n bytes (i + 1) else Some i) ≡ Some j → FirstSet (suc n) bytes i j
+unpadded-next n bytes i j more true f e = let p = more e in let few = p.few in let is = p.is in
+    record { zeros = suc p.zeros; few = omega arith; stands = (bit-is false (bit_of bytes i) f, p.stands); set = p.set; is = omega arith }
+unpadded-next n bytes i j more false f e = let same : i ≡ j = cc in
+    record {
+      zeros = 0;
+      few = omega arith;
+      stands = tt;
+      set = λ h. let z = is_zero (bit_of bytes i) (rw same h) in let c : true ≡ false = sym z ∙ f in cc;
+      is = omega arith;
+    }
 
 pub unpadded-from : (n : ℕ) (bytes : List ℕ) (i j : ℕ) → no_zero_at n bytes i ≡ Some j → FirstSet n bytes i j
 unfolding no_zero_at
 unpadded-from zero bytes i j e = absurd (cc)
 unpadded-from (suc n) bytes i j e = unpadded-next n bytes i j (λ h. unpadded-from n bytes (i + 1) j h) (is_bit false (bit_of bytes i)) refl e
 
-pub from-unpadded : (n : ℕ) (bytes : List ℕ) (i k : ℕ) → k < n → StandsAt bytes i (replicate k false) → (bit_of bytes (i + k) ≡ Some false → ⊥) → no_zero_at n bytes i ≡ Some (i + k)
+pub from-unpadded : (n : ℕ) (bytes : List ℕ) (i k : ℕ) → k < n → StandsAt bytes i (replicate k false) → (bit_of bytes (i + k) ≡ Some false → ⊥) →
+    no_zero_at n bytes i ≡ Some (i + k)
 unfolding no_zero_at
 from-unpadded zero bytes i k h s e = absurd (omega arith)
 from-unpadded (suc n) bytes i zero h s e =

@@ -1,5 +1,6 @@
 -- Bits that are 0, and the last 1.
-use Rattle.std.proofs.Common.{◌≡◌, ◌≢◌, ℕ, zero, suc, ◌+◌, ◌*◌, ◌-◌, ◌/◌, ◌%◌, ◌^◌, ◌<◌, ◌≤◌, Bool, true, false, not, List, length, replicate, Some, None, refl, ap, sym, ◌∙◌, arith, ◌==◌, inl, inr}
+use Rattle.std.proofs.Common.{◌≡◌, ◌≢◌, ℕ, zero, suc, ◌+◌, ◌*◌, ◌-◌, ◌/◌, ◌%◌, ◌^◌, ◌<◌, ◌≤◌, Bool, true, false, not, List, length, replicate, Some, None}
+use Rattle.std.proofs.Common.{refl, ap, sym, ◌∙◌, arith, ◌==◌, inl, inr}
 use Rattle.std.specs.Prelude.{slice_index}
 use Rattle.std.specs.Int.{w8, bit_at, trailing_zeros}
 use Rattle.std.proofs.lemmas.Nat.{pow_pos}
@@ -38,8 +39,10 @@ AreClear bytes i n = (j : ℕ) → i ≤ j → j < i + n → bit_or_zero bytes j
 pub clear-stand : (n : ℕ) (bytes : List ℕ) (i : ℕ) → i + n ≤ 8 * length bytes → AreClear bytes i n → StandsAt bytes i (replicate n false)
 clear-stand zero bytes i h z = tt
 clear-stand (suc n) bytes i h z =
-    let b = bit-inside bytes i (omega arith) in
-    (b.1 ∙ ap Some (zero-bit b.0 _ b.2 (z i (omega arith) (omega arith))), clear-stand n bytes (i + 1) (omega arith) (λ j low high. z j (omega arith) (omega arith)))
+    let b = bit-inside bytes i (omega arith) in (
+      b.1 ∙ ap Some (zero-bit b.0 _ b.2 (z i (omega arith) (omega arith))),
+      clear-stand n bytes (i + 1) (omega arith) (λ j low high. z j (omega arith) (omega arith)),
+    )
 
 bit-seen : (bytes : List ℕ) (i : ℕ) (b : Bool) → i < 8 * length bytes → bit_of bytes i ≡ Some b → bit_or_zero bytes i ≡ digit b
 bit-seen bytes i b h e = let c = bit-inside bytes i h in let f : Some c.0 ≡ Some b = sym c.1 ∙ e in let g : c.0 ≡ b = cc in sym c.2 ∙ ap digit g
@@ -117,7 +120,8 @@ unfolding bit_or_zero
 clear_bit bytes k x j is d e = rw (d, is) e
 
 -- the lowest 1 of the last byte that is not 0
-pub last-in : (bytes : List ℕ) (k x t : ℕ) → k < length bytes → slice_index bytes k ≡ x → 0 < x → x < 256 → t ≡ trailing_zeros w8 x → AreZeros bytes (k + 1) → IsLastOne bytes (8 * k + 7 - t)
+pub last-in : (bytes : List ℕ) (k x t : ℕ) → k < length bytes → slice_index bytes k ≡ x → 0 < x → x < 256 → t ≡ trailing_zeros w8 x → AreZeros bytes (k + 1) →
+    IsLastOne bytes (8 * k + 7 - t)
 last-in bytes k x t inside is some small e zeros =
     let low = bit_at-trailing_zeros w8 x some small in
     let few : t < 8 = (let f = low.0 in omega arith) in

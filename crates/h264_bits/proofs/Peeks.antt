@@ -1,5 +1,6 @@
 -- What a window of bits says of the codes that begin in it.
-use Rattle.std.proofs.Common.{◌≡◌, ◌≢◌, ℕ, zero, suc, ◌+◌, ◌*◌, ◌-◌, ◌/◌, ◌%◌, ◌^◌, ◌<◌, ◌≤◌, ℤ, pos, neg_ℤ, Bool, true, false, List, [], ◌∷◌, length, Option, Some, None, refl, ap, sym, ◌∙◌, arith, ◌==◌, ◌⊎◌, inl, inr}
+use Rattle.std.proofs.Common.{◌≡◌, ◌≢◌, ℕ, zero, suc, ◌+◌, ◌*◌, ◌-◌, ◌/◌, ◌%◌, ◌^◌, ◌<◌, ◌≤◌, ℤ, pos, neg_ℤ, Bool, true, false, List, [], ◌∷◌, length, Option}
+use Rattle.std.proofs.Common.{Some, None, refl, ap, sym, ◌∙◌, arith, ◌==◌, ◌⊎◌, inl, inr}
 use Rattle.std.specs.Option.{option_map}
 use Rattle.std.specs.Prelude.{slice_index}
 use Rattle.std.proofs.lemmas.Option.{slice_get-get_or, slice_get_past, some_pair_parts}
@@ -51,7 +52,8 @@ bit-in-byte : (bytes : List ℕ) (k j : ℕ) → j < 8 → bit_or_zero bytes (8 
 unfolding bit_or_zero
 bit-in-byte bytes k j h = let d : (8 * k + j) / 8 ≡ k = omega arith in let m : (8 * k + j) % 8 ≡ j = omega arith in rw (d, m) refl
 
-byte-bits : (x : ℕ) → x < 256 → x / 128 % 2 * 128 + (x / 64 % 2 * 64 + (x / 32 % 2 * 32 + (x / 16 % 2 * 16 + (x / 8 % 2 * 8 + (x / 4 % 2 * 4 + (x / 2 % 2 * 2 + (x / 1 % 2 * 1 + 0))))))) ≡ x
+byte-bits : (x : ℕ) → x < 256 → x / 128 % 2 * 128 +
+    (x / 64 % 2 * 64 + (x / 32 % 2 * 32 + (x / 16 % 2 * 16 + (x / 8 % 2 * 8 + (x / 4 % 2 * 4 + (x / 2 % 2 * 2 + (x / 1 % 2 * 1 + 0))))))) ≡ x
 byte-bits x h = omega arith
 
 at-plus : (bytes : List ℕ) (i j k : ℕ) → i ≡ 8 * k + j → j < 8 → bit_or_zero bytes i ≡ slice_index bytes k / 2 ^ (7 - j) % 2
@@ -60,15 +62,29 @@ at-plus bytes i j k e h = rw e (bit-in-byte bytes k j h)
 pub peek-byte : (bytes : List ℕ) (i k : ℕ) → i ≡ 8 * k → slice_index bytes k < 256 → peek_at 8 bytes i ≡ slice_index bytes k
 unfolding peek_at
 peek-byte bytes i k e h =
-    rw (at-plus bytes i 0 k (omega arith) (omega arith), at-plus bytes (i + 1) 1 k (omega arith) (omega arith), at-plus bytes (i + 1 + 1) 2 k (omega arith) (omega arith), at-plus bytes (i + 1 + 1 + 1) 3 k (omega arith) (omega arith), at-plus bytes (i + 1 + 1 + 1 + 1) 4 k (omega arith) (omega arith), at-plus bytes (i + 1 + 1 + 1 + 1 + 1) 5 k (omega arith) (omega arith), at-plus bytes (i + 1 + 1 + 1 + 1 + 1 + 1) 6 k (omega arith) (omega arith), at-plus bytes (i + 1 + 1 + 1 + 1 + 1 + 1 + 1) 7 k (omega arith) (omega arith))
+    rw (
+      at-plus bytes i 0 k (omega arith) (omega arith),
+      at-plus bytes (i + 1) 1 k (omega arith) (omega arith),
+      at-plus bytes (i + 1 + 1) 2 k (omega arith) (omega arith),
+      at-plus bytes (i + 1 + 1 + 1) 3 k (omega arith) (omega arith),
+      at-plus bytes (i + 1 + 1 + 1 + 1) 4 k (omega arith) (omega arith),
+      at-plus bytes (i + 1 + 1 + 1 + 1 + 1) 5 k (omega arith) (omega arith),
+      at-plus bytes (i + 1 + 1 + 1 + 1 + 1 + 1) 6 k (omega arith) (omega arith),
+      at-plus bytes (i + 1 + 1 + 1 + 1 + 1 + 1 + 1) 7 k (omega arith) (omega arith),
+    )
     (byte-bits (slice_index bytes k) h)
 
 -- one more byte
-pub peek-more : (bytes : List ℕ) (k j n : ℕ) → n ≡ 8 * j → slice_index bytes (k + j) < 256 → peek_at (n + 8) bytes (8 * k) ≡ peek_at n bytes (8 * k) * 256 + slice_index bytes (k + j)
-peek-more bytes k j n e h = peek-split n 8 (n + 8) bytes (8 * k) refl ∙ ap (λ x. peek_at n bytes (8 * k) * 256 + x) (peek-byte bytes (8 * k + n) (k + j) (omega arith) h)
+pub peek-more : (bytes : List ℕ) (k j n : ℕ) → n ≡ 8 * j → slice_index bytes (k + j) < 256 →
+    peek_at (n + 8) bytes (8 * k) ≡ peek_at n bytes (8 * k) * 256 + slice_index bytes (k + j)
+peek-more bytes k j n e h = peek-split n 8 (n + 8) bytes (8 * k) refl ∙
+    ap (λ x. peek_at n bytes (8 * k) * 256 + x) (peek-byte bytes (8 * k + n) (k + j) (omega arith) h)
 
 -- eight bytes
-pub peek-eight : (bytes : List ℕ) (k : ℕ) → ((i : ℕ) → slice_index bytes i < 256) → peek_at 64 bytes (8 * k) ≡ from_be_bytes w64 (slice_index bytes k ∷ slice_index bytes (k + 1) ∷ slice_index bytes (k + 2) ∷ slice_index bytes (k + 3) ∷ slice_index bytes (k + 4) ∷ slice_index bytes (k + 5) ∷ slice_index bytes (k + 6) ∷ slice_index bytes (k + 7) ∷ [])
+pub peek-eight : (bytes : List ℕ) (k : ℕ) → ((i : ℕ) → slice_index bytes i < 256) →
+    peek_at 64 bytes (8 * k) ≡ from_be_bytes w64
+    (slice_index bytes k ∷ slice_index bytes (k + 1) ∷ slice_index bytes (k + 2) ∷ slice_index bytes (k + 3) ∷ slice_index bytes (k + 4) ∷ slice_index bytes
+    (k + 5) ∷ slice_index bytes (k + 6) ∷ slice_index bytes (k + 7) ∷ [])
 peek-eight bytes k h =
     let a : peek_at 8 bytes (8 * k) ≡ slice_index bytes k = peek-byte bytes (8 * k) k refl (h k) in
     let b = peek-more bytes k 1 8 refl (h (k + 1)) in
@@ -99,11 +115,13 @@ peek-window bytes i =
     let a = peek-split s (64 - s) 64 bytes (8 * (i / 8)) (omega arith) in
     let place : 8 * (i / 8) + s ≡ i = omega arith in
     let b = peek-split 57 (7 - s) (64 - s) bytes i (omega arith) in
-    rw (a, place, b) (shifted s (peek_at s bytes (8 * (i / 8))) (peek_at 57 bytes i) (peek_at (7 - s) bytes (i + 57)) below (peek-below 57 bytes i) (peek-below (7 - s) bytes (i + 57)))
+    rw (a, place, b) (shifted s (peek_at s bytes (8 * (i / 8))) (peek_at 57 bytes i) (peek_at (7 - s) bytes (i + 57)) below (peek-below 57 bytes i)
+    (peek-below (7 - s) bytes (i + 57)))
 
 -- the first bits of a window
 pub peek-top : (n m : ℕ) (bytes : List ℕ) (i : ℕ) → n ≤ m → peek_at m bytes i / 2 ^ (m - n) ≡ peek_at n bytes i
-peek-top n m bytes i h = rw (peek-split n (m - n) m bytes i (omega arith)) (shr_high (peek_at n bytes i) (m - n) (peek_at (m - n) bytes (i + n)) (peek-below (m - n) bytes (i + n)))
+peek-top n m bytes i h = rw (peek-split n (m - n) m bytes i (omega arith))
+    (shr_high (peek_at n bytes i) (m - n) (peek_at (m - n) bytes (i + n)) (peek-below (m - n) bytes (i + n)))
 
 -- ---- the bits themselves
 digit-is : (m : ℕ) → digit (m % 2 == 1) ≡ m % 2
@@ -116,7 +134,11 @@ digit-is m = go (m % 2) (omega arith)
 
 pub bit-inside : (bytes : List ℕ) (i : ℕ) → i < 8 * length bytes → (b : Bool) × (bit_of bytes i ≡ Some b) × (digit b ≡ bit_or_zero bytes i)
 unfolding bit_or_zero
-bit-inside bytes i h = (slice_index bytes (i / 8) / 2 ^ (7 - i % 8) % 2 == 1, rw (slice_get-get_or bytes (i / 8) 0 (omega arith)) refl, digit-is (slice_index bytes (i / 8) / 2 ^ (7 - i % 8)))
+bit-inside bytes i h = (
+  slice_index bytes (i / 8) / 2 ^ (7 - i % 8) % 2 == 1,
+  rw (slice_get-get_or bytes (i / 8) 0 (omega arith)) refl,
+  digit-is (slice_index bytes (i / 8) / 2 ^ (7 - i % 8)),
+)
 
 pub bit-outside : (bytes : List ℕ) (i : ℕ) → 8 * length bytes ≤ i → bit_of bytes i ≡ None
 bit-outside bytes i h = rw (slice_get_past bytes (i / 8) (omega arith)) refl
@@ -125,7 +147,8 @@ pub one-inside : (bytes : List ℕ) (i : ℕ) → bit_or_zero bytes i ≡ 1 → 
 unfolding bit_or_zero
 one-inside bytes i e = elim (cases_lt i (8 * length bytes)) [
   | inl below ↦ below
-  | inr past ↦ absurd (let z = get_or_past bytes (i / 8) 0 (omega arith) in let w : 0 / 2 ^ (7 - i % 8) % 2 ≡ 1 = (rw z at e) in let p = pow_pos (7 - i % 8) in omega arith)
+  | inr past ↦ absurd (let z = get_or_past bytes (i / 8) 0 (omega arith) in let w : 0 / 2 ^ (7 - i % 8) % 2 ≡ 1 = (rw z at e) in
+      let p = pow_pos (7 - i % 8) in omega arith)
 ]
 
 -- ---- numbers
@@ -230,7 +253,8 @@ few (suc m) h = absurd (let e = pow-two m in let p = pow_pos m in omega arith)
 not-zero : (w : ℕ) → count_leading_zeros 64 w < 64 → 0 < w
 not-zero w h = elim (cases_lt 0 w) [
   | inl more ↦ more
-  | inr none ↦ absurd (let z : w ≡ 0 = omega arith in let l = leading_length 64 w (omega arith) in let p : 2 ^ l.0 ≤ 1 = (let q = l.3 in omega arith) in let m = few l.0 p in let q = l.1 in omega arith)
+  | inr none ↦ absurd (let z : w ≡ 0 = omega arith in let l = leading_length 64 w (omega arith) in let p : 2 ^ l.0 ≤ 1 = (let q = l.3 in omega arith) in
+      let m = few l.0 p in let q = l.1 in omega arith)
 ]
 
 -- a shift that drops bits below the highest 1 leaves that
@@ -277,7 +301,8 @@ pub golomb-far : (w : ℕ) (bytes : List ℕ) (i : ℕ) → w ≡ peek_at 57 byt
 unfolding value_at golomb_at
 golomb-far w bytes i e h = rw (zeros-far 32 w bytes i e (omega arith) (omega arith)) refl
 
-pub golomb-inside : (z : ℕ) (bytes : List ℕ) (i : ℕ) → z < 32 → Leads bytes i z → i + 2 * z + 1 ≤ 8 * length bytes → value_at Unsigned bytes i ≡ Some (pos (2 ^ z - 1 + peek_at z bytes (i + z + 1)), i + 2 * z + 1)
+pub golomb-inside : (z : ℕ) (bytes : List ℕ) (i : ℕ) → z < 32 → Leads bytes i z → i + 2 * z + 1 ≤ 8 * length bytes →
+    value_at Unsigned bytes i ≡ Some (pos (2 ^ z - 1 + peek_at z bytes (i + z + 1)), i + 2 * z + 1)
 unfolding value_at golomb_at
 golomb-inside z bytes i small h g =
     let k : i + (2 * z + 1) ≡ i + 2 * z + 1 = omega arith in
@@ -321,7 +346,8 @@ power-is z h = let p = pow-few z 31 (omega arith) in let one : 1 * 2 ^ z ≡ 2 ^
 parts : (a b : ℕ) (c j : ℕ) → ◌≡◌ {A = Option (ℤ × ℕ)} (Some (pos a, b)) (Some (pos c, j)) → (a ≡ c) × (b ≡ j)
 parts a b c j e = let q = some_pair_parts (pos a) (pos c) b j e in (let h = q.0 in cc, q.1)
 
-signed-parts : (o : Option (ℕ × ℕ)) (c j : ℕ) → option_map {U = ℤ × ℕ} (λ (x : ℕ × ℕ). (pos x.0, x.1)) o ≡ Some (pos c, j) → option_map {U = ℤ × ℕ} (λ (x : ℕ × ℕ). (signed x.0, x.1)) o ≡ Some (signed c, j)
+signed-parts : (o : Option (ℕ × ℕ)) (c j : ℕ) → option_map {U = ℤ × ℕ} (λ (x : ℕ × ℕ). (pos x.0, x.1)) o ≡ Some (pos c, j) →
+    option_map {U = ℤ × ℕ} (λ (x : ℕ × ℕ). (signed x.0, x.1)) o ≡ Some (signed c, j)
 signed-parts None c j e = absurd (cc)
 signed-parts (Some (d, k)) c j e = let q = parts d k c j e in rw (q.0, q.1) refl
 
@@ -329,7 +355,8 @@ pub signed-some : (c j : ℕ) (bytes : List ℕ) (i : ℕ) → value_at Unsigned
 unfolding value_at
 signed-some c j bytes i e = signed-parts (golomb_at bytes i) c j e
 
-signed-lost : (o : Option (ℕ × ℕ)) → option_map {U = ℤ × ℕ} (λ (x : ℕ × ℕ). (pos x.0, x.1)) o ≡ None → option_map {U = ℤ × ℕ} (λ (x : ℕ × ℕ). (signed x.0, x.1)) o ≡ None
+signed-lost : (o : Option (ℕ × ℕ)) → option_map {U = ℤ × ℕ} (λ (x : ℕ × ℕ). (pos x.0, x.1)) o ≡ None →
+    option_map {U = ℤ × ℕ} (λ (x : ℕ × ℕ). (signed x.0, x.1)) o ≡ None
 signed-lost None e = refl
 signed-lost (Some x) e = absurd (cc)
 

@@ -10,13 +10,16 @@ use Rattle.h264_bits.specs.Forms.{repeated}
 
 module _ {A S : Type 0} {took : S → List Call → Type 0} {failures : S → ℕ} where
   -- before the first turn
-  pub repeated-starts : (part : Grammar A) (n : ℕ) (before : List A) (old : Reader) (s : S) → before ≡ [] → Leads took failures (repeated part [] n) (repeated part before (n - 0)) old old s s
+  pub repeated-starts : (part : Grammar A) (n : ℕ) (before : List A) (old : Reader) (s : S) → before ≡ [] →
+      Leads took failures (repeated part [] n) (repeated part before (n - 0)) old old s s
   repeated-starts part n before old s e =
       let whole : n - 0 ≡ n = omega arith in
       rw (whole, e) (leads-starts took failures (repeated part [] n) old s)
 
   -- one more turn
-  pub repeated-next : {g : Grammar (List A)} {X : Type 0} {view : X → A} {old now mid : Reader} {s s' s'' : S} {x : X} (part : Grammar A) (n i : ℕ) (before after : List A) → i < n → after ≡ before ++ view x ∷ [] → Leads took failures g (repeated part before (n - i)) old now s s' → Meets (span took failures s' s'') (Is view) part now mid (Ok x) → Leads took failures g (repeated part after (n - (i + 1))) old mid s s''
+  pub repeated-next : {g : Grammar (List A)} {X : Type 0} {view : X → A} {old now mid : Reader} {s s' s'' : S} {x : X} (part : Grammar A) (n i : ℕ)
+      (before after : List A) → i < n → after ≡ before ++ view x ∷ [] → Leads took failures g (repeated part before (n - i)) old now s s' →
+      Meets (span took failures s' s'') (Is view) part now mid (Ok x) → Leads took failures g (repeated part after (n - (i + 1))) old mid s s''
   unfolding repeated
   repeated-next {g} {view = view} {old} {now} {mid} {s} {s'} {s''} {x} part n i before after h e l m =
       let k : n - i ≡ suc (n - (i + 1)) = omega arith in
@@ -24,7 +27,9 @@ module _ {A S : Type 0} {took : S → List Call → Type 0} {failures : S → �
       rw e (leads-on (λ t. repeated part (before ++ t ∷ []) (n - (i + 1))) (subst P k l) m)
 
   -- a turn stops
-  pub repeated-stop : {g : Grammar (List A)} {X Y : Type 0} {R : Y → List A → Type 0} {view : X → A} {old now mid : Reader} {s s' s'' : S} {e : Stop} (part : Grammar A) (n i : ℕ) (before : List A) → i < n → Leads took failures g (repeated part before (n - i)) old now s s' → Meets {X = X} (span took failures s' s'') (Is view) part now mid (Err e) → Meets {X = Y} (span took failures s s'') R g old mid (Err e)
+  pub repeated-stop : {g : Grammar (List A)} {X Y : Type 0} {R : Y → List A → Type 0} {view : X → A} {old now mid : Reader} {s s' s'' : S} {e : Stop}
+      (part : Grammar A) (n i : ℕ) (before : List A) → i < n → Leads took failures g (repeated part before (n - i)) old now s s' →
+      Meets {X = X} (span took failures s' s'') (Is view) part now mid (Err e) → Meets {X = Y} (span took failures s s'') R g old mid (Err e)
   unfolding repeated
   repeated-stop {g} {old = old} {now} {s = s} {s'} part n i before h l m =
       let k : n - i ≡ suc (n - (i + 1)) = omega arith in
@@ -32,7 +37,9 @@ module _ {A S : Type 0} {took : S → List Call → Type 0} {failures : S → �
       finish (subst P k l) (stop (λ t. repeated part (before ++ t ∷ []) (n - (i + 1))) m)
 
   -- the loop is over
-  pub repeated-over : {g : Grammar (List A)} {Y : Type 0} {R : Y → List A → Type 0} {old now : Reader} {s s' : S} (part : Grammar A) (n i : ℕ) (before : List A) (y : Y) → n ≤ i → R y before → Leads took failures g (repeated part before (n - i)) old now s s' → Meets (span took failures s s') R g old now (Ok y)
+  pub repeated-over : {g : Grammar (List A)} {Y : Type 0} {R : Y → List A → Type 0} {old now : Reader} {s s' : S} (part : Grammar A) (n i : ℕ)
+      (before : List A) (y : Y) → n ≤ i → R y before → Leads took failures g (repeated part before (n - i)) old now s s' →
+      Meets (span took failures s s') R g old now (Ok y)
   unfolding repeated
   repeated-over {g} {R = R} {old} {now} {s} {s'} part n i before y h r l =
       let k : n - i ≡ 0 = omega arith in

@@ -25,7 +25,8 @@ counted-more k m (d ∷ ds) h = go (nat_le d k) refl (counted-more k m ds h)
     rest true more = omega arith
     rest false more = more
 
-    go : (b : Bool) → nat_le d k ≡ b → counted k ds ≤ counted m ds → cond b (1 + counted k ds) (counted k ds) ≤ cond (nat_le d m) (1 + counted m ds) (counted m ds)
+    go : (b : Bool) → nat_le d k ≡ b → counted k ds ≤ counted m ds →
+        cond b (1 + counted k ds) (counted k ds) ≤ cond (nat_le d m) (1 + counted m ds) (counted m ds)
     go true e more = let below = leb-true d k e in rw (le-leb d m (omega arith)) (omega arith)
     go false e more = rest (nat_le d m) more
 
@@ -42,7 +43,8 @@ unfolding place
 place-after body i = omega arith
 
 -- bits stand together where the first and the last of them are as far apart
-pub between : (body : Body) (from last shift : ℕ) → from ≤ last → last ≤ 8 * length body.bytes → place body from ≡ from + shift → place body last ≡ last + shift → last + shift < 2 ^ 64 → IsStretch body from (record { shift = shift; last = last })
+pub between : (body : Body) (from last shift : ℕ) → from ≤ last → last ≤ 8 * length body.bytes → place body from ≡ from + shift →
+    place body last ≡ last + shift → last + shift < 2 ^ 64 → IsStretch body from (record { shift = shift; last = last })
 between body from last shift some inside a b fits = record {
   some = some;
   inside = inside;
@@ -57,7 +59,8 @@ unfolding place
 same-byte body i j shift same e = let f = rw same at e in omega arith
 
 -- so do those of one byte
-pub in-byte : (body : Body) (from last shift : ℕ) → from ≤ last → last ≤ 8 * length body.bytes → last / 8 ≡ from / 8 → place body from ≡ from + shift → last + shift < 2 ^ 64 → IsStretch body from (record { shift = shift; last = last })
+pub in-byte : (body : Body) (from last shift : ℕ) → from ≤ last → last ≤ 8 * length body.bytes → last / 8 ≡ from / 8 → place body from ≡ from + shift →
+    last + shift < 2 ^ 64 → IsStretch body from (record { shift = shift; last = last })
 in-byte body from last shift some inside same a fits = between body from last shift some inside a (same-byte body from last shift (omega arith) a) fits
 
 -- the first and the last of them

@@ -1,5 +1,6 @@
 -- What the row at the front of the next bits says of the word that stands there.
-use Rattle.std.proofs.Common.{◌≡◌, ℕ, ◌+◌, ◌*◌, ◌-◌, ◌/◌, ◌^◌, ◌<◌, ◌≤◌, pos, Bool, true, false, List, [], ◌∷◌, length, Option, Some, None, refl, ap, sym, ◌∙◌, arith, if◌then◌else◌, inl, inr}
+use Rattle.std.proofs.Common.{◌≡◌, ℕ, ◌+◌, ◌*◌, ◌-◌, ◌/◌, ◌^◌, ◌<◌, ◌≤◌, pos, Bool, true, false, List, [], ◌∷◌, length, Option, Some, None, refl, ap, sym}
+use Rattle.std.proofs.Common.{◌∙◌, arith, if◌then◌else◌, inl, inr}
 use Rattle.std.proofs.lemmas.Bool.{eqb-true, eq-eqb, le-leb, cases_lt}
 use Rattle.std.proofs.lemmas.Nat.{shr-shr}
 use Rattle.std.specs.Option.{option_map}
@@ -21,7 +22,8 @@ some-same : (a b : ℕ) → ◌≡◌ {A = Option ℕ} (Some a) (Some b) → a �
 some-same a b e = cc
 
 -- bits that begin with a word of the bytes spell it
-begins-stands : (r : Row) (bytes : List ℕ) (i : ℕ) → r.length ≤ 16 → r.length ≤ 8 * length bytes - i → begins 16 r (peek_at 16 bytes i) ≡ true → number_at r.length bytes i ≡ Some r.bits
+begins-stands : (r : Row) (bytes : List ℕ) (i : ℕ) → r.length ≤ 16 → r.length ≤ 8 * length bytes - i → begins 16 r (peek_at 16 bytes i) ≡ true →
+    number_at r.length bytes i ≡ Some r.bits
 unfolding begins
 begins-stands r bytes i few inside e =
     let b : peek_at 16 bytes i / 2 ^ (16 - r.length) ≡ r.bits = eqb-true _ _ e in
@@ -44,7 +46,8 @@ stands-begins r bytes i few e =
 front-none : (rows : List Row) (y : ℕ) (r : Row) → front_of 16 rows y ≡ None → IsRow rows r → begins 16 r y ≡ true → ⊥
 unfolding front_of
 front-none [] y r e m b = m
-front-none (q ∷ rows) y r e (inl same) b = let f : begins 16 q y ≡ true = ap (λ (p : Row). begins 16 p y) same ∙ b in let g : ◌≡◌ {A = Option Row} (Some q) None = (rw f at e) in cc
+front-none (q ∷ rows) y r e (inl same) b = let f : begins 16 q y ≡ true = ap (λ (p : Row). begins 16 p y) same ∙ b in
+    let g : ◌≡◌ {A = Option Row} (Some q) None = (rw f at e) in cc
 front-none (q ∷ rows) y r e (inr m) b = go (begins 16 q y) refl e (λ g. front-none rows y r g m b)
   where
     go : (c : Bool) → begins 16 q y ≡ c → (if c then Some q else front_of 16 rows y) ≡ None → (front_of 16 rows y ≡ None → ⊥) → ⊥
@@ -76,7 +79,8 @@ module _ (table : Table) (bytes : List ℕ) (i : ℕ) where
   no_value e = rw e refl
 
   -- the row's word stands there
-  pub word-inside : (r : Row) → front_of 16 (rows_of table) (peek_at 16 bytes i) ≡ Some r → r.length ≤ 8 * length bytes - i → value_at (Words (code_table table)) bytes i ≡ Some (pos r.value, i + r.length)
+  pub word-inside : (r : Row) → front_of 16 (rows_of table) (peek_at 16 bytes i) ≡ Some r → r.length ≤ 8 * length bytes - i →
+      value_at (Words (code_table table)) bytes i ≡ Some (pos r.value, i + r.length)
   unfolding value_at
   word-inside r e inside =
       let f = front-row 16 (rows_of table) (peek_at 16 bytes i) r e in
@@ -84,7 +88,8 @@ module _ (table : Table) (bytes : List ℕ) (i : ℕ) where
       rw (row-found (rows_of table) r bytes i (rows_of-free table) f.0 (begins-stands r bytes i few inside f.1)) refl
 
   -- the bytes end in it
-  pub word-outside : (r : Row) → front_of 16 (rows_of table) (peek_at 16 bytes i) ≡ Some r → 8 * length bytes - i < r.length → value_at (Words (code_table table)) bytes i ≡ None
+  pub word-outside : (r : Row) → front_of 16 (rows_of table) (peek_at 16 bytes i) ≡ Some r → 8 * length bytes - i < r.length →
+      value_at (Words (code_table table)) bytes i ≡ None
   word-outside r e past =
       let f = front-row 16 (rows_of table) (peek_at 16 bytes i) r e in
       let few = (short r f.0).few in
@@ -97,7 +102,8 @@ module _ (table : Table) (bytes : List ℕ) (i : ℕ) where
 
   -- no row's word stands there
   pub word-none : front_of 16 (rows_of table) (peek_at 16 bytes i) ≡ None → value_at (Words (code_table table)) bytes i ≡ None
-  word-none e = no_value (nothing (rows_of table) bytes i (λ q m stands. front-none (rows_of table) (peek_at 16 bytes i) q e m (stands-begins q bytes i (short q m).few stands)))
+  word-none e = no_value (nothing (rows_of table) bytes i
+      (λ q m stands. front-none (rows_of table) (peek_at 16 bytes i) q e m (stands-begins q bytes i (short q m).few stands)))
 
 -- a word that was found is one of at most 16 bits
 pub entry-short : (table : Table) (y : ℕ) (e : Entry) → Some e ≡ option_map entry_of (front_of 16 (rows_of table) y) → e.length ≤ 16
@@ -109,7 +115,8 @@ entry-short table y e f =
     omega arith
 
 -- so is one that stands for no word
-pub entry_if-short : (coded : Bool) (table : Table) (y : ℕ) (e : Entry) → (coded ≡ true → Some e ≡ option_map entry_of (front_of 16 (rows_of table) y)) → (coded ≡ false → Some e ≡ Some (record { length = 0; value = 0 })) → e.length ≤ 16
+pub entry_if-short : (coded : Bool) (table : Table) (y : ℕ) (e : Entry) → (coded ≡ true → Some e ≡ option_map entry_of (front_of 16 (rows_of table) y)) →
+    (coded ≡ false → Some e ≡ Some (record { length = 0; value = 0 })) → e.length ≤ 16
 entry_if-short true table y e word nothing = entry-short table y e (word refl)
 entry_if-short false table y e word nothing = let none : e.length ≡ 0 = ap length-of (nothing refl) in omega arith
   where
@@ -119,14 +126,17 @@ entry_if-short false table y e word nothing = let none : e.length ≡ 0 = ap len
 
 -- the same by what was found
 module _ (table : Table) (bytes : List ℕ) (i y : ℕ) (is : y ≡ peek_at 16 bytes i) where
-  pub entry-inside : (e : Entry) → Some e ≡ option_map entry_of (front_of 16 (rows_of table) y) → e.length ≤ 8 * length bytes - i → value_at (Words (code_table table)) bytes i ≡ Some (pos e.value, i + e.length)
+  pub entry-inside : (e : Entry) → Some e ≡ option_map entry_of (front_of 16 (rows_of table) y) → e.length ≤ 8 * length bytes - i →
+      value_at (Words (code_table table)) bytes i ≡ Some (pos e.value, i + e.length)
   entry-inside e f inside =
       let r = map-some entry_of (front_of 16 (rows_of table) y) e (sym f) in
       let l : r.0.length ≡ e.length = ap (λ (x : Entry). x.length) r.2 in
       let v : r.0.value ≡ e.value = ap (λ (x : Entry). x.value) r.2 in
-      word-inside table bytes i r.0 (sym (ap (λ k. front_of 16 (rows_of table) k) is) ∙ r.1) (omega arith) ∙ ap (λ (x : Entry). Some (pos x.value, i + x.length)) r.2
+      word-inside table bytes i r.0 (sym (ap (λ k. front_of 16 (rows_of table) k) is) ∙ r.1) (omega arith) ∙
+      ap (λ (x : Entry). Some (pos x.value, i + x.length)) r.2
 
-  pub entry-outside : (e : Entry) → Some e ≡ option_map entry_of (front_of 16 (rows_of table) y) → 8 * length bytes - i < e.length → value_at (Words (code_table table)) bytes i ≡ None
+  pub entry-outside : (e : Entry) → Some e ≡ option_map entry_of (front_of 16 (rows_of table) y) → 8 * length bytes - i < e.length →
+      value_at (Words (code_table table)) bytes i ≡ None
   entry-outside e f past =
       let r = map-some entry_of (front_of 16 (rows_of table) y) e (sym f) in
       let l : r.0.length ≡ e.length = ap (λ (x : Entry). x.length) r.2 in

@@ -14,7 +14,8 @@ spread p q t b d m = grind arith
 middle : (p q t b d m w : ℕ) → q < m → t < b → 0 < d → w ≡ (p * m + q) * b + t → w * d % (m * (b * d)) / (b * d) ≡ q
 middle p q t b d m w i j k e =
     let low : t * d < b * d = (let h = mul-add-lt t d 0 b j k in omega arith) in
-    let below : q * (b * d) + t * d < m * (b * d) = (let h = mul-add-lt q (b * d) (t * d) m i low in let c : b * d * m ≡ m * (b * d) = grind arith in omega arith) in
+    let below : q * (b * d) + t * d < m * (b * d) =
+    (let h = mul-add-lt q (b * d) (t * d) m i low in let c : b * d * m ≡ m * (b * d) = grind arith in omega arith) in
     rw (e, spread p q t b d m, mod-mul-add p (m * (b * d)) (q * (b * d) + t * d) below) (div-mul-add q (b * d) (t * d) low)
 
 powers : (m r n : ℕ) → m + (r + n) ≡ 64 → 2 ^ m * (2 ^ r * 2 ^ n) ≡ 2 ^ 64
@@ -27,7 +28,8 @@ moved bytes i n m r w e is =
     (let d = div-add-mod w (2 ^ r) in let c : 2 ^ r * (w / 2 ^ r) ≡ w / 2 ^ r * 2 ^ r = grind arith in
     rw (← split, ← is) (omega arith)) in
     rw (← powers m r n e, pow-add 2 r n)
-    (middle (peek_at n bytes i) (peek_at m bytes (i + n)) (w % 2 ^ r) (2 ^ r) (2 ^ n) (2 ^ m) w (peek-below m bytes (i + n)) (mod-lt w (pow_pos r)) (pow_pos n) parts)
+    (middle (peek_at n bytes i) (peek_at m bytes (i + n)) (w % 2 ^ r) (2 ^ r) (2 ^ n) (2 ^ m) w (peek-below m bytes (i + n)) (mod-lt w (pow_pos r))
+    (pow_pos n) parts)
 
 pub following-some : (bytes : List ℕ) (i n : ℕ) (k : Upcoming) → n ≤ k.count → IsUpcoming bytes i k →
     IsUpcoming bytes (i + n) (record { number = k.number * 2 ^ n % 18446744073709551616; count = k.count - n })
@@ -58,8 +60,10 @@ first-bits bytes i n k h is =
     rw (split, ← shr-shr k.number (64 - k.count) (k.count - n), is.are) (peek-top n k.count bytes i h)
 
 -- of the bits of eight bytes those of the first byte before bit i were shifted out: 57 are left, whatever is counted
-pub loaded-front : (bytes : List ℕ) (i w n : ℕ) → w ≡ peek_at 64 bytes (8 * (i / 8)) → n ≤ 57 → w * 2 ^ (i % 8) % 18446744073709551616 / 2 ^ (64 - n) ≡ peek_at n bytes i
-loaded-front bytes i w n e few = first-bits bytes i n (record { number = w * 2 ^ (i % 8) % 18446744073709551616; count = 64 - i % 8 }) (omega arith) (whole bytes i w e)
+pub loaded-front : (bytes : List ℕ) (i w n : ℕ) → w ≡ peek_at 64 bytes (8 * (i / 8)) → n ≤ 57 →
+    w * 2 ^ (i % 8) % 18446744073709551616 / 2 ^ (64 - n) ≡ peek_at n bytes i
+loaded-front bytes i w n e few = first-bits bytes i n (record { number = w * 2 ^ (i % 8) % 18446744073709551616; count = 64 - i % 8 }) (omega arith)
+    (whole bytes i w e)
 
 pub loaded-some : (bytes : List ℕ) (i w count : ℕ) → w ≡ peek_at 64 bytes (8 * (i / 8)) → count ≤ 64 - i % 8 →
     IsUpcoming bytes i (record { number = w * 2 ^ (i % 8) % 18446744073709551616; count = count })

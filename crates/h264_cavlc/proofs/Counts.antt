@@ -1,5 +1,7 @@
 -- As many levels of a block are not 0 as its total says.
-use Rattle.std.proofs.Common.{◌≡◌, ℕ, zero, suc, ◌+◌, ◌-◌, ◌/◌, ◌%◌, ◌<◌, ◌≤◌, Bool, true, false, IsTrue, ◌==◌, nat_lt, nat_le, if◌then◌else◌, cond, List, [], ◌∷◌, ◌++◌, length, get_or, set, replicate, ℤ, pos, negsuc, neg_ℤ, unsigned_abs, refl, ap, sym, ◌∙◌, subst, arith, lt-ltb, length-set, length-append}
+use Rattle.std.proofs.Common.{◌≡◌, ℕ, zero, suc, ◌+◌, ◌-◌, ◌/◌, ◌%◌, ◌<◌, ◌≤◌, Bool, true, false, IsTrue, ◌==◌, nat_lt, nat_le, if◌then◌else◌, cond, List, []}
+use Rattle.std.proofs.Common.{◌∷◌, ◌++◌, length, get_or, set, replicate, ℤ, pos, negsuc, neg_ℤ, unsigned_abs, refl, ap, sym, ◌∙◌, subst, arith, lt-ltb}
+use Rattle.std.proofs.Common.{length-set, length-append}
 use Rattle.std.proofs.lemmas.List.{length-replicate}
 use Rattle.std.proofs.lemmas.List.Sums.{sum_by-set}
 use Rattle.std.proofs.lemmas.Bool.{leb-true}
@@ -42,7 +44,8 @@ gives-one = gives-bind (λ e. Unit {0}) IsOther _ _ (gives-any _) (λ e h. gives
 
 gives-level : (s : ℕ) (never_one : Bool) → Gives (level s never_one) IsOther
 unfolding level
-gives-level s never_one = gives-bind (λ e. Unit {0}) IsOther _ _ (gives-any _) (λ e h. gives-bind (λ n. Unit {0}) IsOther _ _ (gives-any _) (λ n h. gives-done IsOther _ (value-other _)))
+gives-level s never_one = gives-bind (λ e. Unit {0}) IsOther _ _ (gives-any _)
+    (λ e h. gives-bind (λ n. Unit {0}) IsOther _ _ (gives-any _) (λ n h. gives-done IsOther _ (value-other _)))
 
 -- n levels, none of them 0
 abbrev AreOther : List ℤ → Type 0
@@ -68,22 +71,31 @@ pushed n xs x h o = record { each = other-push xs x h.each o; count = let l = le
 gives-ones : (n m k : ℕ) (before : List ℤ) → Others k before → k + n ≡ m → Gives (repeated trailing_one before n) (Others m)
 unfolding repeated
 gives-ones zero m k before h e = let s : k ≡ m = omega arith in gives-done (Others m) before (subst (λ k. Others k before) s h)
-gives-ones (suc n) m k before h e = gives-bind IsOther (Others m) trailing_one (λ x. repeated trailing_one (before ++ x ∷ []) n) gives-one (λ x o. gives-ones n m (k + 1) (before ++ x ∷ []) (pushed k before x h o) (omega arith))
+gives-ones (suc n) m k before h e = gives-bind IsOther (Others m) trailing_one (λ x. repeated trailing_one (before ++ x ∷ []) n) gives-one
+    (λ x o. gives-ones n m (k + 1) (before ++ x ∷ []) (pushed k before x h o) (omega arith))
 
 gives-more : (ones n m k s : ℕ) (before : List ℤ) → Others k before → k + n ≡ m → Gives (more_levels ones before s n) (Others m)
 unfolding more_levels
 gives-more ones zero m k s before h e = let t : k ≡ m = omega arith in gives-done (Others m) before (subst (λ k. Others k before) t h)
-gives-more ones (suc n) m k s before h e = gives-bind IsOther (Others m) (level s (is_never_one ones (length before))) (λ x. more_levels ones (before ++ x ∷ []) (next_suffix_length s x) n) (gives-level s (is_never_one ones (length before))) (λ x o. gives-more ones n m (k + 1) (next_suffix_length s x) (before ++ x ∷ []) (pushed k before x h o) (omega arith))
+gives-more ones (suc n) m k s before h e =
+    gives-bind IsOther (Others m) (level s (is_never_one ones (length before))) (λ x. more_levels ones (before ++ x ∷ []) (next_suffix_length s x) n)
+    (gives-level s (is_never_one ones (length before)))
+    (λ x o. gives-more ones n m (k + 1) (next_suffix_length s x) (before ++ x ∷ []) (pushed k before x h o) (omega arith))
 
 gives-levels : (token : Token) → token.ones ≤ token.total → Gives (all_levels token) (Others token.total)
 unfolding all_levels
-gives-levels token within = gives-bind (Others token.ones) (Others token.total) _ _ (gives-ones token.ones token.ones 0 [] (record { each = tt; count = refl }) (omega arith)) (λ ones h. gives-bind (Others token.total) (Others token.total) _ _ (gives-more token.ones (token.total - token.ones) token.total token.ones _ ones h (omega arith)) (λ levels o. gives-done (Others token.total) levels o))
+gives-levels token within = gives-bind (Others token.ones) (Others token.total) _ _
+    (gives-ones token.ones token.ones 0 [] (record { each = tt; count = refl }) (omega arith))
+    (λ ones h. gives-bind (Others token.total) (Others token.total) _ _
+    (gives-more token.ones (token.total - token.ones) token.total token.ones _ ones h (omega arith)) (λ levels o. gives-done (Others token.total) levels o))
 
 -- ---- the zeros leave room for them
 
 gives-coded : (size total : ℕ) → Gives (coded_total_zeros size total) (λ z. total + z ≤ size)
 unfolding coded_total_zeros
-gives-coded size total = gives-bind (λ e. Unit {0}) (λ z. total + z ≤ size) _ _ (gives-any _) (λ e h. gives-bind (λ u. IsTrue (nat_le (total + natural e.value) size)) (λ z. total + z ≤ size) _ _ (gives-check _ _ _) (λ u k. gives-done (λ z. total + z ≤ size) _ (leb-true _ _ k)))
+gives-coded size total = gives-bind (λ e. Unit {0}) (λ z. total + z ≤ size) _ _ (gives-any _)
+    (λ e h. gives-bind (λ u. IsTrue (nat_le (total + natural e.value) size)) (λ z. total + z ≤ size) _ _ (gives-check _ _ _)
+    (λ u k. gives-done (λ z. total + z ≤ size) _ (leb-true _ _ k)))
 
 gives-zeros : (size total : ℕ) → total ≤ size → Gives (total_zeros size total) (λ z. total + z ≤ size)
 unfolding total_zeros
@@ -117,11 +129,14 @@ pub record Standing (n size total gap : ℕ) (levels : List ℤ) (runs : List �
   pub placed : PlacedTo n total gap levels runs out
   pub count : nonzero_count out ≡ n
 
-standing : (n size total gap : ℕ) (levels : List ℤ) (runs : List ℕ) → n ≤ total → total + gap ≤ size → Others total levels → Standing n size total gap levels runs
-standing zero size total gap levels runs h room others = record { out = replicate size (pos 0); sized = length-replicate size (pos 0); placed = none; count = count-none size }
+standing : (n size total gap : ℕ) (levels : List ℤ) (runs : List ℕ) → n ≤ total → total + gap ≤ size → Others total levels →
+    Standing n size total gap levels runs
+standing zero size total gap levels runs h room others =
+    record { out = replicate size (pos 0); sized = length-replicate size (pos 0); placed = none; count = count-none size }
   where
     none : PlacedTo 0 total gap levels runs (replicate size (pos 0))
-    none = let p = placed-none total gap size levels in record { stands = λ k q. absurd (omega arith); empty = λ p' q. p.empty p' (λ k f e. absurd (omega arith)) }
+    none = let p = placed-none total gap size levels in
+        record { stands = λ k q. absurd (omega arith); empty = λ p' q. p.empty p' (λ k f e. absurd (omega arith)) }
 standing (suc n) size total gap levels runs h room others =
     let s = standing n size total gap levels runs (omega arith) room others in
     let p : ℕ = place_of total gap runs n in
@@ -141,7 +156,8 @@ standing (suc n) size total gap levels runs h room others =
       count = omega arith;
     }
 
-placed-count : (size gap total : ℕ) (levels : List ℤ) (runs : List ℕ) → Others total levels → total + gap ≤ size → nonzero_count (by_place size levels gap runs) ≡ total
+placed-count : (size gap total : ℕ) (levels : List ℤ) (runs : List ℕ) → Others total levels → total + gap ≤ size →
+    nonzero_count (by_place size levels gap runs) ≡ total
 placed-count size gap total levels runs others room =
     let s = standing total size total gap levels runs (omega arith) room others in
     ap (λ (xs : List ℤ). nonzero_count xs) (sym (all-placed total gap size levels runs s.out s.sized others.count s.placed)) ∙ s.count
@@ -151,4 +167,6 @@ HasCount block = nonzero_count block.by_place ≡ block.total
 
 pub gives-count : (size : ℕ) (token : Token) → token.total ≤ size → token.ones ≤ token.total → Gives (coefficients size token) HasCount
 unfolding coefficients
-gives-count size token fits within = gives-bind (Others token.total) HasCount _ _ (gives-levels token within) (λ levels o. gives-bind (λ z. token.total + z ≤ size) HasCount _ _ (gives-zeros size token.total fits) (λ z room. gives-bind (λ r. Unit {0}) HasCount _ _ (gives-any _) (λ runs h. gives-done HasCount _ (placed-count size z token.total levels runs o room))))
+gives-count size token fits within = gives-bind (Others token.total) HasCount _ _ (gives-levels token within)
+    (λ levels o. gives-bind (λ z. token.total + z ≤ size) HasCount _ _ (gives-zeros size token.total fits)
+    (λ z room. gives-bind (λ r. Unit {0}) HasCount _ _ (gives-any _) (λ runs h. gives-done HasCount _ (placed-count size z token.total levels runs o room))))

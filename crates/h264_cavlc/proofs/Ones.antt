@@ -5,14 +5,16 @@ use Rattle.h264_bits.specs.Peek.{peek_at}
 use Rattle.h264_bits.proofs.Held.{held-fixed, peek-middle}
 
 -- sign k
-pub sign-reads : (bytes : List ℕ) (i signs k sign : ℕ) → signs ≡ peek_at 3 bytes i → k < 3 → sign ≡ signs / 2 ^ (2 - k) % 2 → i + 3 ≤ 8 * length bytes → Reads (Fixed 1) bytes (i + k) (pos sign) (i + k + 1)
+pub sign-reads : (bytes : List ℕ) (i signs k sign : ℕ) → signs ≡ peek_at 3 bytes i → k < 3 → sign ≡ signs / 2 ^ (2 - k) % 2 → i + 3 ≤ 8 * length bytes →
+    Reads (Fixed 1) bytes (i + k) (pos sign) (i + k + 1)
 sign-reads bytes i signs k sign e few is inside =
     let m = peek-middle k 1 3 bytes i (omega arith) in
     let p : 3 - (k + 1) ≡ 2 - k = omega arith in
     held-fixed 1 bytes (i + k) sign (is ∙ rw (e, ← p) m) (omega arith)
 
 -- three levels that were put to the first places
-pub put-each : (xs : List ℤ) (f : ℕ → ℤ) (a b d : ℤ) (k : ℕ) → 3 ≤ length xs → a ≡ f 0 → b ≡ f 1 → d ≡ f 2 → k < 3 → get_or (set (set (set xs 0 a) 1 b) 2 d) k (pos 0) ≡ f k
+pub put-each : (xs : List ℤ) (f : ℕ → ℤ) (a b d : ℤ) (k : ℕ) → 3 ≤ length xs → a ≡ f 0 → b ≡ f 1 → d ≡ f 2 → k < 3 →
+    get_or (set (set (set xs 0 a) 1 b) 2 d) k (pos 0) ≡ f k
 put-each [] f a b d k h p q r few = absurd (omega arith)
 put-each (x ∷ []) f a b d k h p q r few = absurd (omega arith)
 put-each (x ∷ y ∷ []) f a b d k h p q r few = absurd (omega arith)

@@ -1,5 +1,6 @@
 -- Levels put to their places, one after another.
-use Rattle.std.proofs.Common.{◌≡◌, ℕ, ◌+◌, ◌-◌, ◌<◌, ◌≤◌, Bool, false, ◌==◌, List, [], ◌∷◌, ◌++◌, length, get_or, set, take, sum_by, replicate, ℤ, pos, ap, sym, ◌∙◌, arith, inl, inr, eqb-true}
+use Rattle.std.proofs.Common.{◌≡◌, ℕ, ◌+◌, ◌-◌, ◌<◌, ◌≤◌, Bool, false, ◌==◌, List, [], ◌∷◌, ◌++◌, length, get_or, set, take, sum_by, replicate, ℤ, pos, ap}
+use Rattle.std.proofs.Common.{sym, ◌∙◌, arith, inl, inr, eqb-true}
 use Rattle.std.specs.List.{position_or_len, range_with_len}
 use Rattle.std.proofs.lemmas.List.{get_or-set_same, get_or-set_other, get_or-replicate, length-replicate, get_or_past, take-append-le, take-take}
 use Rattle.std.proofs.Math.Seq.{take-length}
@@ -26,11 +27,15 @@ unfolding place_of
 inside total total_zeros runs k h = omega arith
 
 -- one level more
-pub placed-more : (n m total total_zeros p : ℕ) (levels : List ℤ) (runs : List ℕ) (out : List ℤ) (x : ℤ) → n < total → m ≡ n + 1 → total + total_zeros ≤ length out → p ≡ place_of total total_zeros runs n → x ≡ get_or levels n (pos 0) → PlacedTo n total total_zeros levels runs out → PlacedTo m total total_zeros levels runs (set out p x)
+pub placed-more : (n m total total_zeros p : ℕ) (levels : List ℤ) (runs : List ℕ) (out : List ℤ) (x : ℤ) → n < total → m ≡ n + 1 →
+    total + total_zeros ≤ length out → p ≡ place_of total total_zeros runs n → x ≡ get_or levels n (pos 0) → PlacedTo n total total_zeros levels runs out →
+    PlacedTo m total total_zeros levels runs (set out p x)
 placed-more n m total total_zeros p levels runs out x h more room at is before = record {
   stands = λ k q. elim (cases_lt k n) [
-    | inl early ↦ let w = lower total total_zeros runs k n early h in get_or-set_other out p (place_of total total_zeros runs k) x (pos 0) (λ e. absurd (omega arith)) ∙ before.stands k early
-    | inr late ↦ let e : k ≡ n = omega arith in let w = inside total total_zeros runs n h in let i : p < length out = omega arith in rw (e, ← at) (get_or-set_same out p x (pos 0) i ∙ is)
+    | inl early ↦ let w = lower total total_zeros runs k n early h in
+        get_or-set_other out p (place_of total total_zeros runs k) x (pos 0) (λ e. absurd (omega arith)) ∙ before.stands k early
+    | inr late ↦ let e : k ≡ n = omega arith in let w = inside total total_zeros runs n h in let i : p < length out = omega arith in
+        rw (e, ← at) (get_or-set_same out p x (pos 0) i ∙ is)
   ];
   empty = λ r none. get_or-set_other out p r x (pos 0) (λ e. none n (omega arith) (sym at ∙ sym e)) ∙ before.empty r (λ k q. none k (omega arith));
 }
@@ -46,26 +51,31 @@ placed-none total total_zeros n levels = record {
 }
 
 -- a run that is read later moves no level before it
-place-kept : (total total_zeros r : ℕ) (runs : List ℕ) (k : ℕ) → k ≤ length runs → place_of total total_zeros (runs ++ r ∷ []) k ≡ place_of total total_zeros runs k
+place-kept : (total total_zeros r : ℕ) (runs : List ℕ) (k : ℕ) → k ≤ length runs →
+    place_of total total_zeros (runs ++ r ∷ []) k ≡ place_of total total_zeros runs k
 unfolding place_of
 place-kept total total_zeros r runs k h = ap (λ (t : List ℕ). total - 1 - k + (total_zeros - sum_by (λ x. x) t)) (take-append-le k runs (r ∷ []) h)
 
-pub placed-run : (n total total_zeros r : ℕ) (levels : List ℤ) (runs : List ℕ) (out : List ℤ) → n ≤ length runs + 1 → PlacedTo n total total_zeros levels runs out → PlacedTo n total total_zeros levels (runs ++ r ∷ []) out
+pub placed-run : (n total total_zeros r : ℕ) (levels : List ℤ) (runs : List ℕ) (out : List ℤ) → n ≤ length runs + 1 →
+    PlacedTo n total total_zeros levels runs out → PlacedTo n total total_zeros levels (runs ++ r ∷ []) out
 placed-run n total total_zeros r levels runs out h before = record {
   stands = λ k q. let e = place-kept total total_zeros r runs k (omega arith) in rw e (before.stands k q);
   empty = λ p none. before.empty p (λ k q e. none k q (place-kept total total_zeros r runs k (omega arith) ∙ e));
 }
 
 -- the place of the level after the last run
-pub place-next : (total total_zeros : ℕ) (runs : List ℕ) (k : ℕ) → length runs ≡ k → place_of total total_zeros runs k ≡ total - 1 - k + (total_zeros - sum_by (λ x. x) runs)
+pub place-next : (total total_zeros : ℕ) (runs : List ℕ) (k : ℕ) → length runs ≡ k →
+    place_of total total_zeros runs k ≡ total - 1 - k + (total_zeros - sum_by (λ x. x) runs)
 unfolding place_of
-place-next total total_zeros runs k e = ap (λ (t : List ℕ). total - 1 - k + (total_zeros - sum_by (λ x. x) t)) (ap (λ m. take m runs) (sym e) ∙ take-length runs)
+place-next total total_zeros runs k e = ap (λ (t : List ℕ). total - 1 - k + (total_zeros - sum_by (λ x. x) t))
+    (ap (λ m. take m runs) (sym e) ∙ take-length runs)
 
 differs : (a b : ℕ) → (a == b) ≡ false → a ≡ b → ⊥
 differs a b f e = grind (arith, nat_tests)
 
 -- the level at a place of a block in which all levels stand
-level-is : (total total_zeros : ℕ) (levels : List ℤ) (runs : List ℕ) (out : List ℤ) (p : ℕ) → length levels ≡ total → PlacedTo total total total_zeros levels runs out → get_or out p (pos 0) ≡ level_at levels total_zeros runs p
+level-is : (total total_zeros : ℕ) (levels : List ℤ) (runs : List ℕ) (out : List ℤ) (p : ℕ) → length levels ≡ total →
+    PlacedTo total total total_zeros levels runs out → get_or out p (pos 0) ≡ level_at levels total_zeros runs p
 unfolding level_at level_number
 level-is total total_zeros levels runs out p e placed = rw e (elim (cases_lt q total) [
   | inl some ↦
@@ -92,6 +102,8 @@ level-is total total_zeros levels runs out p e placed = rw e (elim (cases_lt q t
     q : ℕ
     q = position_or_len test numbers
 
-pub all-placed : (total total_zeros n : ℕ) (levels : List ℤ) (runs : List ℕ) (out : List ℤ) → length out ≡ n → length levels ≡ total → PlacedTo total total total_zeros levels runs out → out ≡ by_place n levels total_zeros runs
+pub all-placed : (total total_zeros n : ℕ) (levels : List ℤ) (runs : List ℕ) (out : List ℤ) → length out ≡ n → length levels ≡ total →
+    PlacedTo total total total_zeros levels runs out → out ≡ by_place n levels total_zeros runs
 unfolding by_place
-all-placed total total_zeros n levels runs out l e placed = fill_by_all (level_at levels total_zeros runs) out n (pos 0) l (λ k h. level-is total total_zeros levels runs out k e placed)
+all-placed total total_zeros n levels runs out l e placed =
+    fill_by_all (level_at levels total_zeros runs) out n (pos 0) l (λ k h. level-is total total_zeros levels runs out k e placed)

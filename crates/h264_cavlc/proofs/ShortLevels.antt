@@ -19,17 +19,25 @@ short-size : (prefix n : ℕ) → prefix < 14 → suffix_size prefix n ≡ n
 unfolding suffix_size
 short-size prefix n few = rw (unequal prefix 14 (λ e. absurd (omega arith)), unequal prefix 15 (λ e. absurd (omega arith))) refl
 
-module _ {S : Type 0} {took : S → List Call → Type 0} {failures : S → ℕ} (n : ℕ) (never_one : Bool) {old mid new : Reader} {s0 s1 s2 : S} {f : Found ℕ} (suffix : ℕ) where
+module _ {S : Type 0} {took : S → List Call → Type 0} {failures : S → ℕ} (n : ℕ) (never_one : Bool) {old mid new : Reader} {s0 s1 s2 : S} {f : Found ℕ}
+    (suffix : ℕ) where
   -- level_suffix stops
-  pub short-stop : (e : Stop) → f.value < 14 → Meets (span took failures s0 s1) (Is seen_unsigned) (residual_element LevelPrefix (Words (code_table PrefixTable))) old mid (Ok f) → Meets {X = Unit {0}} (span took failures s1 s2) (Is (λ x. suffix)) (level_suffix n) mid new (Err e) → Meets {X = ℤ} (span took failures s0 s2) (Is (λ (x : ℤ). x)) (level n never_one) old new (Err e)
+  pub short-stop : (e : Stop) → f.value < 14 →
+      Meets (span took failures s0 s1) (Is seen_unsigned) (residual_element LevelPrefix (Words (code_table PrefixTable))) old mid (Ok f) →
+      Meets {X = Unit {0}} (span took failures s1 s2) (Is (λ x. suffix)) (level_suffix n) mid new (Err e) →
+      Meets {X = ℤ} (span took failures s0 s2) (Is (λ (x : ℤ). x)) (level n never_one) old new (Err e)
   unfolding level
   short-stop e few p m =
       let M : ℕ → Type 0 = λ k. Meets {X = Unit {0}} (span took failures s1 s2) (Is (λ x. suffix)) (level_suffix k) mid new (Err e) in
       bind _ p (stop _ (subst M (sym (short-size f.value n few)) m))
 
   -- both were read
-  pub short-read : {x : ℤ} → f.value < 14 → x ≡ level_value (level_code f.value n suffix never_one) → Meets (span took failures s0 s1) (Is seen_unsigned) (residual_element LevelPrefix (Words (code_table PrefixTable))) old mid (Ok f) → Meets {X = Unit {0}} (span took failures s1 s2) (Is (λ x. suffix)) (level_suffix n) mid new (Ok tt) → Meets (span took failures s0 s2) (Is (λ (x : ℤ). x)) (level n never_one) old new (Ok x)
+  pub short-read : {x : ℤ} → f.value < 14 → x ≡ level_value (level_code f.value n suffix never_one) →
+      Meets (span took failures s0 s1) (Is seen_unsigned) (residual_element LevelPrefix (Words (code_table PrefixTable))) old mid (Ok f) →
+      Meets {X = Unit {0}} (span took failures s1 s2) (Is (λ x. suffix)) (level_suffix n) mid new (Ok tt) →
+      Meets (span took failures s0 s2) (Is (λ (x : ℤ). x)) (level n never_one) old new (Ok x)
   unfolding level
   short-read few is p m =
       let M : ℕ → Type 0 = λ k. Meets {X = Unit {0}} (span took failures s1 s2) (Is (λ x. suffix)) (level_suffix k) mid new (Ok tt) in
-      bind _ p (bind (λ suffix. Done (level_value (level_code f.value n suffix never_one))) (subst M (sym (short-size f.value n few)) m) (done _ _ _ _ _ _ _ (sym is)))
+      bind _ p (bind (λ suffix. Done (level_value (level_code f.value n suffix never_one))) (subst M (sym (short-size f.value n few)) m)
+      (done _ _ _ _ _ _ _ (sym is)))

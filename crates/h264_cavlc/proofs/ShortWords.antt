@@ -1,5 +1,6 @@
 -- The words of run_before by three bits, those of total_zeros by six or nine, and those of coeff_token by eight.
-use Rattle.std.proofs.Common.{◌≡◌, ◌≢◌, ℕ, zero, suc, ◌+◌, ◌*◌, ◌-◌, ◌/◌, ◌^◌, ◌<◌, ◌≤◌, Bool, true, false, ◌&&◌, ◌||◌, List, [], ◌∷◌, length, take, drop, get_or, min, nat_lt, ◌==◌, Option, Some, None, inl, inr, lt-ltb, refl, ap, ◌∙◌, arith}
+use Rattle.std.proofs.Common.{◌≡◌, ◌≢◌, ℕ, zero, suc, ◌+◌, ◌*◌, ◌-◌, ◌/◌, ◌^◌, ◌<◌, ◌≤◌, Bool, true, false, ◌&&◌, ◌||◌, List, [], ◌∷◌, length, take, drop}
+use Rattle.std.proofs.Common.{get_or, min, nat_lt, ◌==◌, Option, Some, None, inl, inr, lt-ltb, refl, ap, ◌∙◌, arith}
 use Rattle.std.specs.Option.{option_map}
 use Rattle.std.proofs.lemmas.Bool.{and_parts, eqb-true, ne_eqb, ltb-true, cases_lt}
 use Rattle.std.proofs.lemmas.List.{get_or-take, get_or-drop}
@@ -13,7 +14,9 @@ use Rattle.h264_tables.specs.RunBefore.{run_before_1, run_before_2, run_before_3
 use Rattle.h264_tables.specs.Table.{rows_of}
 use Rattle.h264_tables.specs.declared.table.Table.TheVariants.{RunBefore7}
 use Rattle.h264_tables.proofs.Entries.{agrees, entry_fits, entry-is}
-use Rattle.h264_tables.specs.TotalZeros.{total_zeros_1, total_zeros_2, total_zeros_3, total_zeros_4, total_zeros_5, total_zeros_6, total_zeros_7, total_zeros_8, total_zeros_9, total_zeros_10, total_zeros_11, total_zeros_12, total_zeros_13, total_zeros_14, total_zeros_15}
+use Rattle.h264_tables.specs.TotalZeros.{total_zeros_1, total_zeros_2, total_zeros_3, total_zeros_4, total_zeros_5, total_zeros_6, total_zeros_7}
+use Rattle.h264_tables.specs.TotalZeros.{total_zeros_8, total_zeros_9, total_zeros_10, total_zeros_11, total_zeros_12, total_zeros_13, total_zeros_14}
+use Rattle.h264_tables.specs.TotalZeros.{total_zeros_15}
 use Rattle.h264_cavlc.specs.declared.runs.TheConstants as run
 use Rattle.h264_cavlc.specs.declared.token_words.TheConstants as token
 use Rattle.h264_cavlc.specs.declared.totals.TheConstants as total
@@ -33,7 +36,8 @@ unfolding all_fit
 fit-at s k j [] values rows h g = absurd (omega arith)
 fit-at s k j (l ∷ lengths) [] rows h g = absurd (cc)
 fit-at s k zero (l ∷ lengths) (v ∷ values) rows h g = let e : k + 0 ≡ k = omega arith in rw e (and_parts _ _ h).0
-fit-at s k (suc j) (l ∷ lengths) (v ∷ values) rows h g = let e : k + suc j ≡ suc k + j = omega arith in rw e (fit-at s (suc k) j lengths values rows (and_parts _ _ h).1 (omega arith))
+fit-at s k (suc j) (l ∷ lengths) (v ∷ values) rows h g = let e : k + suc j ≡ suc k + j = omega arith in
+    rw e (fit-at s (suc k) j lengths values rows (and_parts _ _ h).1 (omega arith))
 
 -- the m entries from entry n on
 part : ℕ → ℕ → List ℕ → List ℕ
@@ -43,7 +47,8 @@ part-at : (m n : ℕ) (xs : List ℕ) (j : ℕ) → j < m → get_or (part m n x
 unfolding part
 part-at m n xs j h = get_or-take m (drop n xs) j 0 h ∙ get_or-drop n xs j 0
 
-found-in : (m s n y : ℕ) (lengths values : List ℕ) (rows : List Row) → y / 2 ^ s < m → length (part m n lengths) ≡ m → all_fit s 0 (part m n lengths) (part m n values) rows ≡ true →
+found-in : (m s n y : ℕ) (lengths values : List ℕ) (rows : List Row) → y / 2 ^ s < m → length (part m n lengths) ≡ m →
+    all_fit s 0 (part m n lengths) (part m n values) rows ≡ true →
     (get_or lengths (n + y / 2 ^ s) 0, get_or values (n + y / 2 ^ s) 0) ≡ found_of (front_of 16 rows y)
 found-in m s n y lengths values rows j long all =
     let zero_more : 0 + y / 2 ^ s ≡ y / 2 ^ s = omega arith in
@@ -64,10 +69,13 @@ some-fit-at s k j [] values rows h g some = absurd (omega arith)
 some-fit-at s k j (l ∷ lengths) [] rows h g some = absurd (cc)
 some-fit-at s k zero (zero ∷ lengths) (v ∷ values) rows h g some = absurd (omega arith)
 some-fit-at s k zero (suc l ∷ lengths) (v ∷ values) rows h g some = let e : k + 0 ≡ k = omega arith in rw e (and_parts _ _ h).0
-some-fit-at s k (suc j) (zero ∷ lengths) (v ∷ values) rows h g some = let e : k + suc j ≡ suc k + j = omega arith in rw e (some-fit-at s (suc k) j lengths values rows h (omega arith) some)
-some-fit-at s k (suc j) (suc l ∷ lengths) (v ∷ values) rows h g some = let e : k + suc j ≡ suc k + j = omega arith in rw e (some-fit-at s (suc k) j lengths values rows (and_parts _ _ h).1 (omega arith) some)
+some-fit-at s k (suc j) (zero ∷ lengths) (v ∷ values) rows h g some = let e : k + suc j ≡ suc k + j = omega arith in
+    rw e (some-fit-at s (suc k) j lengths values rows h (omega arith) some)
+some-fit-at s k (suc j) (suc l ∷ lengths) (v ∷ values) rows h g some = let e : k + suc j ≡ suc k + j = omega arith in
+    rw e (some-fit-at s (suc k) j lengths values rows (and_parts _ _ h).1 (omega arith) some)
 
-found-some : (m s n y : ℕ) (lengths values : List ℕ) (rows : List Row) → y / 2 ^ s < m → length (part m n lengths) ≡ m → some_fit s 0 (part m n lengths) (part m n values) rows ≡ true → 0 < get_or lengths (n + y / 2 ^ s) 0 →
+found-some : (m s n y : ℕ) (lengths values : List ℕ) (rows : List Row) → y / 2 ^ s < m → length (part m n lengths) ≡ m →
+    some_fit s 0 (part m n lengths) (part m n values) rows ≡ true → 0 < get_or lengths (n + y / 2 ^ s) 0 →
     (get_or lengths (n + y / 2 ^ s) 0, get_or values (n + y / 2 ^ s) 0) ≡ found_of (front_of 16 rows y)
 found-some m s n y lengths values rows j long all some =
     let zero_more : 0 + y / 2 ^ s ≡ y / 2 ^ s = omega arith in
@@ -81,7 +89,8 @@ short_fit s k [] values rows = true
 short_fit s k (l ∷ lengths) [] rows = false
 short_fit s k (l ∷ lengths) (v ∷ values) rows = (l == 16 || (nat_lt 0 l && entry_fits 16 s k l v rows)) && short_fit s (suc k) lengths values rows
 
-short-fit-at : (s k j : ℕ) (lengths values : List ℕ) (rows : List Row) → short_fit s k lengths values rows ≡ true → j < length lengths → get_or lengths j 0 ≢ 16 →
+short-fit-at : (s k j : ℕ) (lengths values : List ℕ) (rows : List Row) → short_fit s k lengths values rows ≡ true → j < length lengths →
+    get_or lengths j 0 ≢ 16 →
     (0 < get_or lengths j 0) × (entry_fits 16 s (k + j) (get_or lengths j 0) (get_or values j 0) rows ≡ true)
 unfolding short_fit
 short-fit-at s k j [] values rows h g other = absurd (omega arith)
@@ -91,10 +100,13 @@ short-fit-at s k zero (l ∷ lengths) (v ∷ values) rows h g other =
     let here : (l == 16 || (nat_lt 0 l && entry_fits 16 s k l v rows)) ≡ true = (and_parts _ _ h).0 in
     let fits = rw (ne_eqb l 16 other) at here in
     rw e (ltb-true _ _ (and_parts _ _ fits).0, (and_parts _ _ fits).1)
-short-fit-at s k (suc j) (l ∷ lengths) (v ∷ values) rows h g other = let e : k + suc j ≡ suc k + j = omega arith in rw e (short-fit-at s (suc k) j lengths values rows (and_parts _ _ h).1 (omega arith) other)
+short-fit-at s k (suc j) (l ∷ lengths) (v ∷ values) rows h g other = let e : k + suc j ≡ suc k + j = omega arith in
+    rw e (short-fit-at s (suc k) j lengths values rows (and_parts _ _ h).1 (omega arith) other)
 
-three-bits : (n y : ℕ) (rows : List Row) → y < 2 ^ 16 → length (part 8 n run.WORD_LENGTHS) ≡ 8 → short_fit 13 0 (part 8 n run.WORD_LENGTHS) (part 8 n run.WORD_VALUES) rows ≡ true → get_or run.WORD_LENGTHS (n + y / 2 ^ 13) 0 ≢ 16 →
-    (0 < get_or run.WORD_LENGTHS (n + y / 2 ^ 13) 0) × ((get_or run.WORD_LENGTHS (n + y / 2 ^ 13) 0, get_or run.WORD_VALUES (n + y / 2 ^ 13) 0) ≡ found_of (front_of 16 rows y))
+three-bits : (n y : ℕ) (rows : List Row) → y < 2 ^ 16 → length (part 8 n run.WORD_LENGTHS) ≡ 8 →
+    short_fit 13 0 (part 8 n run.WORD_LENGTHS) (part 8 n run.WORD_VALUES) rows ≡ true → get_or run.WORD_LENGTHS (n + y / 2 ^ 13) 0 ≢ 16 →
+    (0 < get_or run.WORD_LENGTHS (n + y / 2 ^ 13) 0) ×
+    ((get_or run.WORD_LENGTHS (n + y / 2 ^ 13) 0, get_or run.WORD_VALUES (n + y / 2 ^ 13) 0) ≡ found_of (front_of 16 rows y))
 three-bits n y rows h long all other =
     let j : y / 2 ^ 13 < 8 = omega arith in
     let zero_more : 0 + y / 2 ^ 13 ≡ y / 2 ^ 13 = omega arith in
@@ -104,17 +116,22 @@ three-bits n y rows h long all other =
     let same = rw (zero_more, lengths, values) at fits in
     (same.0, entry-is 16 13 y _ _ rows same.1)
 
-six-bits : (n y : ℕ) (rows : List Row) → y < 2 ^ 16 → length (part 64 n total.WORD_LENGTHS) ≡ 64 → all_fit 10 0 (part 64 n total.WORD_LENGTHS) (part 64 n total.WORD_VALUES) rows ≡ true →
+six-bits : (n y : ℕ) (rows : List Row) → y < 2 ^ 16 → length (part 64 n total.WORD_LENGTHS) ≡ 64 →
+    all_fit 10 0 (part 64 n total.WORD_LENGTHS) (part 64 n total.WORD_VALUES) rows ≡ true →
     (get_or total.WORD_LENGTHS (n + y / 2 ^ 10) 0, get_or total.WORD_VALUES (n + y / 2 ^ 10) 0) ≡ found_of (front_of 16 rows y)
 six-bits n y rows h long all = found-in 64 10 n y total.WORD_LENGTHS total.WORD_VALUES rows (omega arith) long all
 
-eight-bits : (m n y : ℕ) (rows : List Row) → n ≡ m → y < 2 ^ 16 → length (part 256 m token.WORD_LENGTHS) ≡ 256 → some_fit 8 0 (part 256 m token.WORD_LENGTHS) (part 256 m token.WORD_VALUES) rows ≡ true → 0 < get_or token.WORD_LENGTHS (n + y / 2 ^ 8) 0 →
+eight-bits : (m n y : ℕ) (rows : List Row) → n ≡ m → y < 2 ^ 16 → length (part 256 m token.WORD_LENGTHS) ≡ 256 →
+    some_fit 8 0 (part 256 m token.WORD_LENGTHS) (part 256 m token.WORD_VALUES) rows ≡ true → 0 < get_or token.WORD_LENGTHS (n + y / 2 ^ 8) 0 →
     (get_or token.WORD_LENGTHS (n + y / 2 ^ 8) 0, get_or token.WORD_VALUES (n + y / 2 ^ 8) 0) ≡ found_of (front_of 16 rows y)
 eight-bits m n y rows e h long all some = rw e (found-some 256 8 m y token.WORD_LENGTHS token.WORD_VALUES rows (omega arith) long all (rw e at some))
 
 pub short-found : (z y : ℕ) → 0 < z → z ≤ 15 → y < 2 ^ 16 → get_or run.WORD_LENGTHS (8 * z + y / 2 ^ 13) 0 ≢ 16 →
-    (0 < get_or run.WORD_LENGTHS (8 * z + y / 2 ^ 13) 0) × ((get_or run.WORD_LENGTHS (8 * z + y / 2 ^ 13) 0, get_or run.WORD_VALUES (8 * z + y / 2 ^ 13) 0) ≡ found_of (front_of 16 (rows_of (run_before_table z)) y))
-unfolding part short_fit entry_fits agrees run_before_table run_before_tables run_before_1 run_before_2 run_before_3 run_before_4 run_before_5 run_before_6 run_before_7
+    (0 < get_or run.WORD_LENGTHS (8 * z + y / 2 ^ 13) 0) ×
+    ((get_or run.WORD_LENGTHS (8 * z + y / 2 ^ 13) 0, get_or run.WORD_VALUES (8 * z + y / 2 ^ 13) 0) ≡
+    found_of (front_of 16 (rows_of (run_before_table z)) y))
+unfolding part short_fit entry_fits agrees run_before_table run_before_tables run_before_1 run_before_2 run_before_3 run_before_4 run_before_5 run_before_6
+    run_before_7
 short-found zero y p q h other = absurd (omega arith)
 short-found (suc zero) y p q h other = three-bits 8 y run_before_1 h refl refl other
 short-found (suc (suc zero)) y p q h other = three-bits 16 y run_before_2 h refl refl other
@@ -129,8 +146,10 @@ short-found (suc (suc (suc (suc (suc (suc (suc (suc (suc (suc zero)))))))))) y p
 short-found (suc (suc (suc (suc (suc (suc (suc (suc (suc (suc (suc zero))))))))))) y p q h other = three-bits 88 y run_before_7 h refl refl other
 short-found (suc (suc (suc (suc (suc (suc (suc (suc (suc (suc (suc (suc zero)))))))))))) y p q h other = three-bits 96 y run_before_7 h refl refl other
 short-found (suc (suc (suc (suc (suc (suc (suc (suc (suc (suc (suc (suc (suc zero))))))))))))) y p q h other = three-bits 104 y run_before_7 h refl refl other
-short-found (suc (suc (suc (suc (suc (suc (suc (suc (suc (suc (suc (suc (suc (suc zero)))))))))))))) y p q h other = three-bits 112 y run_before_7 h refl refl other
-short-found (suc (suc (suc (suc (suc (suc (suc (suc (suc (suc (suc (suc (suc (suc (suc zero))))))))))))))) y p q h other = three-bits 120 y run_before_7 h refl refl other
+short-found (suc (suc (suc (suc (suc (suc (suc (suc (suc (suc (suc (suc (suc (suc zero)))))))))))))) y p q h other =
+    three-bits 112 y run_before_7 h refl refl other
+short-found (suc (suc (suc (suc (suc (suc (suc (suc (suc (suc (suc (suc (suc (suc (suc zero))))))))))))))) y p q h other =
+    three-bits 120 y run_before_7 h refl refl other
 short-found (suc (suc (suc (suc (suc (suc (suc (suc (suc (suc (suc (suc (suc (suc (suc (suc z)))))))))))))))) y p q h other = absurd (omega arith)
 
 -- up to zerosLeft 6 no word has more than three bits
@@ -170,7 +189,8 @@ empty-at [] k e h = absurd (omega arith)
 empty-at (x ∷ xs) zero e h = eqb-true _ _ (and_parts _ _ e).0
 empty-at (x ∷ xs) (suc k) e h = empty-at xs k (and_parts _ _ e).1 (omega arith)
 
-pub short-none : (z y : ℕ) → z ≡ 0 → y < 2 ^ 16 → ◌≡◌ {A = ℕ × ℕ} (get_or run.WORD_LENGTHS (8 * z + y / 2 ^ 13) 0, get_or run.WORD_VALUES (8 * z + y / 2 ^ 13) 0) (0, 0)
+pub short-none : (z y : ℕ) → z ≡ 0 → y < 2 ^ 16 →
+    ◌≡◌ {A = ℕ × ℕ} (get_or run.WORD_LENGTHS (8 * z + y / 2 ^ 13) 0, get_or run.WORD_VALUES (8 * z + y / 2 ^ 13) 0) (0, 0)
 unfolding part is_empty
 short-none z y none h =
     let j = y / 2 ^ 13 in
@@ -197,12 +217,15 @@ pub short-small : (z y : ℕ) → z ≤ 15 → y < 2 ^ 16 → get_or run.WORD_VA
 unfolding are_small
 short-small z y few h =
     let long : length run.WORD_VALUES ≡ 128 = refl in
-    let small : 8 * get_or run.WORD_VALUES (8 * z + y / 2 ^ 13) 0 ≤ 0 + (8 * z + y / 2 ^ 13) = small-at 0 (8 * z + y / 2 ^ 13) run.WORD_VALUES refl (omega arith) in
+    let small : 8 * get_or run.WORD_VALUES (8 * z + y / 2 ^ 13) 0 ≤ 0 + (8 * z + y / 2 ^ 13) =
+    small-at 0 (8 * z + y / 2 ^ 13) run.WORD_VALUES refl (omega arith) in
     omega arith
 
 pub six-found : (t y : ℕ) → 1 < t → t ≤ 15 → y < 2 ^ 16 →
-    (get_or total.WORD_LENGTHS (64 * (t - 2) + y / 2 ^ 10) 0, get_or total.WORD_VALUES (64 * (t - 2) + y / 2 ^ 10) 0) ≡ found_of (front_of 16 (rows_of (total_zeros_table 16 t)) y)
-unfolding part all_fit entry_fits agrees total_zeros_table total_zeros_tables total_zeros_2 total_zeros_3 total_zeros_4 total_zeros_5 total_zeros_6 total_zeros_7 total_zeros_8 total_zeros_9 total_zeros_10 total_zeros_11 total_zeros_12 total_zeros_13 total_zeros_14 total_zeros_15
+    (get_or total.WORD_LENGTHS (64 * (t - 2) + y / 2 ^ 10) 0, get_or total.WORD_VALUES (64 * (t - 2) + y / 2 ^ 10) 0) ≡
+    found_of (front_of 16 (rows_of (total_zeros_table 16 t)) y)
+unfolding part all_fit entry_fits agrees total_zeros_table total_zeros_tables total_zeros_2 total_zeros_3 total_zeros_4 total_zeros_5 total_zeros_6
+    total_zeros_7 total_zeros_8 total_zeros_9 total_zeros_10 total_zeros_11 total_zeros_12 total_zeros_13 total_zeros_14 total_zeros_15
 six-found zero y p q h = absurd (omega arith)
 six-found (suc zero) y p q h = absurd (omega arith)
 six-found (suc (suc zero)) y p q h = six-bits 0 y total_zeros_2 h refl refl
@@ -221,14 +244,16 @@ six-found (suc (suc (suc (suc (suc (suc (suc (suc (suc (suc (suc (suc (suc (suc 
 six-found (suc (suc (suc (suc (suc (suc (suc (suc (suc (suc (suc (suc (suc (suc (suc zero))))))))))))))) y p q h = six-bits 832 y total_zeros_15 h refl refl
 six-found (suc (suc (suc (suc (suc (suc (suc (suc (suc (suc (suc (suc (suc (suc (suc (suc t)))))))))))))))) y p q h = absurd (omega arith)
 
-pub nine-found : (y : ℕ) → y < 2 ^ 16 → (get_or total.ONE_LENGTHS (y / 2 ^ 7) 0, get_or total.ONE_VALUES (y / 2 ^ 7) 0) ≡ found_of (front_of 16 (rows_of (total_zeros_table 16 1)) y)
+pub nine-found : (y : ℕ) → y < 2 ^ 16 → (get_or total.ONE_LENGTHS (y / 2 ^ 7) 0, get_or total.ONE_VALUES (y / 2 ^ 7) 0) ≡
+    found_of (front_of 16 (rows_of (total_zeros_table 16 1)) y)
 unfolding part all_fit entry_fits agrees total_zeros_table total_zeros_tables total_zeros_1
 nine-found y h =
     let e : 0 + y / 2 ^ 7 ≡ y / 2 ^ 7 = omega arith in
     rw e at (found-in 512 7 0 y total.ONE_LENGTHS total.ONE_VALUES total_zeros_1 (omega arith) refl refl)
 
 -- the words of coeff_token from entry n on, where a block is none of chroma DC
-pub token-found : (nc n y : ℕ) → y < 2 ^ 16 → (nc < 2 → n ≡ 0) → (2 ≤ nc → nc < 4 → n ≡ 256) → (4 ≤ nc → nc < 8 → n ≡ 512) → (8 ≤ nc → n ≡ 768) → 0 < get_or token.WORD_LENGTHS (n + y / 2 ^ 8) 0 →
+pub token-found : (nc n y : ℕ) → y < 2 ^ 16 → (nc < 2 → n ≡ 0) → (2 ≤ nc → nc < 4 → n ≡ 256) → (4 ≤ nc → nc < 8 → n ≡ 512) → (8 ≤ nc → n ≡ 768) →
+    0 < get_or token.WORD_LENGTHS (n + y / 2 ^ 8) 0 →
     (get_or token.WORD_LENGTHS (n + y / 2 ^ 8) 0, get_or token.WORD_VALUES (n + y / 2 ^ 8) 0) ≡ found_of (front_of 16 (rows_of (coeff_token_by nc)) y)
 unfolding part some_fit entry_fits agrees coeff_token_nc0 coeff_token_nc2 coeff_token_nc4 coeff_token_nc8
 token-found nc n y h one three seven more some = elim (cases_lt nc 2) [

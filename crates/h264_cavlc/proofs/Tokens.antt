@@ -1,5 +1,6 @@
 -- In each table of coeff_token no row has more trailing ones than coefficients.
-use Rattle.std.proofs.Common.{◌≡◌, ℕ, ◌/◌, ◌%◌, ◌≤◌, ℤ, pos, Bool, true, false, List, [], ◌∷◌, Option, Some, None, Result, Ok, Err, nat_le, ◌&&◌, ◌==◌, nat_lt, if◌then◌else◌, refl, ap, sym, ◌∙◌, inl, inr}
+use Rattle.std.proofs.Common.{◌≡◌, ℕ, ◌/◌, ◌%◌, ◌≤◌, ℤ, pos, Bool, true, false, List, [], ◌∷◌, Option, Some, None, Result, Ok, Err, nat_le, ◌&&◌, ◌==◌}
+use Rattle.std.proofs.Common.{nat_lt, if◌then◌else◌, refl, ap, sym, ◌∙◌, inl, inr}
 use Rattle.std.proofs.lemmas.Bool.{and_parts, leb-true}
 use Rattle.h264_base.specs.declared.element_name.ElementName.{ElementName}
 use Rattle.h264_base.specs.declared.rule.Rule.{Rule}
@@ -27,10 +28,12 @@ are_tokens (r ∷ rows) = nat_le (r.value % 4) (r.value / 4) && are_tokens rows
 row-token : (rows : List Row) (r : Row) → are_tokens rows ≡ true → IsRow rows r → r.value % 4 ≤ r.value / 4
 unfolding are_tokens
 row-token [] r e m = absurd m
-row-token (q ∷ rows) r e (inl same) = let h : q.value % 4 ≤ q.value / 4 = leb-true _ _ (and_parts _ _ e).0 in let v = ap (λ (p : Row). p.value) same in rw (← v) h
+row-token (q ∷ rows) r e (inl same) = let h : q.value % 4 ≤ q.value / 4 = leb-true _ _ (and_parts _ _ e).0 in let v = ap (λ (p : Row). p.value) same in
+    rw (← v) h
 row-token (q ∷ rows) r e (inr m) = row-token rows r (and_parts _ _ e).1 m
 
-choice-tokens : (a b c d : Bool) → are_tokens (rows_of (if a then CoeffTokenChromaDc else if b then CoeffTokenNc0 else if c then CoeffTokenNc2 else if d then CoeffTokenNc4 else CoeffTokenNc8)) ≡ true
+choice-tokens : (a b c d : Bool) → are_tokens
+    (rows_of (if a then CoeffTokenChromaDc else if b then CoeffTokenNc0 else if c then CoeffTokenNc2 else if d then CoeffTokenNc4 else CoeffTokenNc8)) ≡ true
 unfolding are_tokens coeff_token_nc0 coeff_token_nc2 coeff_token_nc4 coeff_token_nc8 coeff_token_chroma_dc
 choice-tokens true b c d = refl
 choice-tokens false true c d = refl
@@ -46,13 +49,16 @@ answer_value : Result (Seen × ℕ) Stop → ℤ
 answer_value (Ok x) = x.0.value
 answer_value (Err e) = pos 0
 
-found-at : (body : Body) (name : ElementName) (rule : Rule) (i : ℕ) (v : Seen) (j : ℕ) (o : Option (ℤ × ℕ)) → (element_run body name rule i (λ k e. run (Done e) body k) o).answer ≡ Ok (v, j) → (x : ℤ × ℕ) × (o ≡ Some x) × (x.0 ≡ v.value)
+found-at : (body : Body) (name : ElementName) (rule : Rule) (i : ℕ) (v : Seen) (j : ℕ) (o : Option (ℤ × ℕ)) →
+    (element_run body name rule i (λ k e. run (Done e) body k) o).answer ≡ Ok (v, j) → (x : ℤ × ℕ) × (o ≡ Some x) × (x.0 ≡ v.value)
 unfolding run answer_value
 found-at body name rule i v j None e = absurd (cc)
 found-at body name rule i v j (Some x) e = (x, refl, ap answer_value e)
 
 -- the row of a word that was read
-row-read : {S : Type 0} {took : S → List Call → Type 0} {failures : S → ℕ} (rule : Rule) (name : ElementName) (table : Table) {old new : Reader} {s s' : S} {f : Found ℕ} → Meets (span took failures s s') (Is seen_unsigned) (read_word rule name (Words (code_table table))) old new (Ok f) → (r : Row) × IsRow (rows_of table) r × (f.value ≡ r.value)
+row-read : {S : Type 0} {took : S → List Call → Type 0} {failures : S → ℕ} (rule : Rule) (name : ElementName) (table : Table) {old new : Reader} {s s' : S}
+    {f : Found ℕ} → Meets (span took failures s s') (Is seen_unsigned) (read_word rule name (Words (code_table table))) old new (Ok f) → (r : Row) ×
+    IsRow (rows_of table) r × (f.value ≡ r.value)
 unfolding run read_word
 row-read rule name table {old} {new} {f = f} m =
     let x = found-at old.body name rule old.at m.meets.0 new.at (value_at (Words (code_table table)) old.body.bytes old.at) m.meets.2 in
@@ -62,7 +68,9 @@ row-read rule name table {old} {new} {f = f} m =
     let p : pos f.value ≡ pos r.0.value = sym v ∙ sym x.2 ∙ r.3 in
     (r.0, r.1, cc)
 
-pub ones-within : {S : Type 0} {took : S → List Call → Type 0} {failures : S → ℕ} (rule : Rule) (name : ElementName) (table : Table) {old new : Reader} {s s' : S} {f : Found ℕ} (size nc : ℕ) → table ≡ coeff_token_table size nc → Meets (span took failures s s') (Is seen_unsigned) (read_word rule name (Words (code_table table))) old new (Ok f) → f.value % 4 ≤ f.value / 4
+pub ones-within : {S : Type 0} {took : S → List Call → Type 0} {failures : S → ℕ} (rule : Rule) (name : ElementName) (table : Table) {old new : Reader}
+    {s s' : S} {f : Found ℕ} (size nc : ℕ) → table ≡ coeff_token_table size nc →
+    Meets (span took failures s s') (Is seen_unsigned) (read_word rule name (Words (code_table table))) old new (Ok f) → f.value % 4 ≤ f.value / 4
 ones-within rule name table {f = f} size nc e m =
     let r = row-read rule name table m in
     let t = ap (λ (t : Table). are_tokens (rows_of t)) e ∙ table-tokens size nc in

@@ -1,10 +1,12 @@
-use Rattle.std.proofs.Common.{◌≡◌, ◌⊎◌, ℕ, ◌+◌, ◌*◌, ◌/◌, ◌<◌, ◌≤◌, ◌%◌, Bool, true, false, ◌&&◌, cond, nat_lt, nat_le, ◌==◌, ℤ, pos, neg_ℤ, ◌+ℤ◌, ◌-ℤ◌, min, arith, refl, sym, ap, ◌∙◌, ⊎_elim, inl, inr}
+use Rattle.std.proofs.Common.{◌≡◌, ◌⊎◌, ℕ, ◌+◌, ◌*◌, ◌/◌, ◌<◌, ◌≤◌, ◌%◌, Bool, true, false, ◌&&◌, cond, nat_lt, nat_le, ◌==◌, ℤ, pos, neg_ℤ, ◌+ℤ◌, ◌-ℤ◌, min}
+use Rattle.std.proofs.Common.{arith, refl, sym, ap, ◌∙◌, ⊎_elim, inl, inr}
 use Rattle.std.proofs.lemmas.Int.{ints, clamps}
 use Rattle.std.proofs.lemmas.Bool.Decides.{nat_tests}
 use Rattle.std.specs.Int.{abs_diff}
 use Rattle.h264_plane.specs.Clip.{clip1}
 use Rattle.h264_deblock.proofs.Signed.{clip1-is}
-use Rattle.h264_deblock.specs.Line.{filtered, is_within_limits, is_flat, turned, number, clip3, delta, step, bend, reach, second, normal, by_filter, strong, strong_side, Line, Side, Limits, Filter, Off, Normal, Strong}
+use Rattle.h264_deblock.specs.Line.{filtered, is_within_limits, is_flat, turned, number, clip3, delta, step, bend, reach, second, normal, by_filter, strong}
+use Rattle.h264_deblock.specs.Line.{strong_side, Line, Side, Limits, Filter, Off, Normal, Strong}
 use Rattle.h264_deblock.specs.Rows.{filter_by, any_filter, is_on, is_smooth, side_by, sign}
 use Rattle.h264_deblock.specs.Inner.{SameInner}
 use Rattle.h264_deblock.proofs.Lines.{filtered_is, filtered_not, filtered_off, far, within_inner}
@@ -63,7 +65,8 @@ on_last false b c d = refl
 pub on_by : (w : Bool) (k : Limits) (l : Line) (t : ℕ) → w ≡ is_within_limits k l → (w && nat_le t 25) ≡ is_on k l t
 unfolding is_within_limits
 on_by w k l t e =
-    ap (λ b. b && nat_le t 25) e ∙ on_last (nat_lt (abs_diff l.p0 l.q0) k.alpha) (nat_lt (abs_diff l.p1 l.p0) k.beta) (nat_lt (abs_diff l.q1 l.q0) k.beta) (nat_le t 25)
+    ap (λ b. b && nat_le t 25) e ∙ on_last (nat_lt (abs_diff l.p0 l.q0) k.alpha) (nat_lt (abs_diff l.p1 l.p0) k.beta) (nat_lt (abs_diff l.q1 l.q0) k.beta)
+    (nat_le t 25)
 
 on_parts : (k : Limits) (l : Line) (t : ℕ) → is_on k l t ≡ true → (is_within_limits k l ≡ true) × (nat_le t 25 ≡ true)
 unfolding is_within_limits
@@ -182,7 +185,8 @@ reach_fits w f g t on s p q a tc eo es ep eq ea ec =
     let other = one_at_most ((w && nat_le t 25) && g) in
     (omega (arith, b, one, other, ep, eq, ea, ec), omega (arith, b, one, other, ep, eq, ea, ec))
 
-pub reach_of_chroma_fits : (w : Bool) (t on s tc : ℕ) → on ≡ sign (w && nat_le t 25) → s ≡ cond (nat_lt 0 on) t 0 → tc ≡ (s + on) % 256 → (tc ≡ s + on) × (tc ≤ 27)
+pub reach_of_chroma_fits : (w : Bool) (t on s tc : ℕ) → on ≡ sign (w && nat_le t 25) → s ≡ cond (nat_lt 0 on) t 0 → tc ≡ (s + on) % 256 → (tc ≡ s + on) ×
+    (tc ≤ 27)
 reach_of_chroma_fits w t on s tc eo es ec =
     let b = parts_fit w t on s eo es in
     let one = one_at_most (w && nat_le t 25) in
@@ -195,7 +199,8 @@ record SameSide (a b : Side) : Type 0 where
   x1 : a.x1 ≡ b.x1
   x2 : a.x2 ≡ b.x2
 
-side_on : (f g : Bool) (k : Limits) (l : Line) → f ≡ is_flat k l → g ≡ nat_lt (abs_diff l.p0 l.q0) (k.alpha / 4 + 2) → SameSide (side_by true (f && g) l) (strong_side false k l)
+side_on : (f g : Bool) (k : Limits) (l : Line) → f ≡ is_flat k l → g ≡ nat_lt (abs_diff l.p0 l.q0) (k.alpha / 4 + 2) →
+    SameSide (side_by true (f && g) l) (strong_side false k l)
 unfolding side_by strong_side
 side_on true true k l e h = rw (← e, ← h) (record { x0 = refl; x1 = refl; x2 = refl })
 side_on true false k l e h = rw (← e, ← h) (record { x0 = refl; x1 = refl; x2 = refl })
@@ -215,7 +220,8 @@ strong_line : (k : Limits) (l : Line) (p q : Side) → SameSide p (strong_side f
 unfolding strong
 strong_line k l p q a b = same_line _ _ _ _ _ _ _ _ _ refl a.x2 a.x1 a.x0 b.x0 b.x1 b.x2 refl
 
-pub strong_lane : (on f g : Bool) (k : Limits) (l : Line) (p q : Side) → on ≡ is_within_limits k l → f ≡ is_smooth k l → g ≡ is_smooth k (turned l) → k.filter ≡ Strong →
+pub strong_lane : (on f g : Bool) (k : Limits) (l : Line) (p q : Side) → on ≡ is_within_limits k l → f ≡ is_smooth k l → g ≡ is_smooth k (turned l) →
+    k.filter ≡ Strong →
     p ≡ side_by on (on && f) l → q ≡ side_by on (on && g) (turned l) →
     (let m : Line = record { p3 = l.p3; p2 = p.x2; p1 = p.x1; p0 = p.x0; q0 = q.x0; q1 = q.x1; q2 = q.x2; q3 = l.q3 } in m) ≡ filtered false k l
 strong_lane true f g k l p q on ef eg h ep eq =
@@ -257,16 +263,19 @@ by_kind k l f g e = ap (λ (h : Filter). let n : Limits = record { alpha = k.alp
 
 -- the lines of an edge with some bS of 4, by whether each has one
 pub mixed_line : (f : Bool) (k : Limits) (t : ℕ) (l a b m : Line) → f ≡ nat_lt (abs_diff t 254) 1 →
-    a ≡ filtered false (record { alpha = k.alpha; beta = k.beta; filter = Strong }) l → b ≡ filtered false (record { alpha = k.alpha; beta = k.beta; filter = filter_by t }) l →
+    a ≡ filtered false (record { alpha = k.alpha; beta = k.beta; filter = Strong }) l →
+    b ≡ filtered false (record { alpha = k.alpha; beta = k.beta; filter = filter_by t }) l →
     m.p3 ≡ l.p3 → m.p2 ≡ cond f a.p2 b.p2 → m.p1 ≡ cond f a.p1 b.p1 → m.p0 ≡ cond f a.p0 b.p0 → m.q0 ≡ cond f a.q0 b.q0 → m.q1 ≡ cond f a.q1 b.q1 →
     m.q2 ≡ cond f a.q2 b.q2 → m.q3 ≡ l.q3 → m ≡ filtered false (record { alpha = k.alpha; beta = k.beta; filter = any_filter t }) l
 mixed_line true k t l a b m ef ea eb e3 e2 e1 e0 h0 h1 h2 h3 =
     let outer = far (record { alpha = k.alpha; beta = k.beta; filter = Strong }) l in
-    same_line a m.p3 m.p2 m.p1 m.p0 m.q0 m.q1 m.q2 m.q3 (e3 ∙ sym outer.0 ∙ ap (λ x. x.p3) (sym ea)) e2 e1 e0 h0 h1 h2 (h3 ∙ sym outer.1 ∙ ap (λ x. x.q3) (sym ea))
+    same_line a m.p3 m.p2 m.p1 m.p0 m.q0 m.q1 m.q2 m.q3 (e3 ∙ sym outer.0 ∙ ap (λ x. x.p3) (sym ea)) e2 e1 e0 h0 h1 h2
+    (h3 ∙ sym outer.1 ∙ ap (λ x. x.q3) (sym ea))
     ∙ ea ∙ by_kind k l _ _ (sym (any_four t (number_four t true ef)))
 mixed_line false k t l a b m ef ea eb e3 e2 e1 e0 h0 h1 h2 h3 =
     let outer = far (record { alpha = k.alpha; beta = k.beta; filter = filter_by t }) l in
-    same_line b m.p3 m.p2 m.p1 m.p0 m.q0 m.q1 m.q2 m.q3 (e3 ∙ sym outer.0 ∙ ap (λ x. x.p3) (sym eb)) e2 e1 e0 h0 h1 h2 (h3 ∙ sym outer.1 ∙ ap (λ x. x.q3) (sym eb))
+    same_line b m.p3 m.p2 m.p1 m.p0 m.q0 m.q1 m.q2 m.q3 (e3 ∙ sym outer.0 ∙ ap (λ x. x.p3) (sym eb)) e2 e1 e0 h0 h1 h2
+    (h3 ∙ sym outer.1 ∙ ap (λ x. x.q3) (sym eb))
     ∙ eb ∙ by_kind k l _ _ (sym (any_other t (number_four t false ef)))
 
 -- ---- chroma
@@ -309,7 +318,8 @@ inner_normal_lane alpha beta t l m on s tc up down p0 q0 near eo es etc moves =
 
 -- the filter's kind is none of what is asked of the samples
 pub within_same : (a b : ℕ) (f g : Filter) (l : Line) →
-    is_within_limits (let k : Limits = record { alpha = a; beta = b; filter = f } in k) l ≡ is_within_limits (let k : Limits = record { alpha = a; beta = b; filter = g } in k) l
+    is_within_limits (let k : Limits = record { alpha = a; beta = b; filter = f } in k) l ≡
+    is_within_limits (let k : Limits = record { alpha = a; beta = b; filter = g } in k) l
 unfolding is_within_limits
 within_same a b f g l = refl
 
@@ -335,13 +345,17 @@ pub inner_strong_lane : (alpha beta : ℕ) (l : Line) (on a b p0 q0 : ℕ) →
 inner_strong_lane alpha beta l on a b p0 q0 eo ea eb e1 e2 =
     let k : Limits = record { alpha = alpha; beta = beta; filter = Strong } in
     let w = is_within_limits k l in
-    strong_inner w k l p0 q0 refl refl (chosen_if w on a l.p0 p0 eo e1 ∙ ap (λ z. cond w z l.p0) ea) (chosen_if w on b l.q0 q0 eo e2 ∙ ap (λ z. cond w z l.q0) eb)
+    strong_inner w k l p0 q0 refl refl (chosen_if w on a l.p0 p0 eo e1 ∙ ap (λ z. cond w z l.p0) ea)
+    (chosen_if w on b l.q0 q0 eo e2 ∙ ap (λ z. cond w z l.q0) eb)
 
 -- the samples of chroma of an edge with some bS of 4
 pub mixed_inner : (f : Bool) (k : Limits) (t : ℕ) (l : Line) (x a b : ℕ) (part : Line → ℕ) → f ≡ nat_lt (abs_diff t 254) 1 → x ≡ cond f a b →
-    a ≡ part (filtered true (record { alpha = k.alpha; beta = k.beta; filter = Strong }) l) → b ≡ part (filtered true (record { alpha = k.alpha; beta = k.beta; filter = filter_by t }) l) →
+    a ≡ part (filtered true (record { alpha = k.alpha; beta = k.beta; filter = Strong }) l) →
+    b ≡ part (filtered true (record { alpha = k.alpha; beta = k.beta; filter = filter_by t }) l) →
     x ≡ part (filtered true (record { alpha = k.alpha; beta = k.beta; filter = any_filter t }) l)
 mixed_inner true k t l x a b part ef ex ea eb =
-    ex ∙ ea ∙ ap (λ (h : Filter). let n : Limits = record { alpha = k.alpha; beta = k.beta; filter = h } in part (filtered true n l)) (sym (any_four t (number_four t true ef)))
+    ex ∙ ea ∙ ap (λ (h : Filter). let n : Limits = record { alpha = k.alpha; beta = k.beta; filter = h } in part (filtered true n l))
+    (sym (any_four t (number_four t true ef)))
 mixed_inner false k t l x a b part ef ex ea eb =
-    ex ∙ eb ∙ ap (λ (h : Filter). let n : Limits = record { alpha = k.alpha; beta = k.beta; filter = h } in part (filtered true n l)) (sym (any_other t (number_four t false ef)))
+    ex ∙ eb ∙ ap (λ (h : Filter). let n : Limits = record { alpha = k.alpha; beta = k.beta; filter = h } in part (filtered true n l))
+    (sym (any_other t (number_four t false ef)))

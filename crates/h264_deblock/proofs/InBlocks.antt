@@ -1,5 +1,6 @@
 -- Lines of a vertical edge that are written as one block of the plane, row by row.
-use Rattle.std.proofs.Common.{◌≡◌, ◌⊎◌, ℕ, suc, ◌+◌, ◌-◌, ◌*◌, ◌<◌, ◌≤◌, true, false, cond, ◌&&◌, nat_le, nat_lt, ◌==◌, List, slice_index, arith, sym, ap, ◌∙◌, ⊎_elim, inl, inr}
+use Rattle.std.proofs.Common.{◌≡◌, ◌⊎◌, ℕ, suc, ◌+◌, ◌-◌, ◌*◌, ◌<◌, ◌≤◌, true, false, cond, ◌&&◌, nat_le, nat_lt, ◌==◌, List, slice_index, arith, sym, ap}
+use Rattle.std.proofs.Common.{◌∙◌, ⊎_elim, inl, inr}
 use Rattle.std.proofs.lemmas.Bool.Decides.{nat_tests}
 use Rattle.std.proofs.lemmas.Bool.{cases_eq, cases_lt}
 use Rattle.std.proofs.Math.Nat.{mul-le-mul_right}
@@ -16,7 +17,8 @@ use Rattle.h264_deblock.proofs.Local.{outer, replaced_inner}
 block_test : (w h x y u v : ℕ) → x ≤ u → u < x + w → y ≤ v → v < y + h → (nat_le x u && nat_lt u (x + w) && nat_le y v && nat_lt v (y + h)) ≡ true
 block_test w h x y u v a b c d = grind (arith, nat_tests)
 
-block_at : (w h x y : ℕ) (block : List ℕ) (s : ℕ → ℕ → ℕ) (u v c : ℕ) → c < w → u ≡ x + c → y ≤ v → v < y + h → with_block w h x y block s u v ≡ slice_index block (w * (v - y) + c)
+block_at : (w h x y : ℕ) (block : List ℕ) (s : ℕ → ℕ → ℕ) (u v c : ℕ) → c < w → u ≡ x + c → y ≤ v → v < y + h →
+    with_block w h x y block s u v ≡ slice_index block (w * (v - y) + c)
 unfolding with_block
 block_at w h x y block s u v c few e a b =
     let place : u - x ≡ c = omega arith in
@@ -30,7 +32,8 @@ block_beyond : (w h x y : ℕ) (block : List ℕ) (s : ℕ → ℕ → ℕ) (u v
 unfolding with_block
 block_beyond w h x y block s u v away = grind (arith, nat_tests)
 
-beside_eight : (x w : ℕ) → 4 ≤ x → (w + 4 ≡ x → ⊥) → (w + 3 ≡ x → ⊥) → (w + 2 ≡ x → ⊥) → (w + 1 ≡ x → ⊥) → (w ≡ x → ⊥) → (w ≡ x + 1 → ⊥) → (w ≡ x + 2 → ⊥) → (w ≡ x + 3 → ⊥) → (w < x - 4) ⊎ (x - 4 + 8 ≤ w)
+beside_eight : (x w : ℕ) → 4 ≤ x → (w + 4 ≡ x → ⊥) → (w + 3 ≡ x → ⊥) → (w + 2 ≡ x → ⊥) → (w + 1 ≡ x → ⊥) → (w ≡ x → ⊥) → (w ≡ x + 1 → ⊥) → (w ≡ x + 2 → ⊥) →
+    (w ≡ x + 3 → ⊥) → (w < x - 4) ⊎ (x - 4 + 8 ≤ w)
 beside_eight x w b n0 n1 n2 n3 n4 n5 n6 n7 = ⊎_elim (λ i. inl i) (λ i. inr (omega arith)) (cases_lt w (x - 4))
 
 -- the samples of a line in a row of the block, where the first and the last stay
@@ -45,9 +48,11 @@ line_here x y block l s w v b low high is e3 f3 =
     (λ n3. ⊎_elim (λ i. block_at 8 16 (x - 4) y block s w v 4 (omega arith) (omega arith) low high ∙ is.q0 ∙ (grind (arith, nat_tests)))
     (λ n4. ⊎_elim (λ i. block_at 8 16 (x - 4) y block s w v 5 (omega arith) (omega arith) low high ∙ is.q1 ∙ (grind (arith, nat_tests)))
     (λ n5. ⊎_elim (λ i. block_at 8 16 (x - 4) y block s w v 6 (omega arith) (omega arith) low high ∙ is.q2 ∙ (grind (arith, nat_tests)))
-    (λ n6. ⊎_elim (λ i. block_at 8 16 (x - 4) y block s w v 7 (omega arith) (omega arith) low high ∙ is.q3 ∙ f3 ∙ ap (λ z. s z v) (sym i) ∙ (grind (arith, nat_tests)))
+    (λ n6. ⊎_elim (λ i. block_at 8 16 (x - 4) y block s w v 7 (omega arith) (omega arith) low high ∙ is.q3 ∙ f3 ∙ ap (λ z. s z v) (sym i) ∙
+    (grind (arith, nat_tests)))
     (λ n7. block_beside 8 16 (x - 4) y block s w v (beside_eight x w b n0 n1 n2 n3 n4 n5 n6 n7) ∙ (grind (arith, nat_tests)))
-    (cases_eq w (x + 3))) (cases_eq w (x + 2))) (cases_eq w (x + 1))) (cases_eq w x)) (cases_eq (w + 1) x)) (cases_eq (w + 2) x)) (cases_eq (w + 3) x)) (cases_eq (w + 4) x)
+    (cases_eq w (x + 3))) (cases_eq w (x + 2))) (cases_eq w (x + 1))) (cases_eq w x)) (cases_eq (w + 1) x)) (cases_eq (w + 2) x)) (cases_eq (w + 3) x))
+    (cases_eq (w + 4) x)
 
 -- the lines of an edge of luma
 pub lines_written : (p q : Samples) (x y : ℕ) (block : List ℕ) (r : Rows) → 4 ≤ x → ((n : ℕ) → n < 16 → HasLine block (8 * n) (line_of r n)) →
@@ -95,7 +100,8 @@ pairs_written p q x y block r b first second put = record {
         let place : y + n ≡ u = omega (arith, here.0) in
         let l = filtered true (k n) (taps (look true p u) x) in
         let same : filtered true (k n) (taps (look true p (y + n)) x) ≡ l = ap (λ z. filtered true (k n) (taps (look true p z) x)) place in
-        pair_here x y block l.p0 l.q0 (at p) w u b here.0 here.1 (first n small ∙ near.p0 n small ∙ ap (λ m. m.p0) same) (second n small ∙ near.q0 n small ∙ ap (λ m. m.q0) same)
+        pair_here x y block l.p0 l.q0 (at p) w u b here.0 here.1 (first n small ∙ near.p0 n small ∙ ap (λ m. m.p0) same)
+        (second n small ∙ near.q0 n small ∙ ap (λ m. m.q0) same)
         ∙ sym (replaced_inner l (look true p u) x w b (outer (k n) (taps (look true p u) x)))
         ∙ sym (lines_at true k 8 y x (look true p) u w here.0 here.1))
         (λ away. block_beyond 2 8 (x - 1) y block (at p) w u away ∙ sym (lines_beyond true k 8 y x (look true p) u w away))

@@ -27,13 +27,16 @@ names-at word (suc (suc (suc (suc q)))) h = absurd (omega arith)
 
 -- by the number of a line's filter
 at-level : (l : Level) (e : EdgeParameters) (word : List ℕ) (t q : ℕ) → IsLevel l e → names word ≡ e.strengths → q < 4 →
-    any_filter t ≡ filter_of (index_of e.qp_p e.qp_q e.filter_offset_a) (named (get_or word q 0)) → (let k : Limits = record { alpha = l.alpha; beta = l.beta; filter = any_filter t } in k) ≡ limits e q
+    any_filter t ≡ filter_of (index_of e.qp_p e.qp_q e.filter_offset_a) (named (get_or word q 0)) →
+    (let k : Limits = record { alpha = l.alpha; beta = l.beta; filter = any_filter t } in k) ≡ limits e q
 at-level l e word t q is named-by h f =
     limits_is e q (index_of e.qp_p e.qp_q e.filter_offset_a) (index_of e.qp_p e.qp_q e.filter_offset_b) l.alpha l.beta (any_filter t) refl refl is.alpha is.beta
     (f ∙ ap (filter_of (index_of e.qp_p e.qp_q e.filter_offset_a)) (sym (names-at word q h) ∙ ap (λ (s : List BoundaryStrength). get_or s q Zero) named-by))
 
-pub below-level : (l : Level) (e : EdgeParameters) (word : List ℕ) (t : ℕ) (chroma : Bool) (n : ℕ) → n < 16 → IsLevel l e → names word ≡ e.strengths → get_or word (quarter chroma n) 0 < 4 →
-    t ≡ slice_index l.numbers (get_or word (quarter chroma n) 0) → (let k : Limits = record { alpha = l.alpha; beta = l.beta; filter = any_filter t } in k) ≡ limits e (quarter chroma n)
+pub below-level : (l : Level) (e : EdgeParameters) (word : List ℕ) (t : ℕ) (chroma : Bool) (n : ℕ) → n < 16 → IsLevel l e → names word ≡ e.strengths →
+    get_or word (quarter chroma n) 0 < 4 →
+    t ≡ slice_index l.numbers (get_or word (quarter chroma n) 0) →
+    (let k : Limits = record { alpha = l.alpha; beta = l.beta; filter = any_filter t } in k) ≡ limits e (quarter chroma n)
 below-level l e word t chroma n i is named-by b same =
     at-level l e word t (quarter chroma n) is named-by (quarter-small chroma n i) (ap any_filter same ∙ is.numbers (get_or word (quarter chroma n) 0) b)
 
@@ -44,12 +47,14 @@ fours-at (suc (suc zero)) h = refl
 fours-at (suc (suc (suc zero))) h = refl
 fours-at (suc (suc (suc (suc q)))) h = absurd (omega arith)
 
-pub four-level : (l : Level) (e : EdgeParameters) (word : List ℕ) (t : ℕ) (chroma : Bool) (n : ℕ) → n < 16 → IsLevel l e → names word ≡ e.strengths → word ≡ fours →
+pub four-level : (l : Level) (e : EdgeParameters) (word : List ℕ) (t : ℕ) (chroma : Bool) (n : ℕ) → n < 16 → IsLevel l e → names word ≡ e.strengths →
+    word ≡ fours →
     t ≡ 254 → (let k : Limits = record { alpha = l.alpha; beta = l.beta; filter = any_filter t } in k) ≡ limits e (quarter chroma n)
 four-level l e word t chroma n i is named-by f same =
     let q = quarter-small chroma n i in
     at-level l e word t (quarter chroma n) is named-by q
-    (is_four t same ∙ ap (λ z. filter_of (index_of e.qp_p e.qp_q e.filter_offset_a) (named z)) (sym (ap (λ (w : List ℕ). get_or w (quarter chroma n) 0) f ∙ fours-at (quarter chroma n) q)))
+    (is_four t same ∙ ap (λ z. filter_of (index_of e.qp_p e.qp_q e.filter_offset_a) (named z))
+    (sym (ap (λ (w : List ℕ). get_or w (quarter chroma n) 0) f ∙ fours-at (quarter chroma n) q)))
 
 -- alpha or beta is 0
 pub idle-alpha : (l : Level) (e : EdgeParameters) → IsLevel l e → l.alpha ≡ 0 → IsIdle e
@@ -61,7 +66,8 @@ unfolding limits
 idle-beta l e is z n = inr (sym is.beta ∙ z)
 
 -- four numbers by cases
-pub four-numbers : (i a b c d : ℕ) → any_filter a ≡ filter_of i (named 0) → any_filter b ≡ filter_of i (named 1) → any_filter c ≡ filter_of i (named 2) → any_filter d ≡ filter_of i (named 3) →
+pub four-numbers : (i a b c d : ℕ) → any_filter a ≡ filter_of i (named 0) → any_filter b ≡ filter_of i (named 1) → any_filter c ≡ filter_of i (named 2) →
+    any_filter d ≡ filter_of i (named 3) →
     (s : ℕ) → s < 4 → any_filter (slice_index (a ∷ b ∷ c ∷ d ∷ []) s) ≡ filter_of i (named s)
 four-numbers i a b c d e f g h zero k = e
 four-numbers i a b c d e f g h (suc zero) k = f

@@ -46,7 +46,8 @@ nearest_rows p q r x y near b m n f g = record {
 -- the lines of an edge that are read, filtered and written
 pub edge_by_nearest : (v : Bool) (p q : Samples) (e : EdgeParameters) (along across : ℕ) (k : ℕ → Limits) (before : ℕ → Line) (after : Nearest) →
     ((n : ℕ) → n < 8 → SameInner (before n) (taps (look v p (along + n)) across)) → AreNearest after (λ n. filtered true (k n) (before n)) →
-    ((n : ℕ) → n < 8 → k n ≡ limits e (n / 2)) → AreNearestWritten v p q along across after → ShowsSamples p q (edge_after v true e (edge_at along across) (at p))
+    ((n : ℕ) → n < 8 → k n ≡ limits e (n / 2)) → AreNearestWritten v p q along across after →
+    ShowsSamples p q (edge_after v true e (edge_at along across) (at p))
 edge_by_nearest v p q e along across k before after read filtering same put =
     edge_shown v true p q e 4 along across refl
     (put.lines (λ n. limits e (n / 2)) (record {

@@ -1,5 +1,6 @@
 -- The strengths of an edge as numbers.
-use Rattle.std.proofs.Common.{◌≡◌, ℕ, zero, suc, ◌<◌, ◌≤◌, Bool, List, [], ◌∷◌, length, get_or, Option, Some, None, IsTrue, is_some, arith, refl, sym, w32, subst}
+use Rattle.std.proofs.Common.{◌≡◌, ℕ, zero, suc, ◌<◌, ◌≤◌, Bool, List, [], ◌∷◌, length, get_or, Option, Some, None, IsTrue, is_some, arith, refl, sym, w32}
+use Rattle.std.proofs.Common.{subst}
 use Rattle.std.specs.Int.{from_le_bytes}
 use Rattle.std.proofs.lemmas.Nat.{le_bytes_4}
 use Rattle.h264_plane.specs.Samples.{Samples, at, ShowsSamples}
@@ -60,6 +61,7 @@ some-named None h = h
 some-named (Some b) h = refl
 
 -- an edge whose strengths are 0
-pub zero-edge : (v chroma : Bool) (p : Samples) (e : EdgeParameters) (along across : ℕ) (word : List ℕ) → 4 ≤ across → word ≡ zeros → names word ≡ e.strengths → ShowsSamples p p (edge_after v chroma e (edge_at along across) (at p))
+pub zero-edge : (v chroma : Bool) (p : Samples) (e : EdgeParameters) (along across : ℕ) (word : List ℕ) → 4 ≤ across → word ≡ zeros →
+    names word ≡ e.strengths → ShowsSamples p p (edge_after v chroma e (edge_at along across) (at p))
 zero-edge v chroma p e along across word before z named-by =
     edge_off v chroma p e along across before (subst (λ s. AreAll Zero s) named-by (zeros-are word z))

@@ -17,9 +17,11 @@ pub not_equal : (a b : ℕ) → a ≡ b → not (a == b) ≡ true → ⊥
 not_equal a b e t = false≢true (sym (ap not (eq-eqb a b e)) ∙ t)
 
 -- both blocks lie in one partition
-joined : (p : Partition) (v : Bool) (line : ℕ) (motions : List (Option Motion)) → 0 < line → line < 4 → ((k : ℕ) → k < 4 → first_of p (number_at v (line - 1) k) ≡ first_of p (number_at v line k)) → MovesByPartition p motions → AreJoined v line motions
+joined : (p : Partition) (v : Bool) (line : ℕ) (motions : List (Option Motion)) → 0 < line → line < 4 →
+    ((k : ℕ) → k < 4 → first_of p (number_at v (line - 1) k) ≡ first_of p (number_at v line k)) → MovesByPartition p motions → AreJoined v line motions
 joined p v line motions some few same moves = record {
-  each = λ k h. moves.each (number_at v (line - 1) k) (few-at v (line - 1) k (omega arith) h) ∙ ap (λ z. get_or motions z None) (same k h) ∙ sym (moves.each (number_at v line k) (few-at v line k few h));
+  each = λ k h. moves.each (number_at v (line - 1) k) (few-at v (line - 1) k (omega arith) h) ∙ ap (λ z. get_or motions z None) (same k h) ∙
+      sym (moves.each (number_at v line k) (few-at v line k few h));
 }
 
 pub joined16x16 : (v : Bool) (line : ℕ) (motions : List (Option Motion)) → 0 < line → line < 4 → MovesByPartition P16x16 motions → AreJoined v line motions
@@ -29,7 +31,8 @@ pub joined16x8-columns : (line : ℕ) (motions : List (Option Motion)) → 0 < l
 unfolding number_of
 joined16x8-columns line motions some few moves = joined P16x8 true line motions some few (λ k h. omega arith) moves
 
-pub joined16x8-rows : (line : ℕ) (motions : List (Option Motion)) → 0 < line → line < 4 → line ≢ 2 → MovesByPartition P16x8 motions → AreJoined false line motions
+pub joined16x8-rows : (line : ℕ) (motions : List (Option Motion)) → 0 < line → line < 4 → line ≢ 2 → MovesByPartition P16x8 motions →
+    AreJoined false line motions
 unfolding number_of
 joined16x8-rows line motions some few other moves = joined P16x8 false line motions some few (λ k h. omega arith) moves
 
@@ -37,7 +40,8 @@ pub joined8x16-rows : (line : ℕ) (motions : List (Option Motion)) → 0 < line
 unfolding number_of
 joined8x16-rows line motions some few moves = joined P8x16 false line motions some few (λ k h. omega arith) moves
 
-pub joined8x16-columns : (line : ℕ) (motions : List (Option Motion)) → 0 < line → line < 4 → line ≢ 2 → MovesByPartition P8x16 motions → AreJoined true line motions
+pub joined8x16-columns : (line : ℕ) (motions : List (Option Motion)) → 0 < line → line < 4 → line ≢ 2 → MovesByPartition P8x16 motions →
+    AreJoined true line motions
 unfolding number_of
 joined8x16-columns line motions some few other moves = joined P8x16 true line motions some few (λ k h. omega arith) moves
 
@@ -45,17 +49,20 @@ joined8x16-columns line motions some few other moves = joined P8x16 true line mo
 whole-first : (types : List SubPartition) (n : ℕ) → n < 16 → ((q : ℕ) → q < 4 → get_or types q sub.P8x8 ≡ sub.P8x8) → first_of (P8x8 types) n ≡ n / 4 * 4
 whole-first types n h whole = rw (whole (n / 4) (omega arith)) (omega arith)
 
-pub joined8x8 : (types : List SubPartition) (v : Bool) (line : ℕ) (motions : List (Option Motion)) → 0 < line → line < 4 → line ≢ 2 → ((q : ℕ) → q < 4 → get_or types q sub.P8x8 ≡ sub.P8x8) → MovesByPartition (P8x8 types) motions → AreJoined v line motions
+pub joined8x8 : (types : List SubPartition) (v : Bool) (line : ℕ) (motions : List (Option Motion)) → 0 < line → line < 4 → line ≢ 2 →
+    ((q : ℕ) → q < 4 → get_or types q sub.P8x8 ≡ sub.P8x8) → MovesByPartition (P8x8 types) motions → AreJoined v line motions
 unfolding number_of
 joined8x8 types v line motions some few other whole moves = joined (P8x8 types) v line motions some few
-    (λ k h. whole-first types (number_at v (line - 1) k) (few-at v (line - 1) k (omega arith) h) whole ∙ same v k h ∙ sym (whole-first types (number_at v line k) (few-at v line k few h) whole)) moves
+    (λ k h. whole-first types (number_at v (line - 1) k) (few-at v (line - 1) k (omega arith) h) whole ∙ same v k h ∙
+    sym (whole-first types (number_at v line k) (few-at v line k few h) whole)) moves
   where
     same : (v : Bool) (k : ℕ) → k < 4 → number_at v (line - 1) k / 4 * 4 ≡ number_at v line k / 4 * 4
     same true k h = omega arith
     same false k h = omega arith
 
 -- four of a list
-pub four-whole : (types : List SubPartition) → get_or types 0 sub.P8x8 ≡ sub.P8x8 → get_or types 1 sub.P8x8 ≡ sub.P8x8 → get_or types 2 sub.P8x8 ≡ sub.P8x8 → get_or types 3 sub.P8x8 ≡ sub.P8x8 → (q : ℕ) → q < 4 → get_or types q sub.P8x8 ≡ sub.P8x8
+pub four-whole : (types : List SubPartition) → get_or types 0 sub.P8x8 ≡ sub.P8x8 → get_or types 1 sub.P8x8 ≡ sub.P8x8 → get_or types 2 sub.P8x8 ≡ sub.P8x8 →
+    get_or types 3 sub.P8x8 ≡ sub.P8x8 → (q : ℕ) → q < 4 → get_or types q sub.P8x8 ≡ sub.P8x8
 four-whole types a b c d zero h = a
 four-whole types a b c d (suc zero) h = b
 four-whole types a b c d (suc (suc zero)) h = c

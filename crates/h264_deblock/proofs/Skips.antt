@@ -32,7 +32,8 @@ or-false true = refl
 or-false false = refl
 
 module _ (v : Bool) (e : Edge) (s : Skipped) (p q : CodedMacroblock) (beside : LiesAlong v e p) (i : IsSkipped s q) (inter : e.intra ≡ false) where
-  pub beside-skip : (k : ℕ) (bs : BoundaryStrength) → k < 4 → bs ≡ inter_strength (nat_lt 0 (get_or e.totals k 0)) (get_or e.motions k None) (Some s.motion) → bs ≡ strength_at v 0 p q k
+  pub beside-skip : (k : ℕ) (bs : BoundaryStrength) → k < 4 → bs ≡ inter_strength (nat_lt 0 (get_or e.totals k 0)) (get_or e.motions k None) (Some s.motion) →
+      bs ≡ strength_at v 0 p q k
   beside-skip k bs h is =
       let n = number_at v 0 k in
       let few : n < 16 = few-at v 0 k (omega arith) h in

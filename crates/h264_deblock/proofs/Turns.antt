@@ -13,8 +13,10 @@ at_second a b u e = rw e refl
 
 -- ---- quarters
 
-pub by_fours : (a : List ℕ) (n : ℕ) → n < 16 → slice_index (pick_l 0 a (0 ∷ 0 ∷ 0 ∷ 0 ∷ 1 ∷ 1 ∷ 1 ∷ 1 ∷ 2 ∷ 2 ∷ 2 ∷ 2 ∷ 3 ∷ 3 ∷ 3 ∷ 3 ∷ [])) n ≡ slice_index a (quarter false n)
+pub by_fours : (a : List ℕ) (n : ℕ) → n < 16 →
+    slice_index (pick_l 0 a (0 ∷ 0 ∷ 0 ∷ 0 ∷ 1 ∷ 1 ∷ 1 ∷ 1 ∷ 2 ∷ 2 ∷ 2 ∷ 2 ∷ 3 ∷ 3 ∷ 3 ∷ 3 ∷ [])) n ≡ slice_index a (quarter false n)
 by_fours a = below_16 _ refl refl refl refl refl refl refl refl refl refl refl refl refl refl refl refl
 
-pub by_pairs : (a : List ℕ) (n : ℕ) → n < 16 → slice_index (pick_l 0 a (0 ∷ 0 ∷ 1 ∷ 1 ∷ 2 ∷ 2 ∷ 3 ∷ 3 ∷ 0 ∷ 0 ∷ 1 ∷ 1 ∷ 2 ∷ 2 ∷ 3 ∷ 3 ∷ [])) n ≡ slice_index a (quarter true n)
+pub by_pairs : (a : List ℕ) (n : ℕ) → n < 16 →
+    slice_index (pick_l 0 a (0 ∷ 0 ∷ 1 ∷ 1 ∷ 2 ∷ 2 ∷ 3 ∷ 3 ∷ 0 ∷ 0 ∷ 1 ∷ 1 ∷ 2 ∷ 2 ∷ 3 ∷ 3 ∷ [])) n ≡ slice_index a (quarter true n)
 by_pairs a = below_16 _ refl refl refl refl refl refl refl refl refl refl refl refl refl refl refl refl

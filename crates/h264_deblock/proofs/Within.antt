@@ -1,5 +1,6 @@
 -- The edges of the macroblocks of a coded picture lie in it.
-use Rattle.std.proofs.Common.{◌≡◌, ℕ, zero, suc, ◌+◌, ◌*◌, ◌/◌, ◌%◌, ◌<◌, ◌≤◌, Bool, true, false, IsTrue, List, length, get_or, Option, Some, None, is_some, refl, arith}
+use Rattle.std.proofs.Common.{◌≡◌, ℕ, zero, suc, ◌+◌, ◌*◌, ◌/◌, ◌%◌, ◌<◌, ◌≤◌, Bool, true, false, IsTrue, List, length, get_or, Option, Some, None, is_some}
+use Rattle.std.proofs.Common.{refl, arith}
 use Rattle.std.specs.List.{slice_get}
 use Rattle.std.specs.Option.{option_and_then}
 use Rattle.h264_plane.specs.declared.frame.Component.{Component}
@@ -23,14 +24,16 @@ left-there w xs h = some-before (length xs % w) _ h
 above-there : {M : Type 0} (w : ℕ) (xs : List M) (c : ℕ) → length xs % w ≤ c → IsTrue (is_some (last_in w xs c)) → 0 < length xs / w
 above-there w xs c k h = some-before (length xs / w) (λ r. slice_get xs (r * w + c)) (rw (last-above w xs c k) at h)
 
-first : (slices : ℕ → SliceFilter) (p : Component) (v : Bool) (o : Option CodedMacroblock) (q : CodedMacroblock) → IsTrue (is_some (get_or (edges_along slices p v o q) 0 None)) → IsTrue (is_some o)
+first : (slices : ℕ → SliceFilter) (p : Component) (v : Bool) (o : Option CodedMacroblock) (q : CodedMacroblock) →
+    IsTrue (is_some (get_or (edges_along slices p v o q) 0 None)) → IsTrue (is_some o)
 unfolding edges_along border
 first slices p v (Some m) q h = refl
 first slices Y v None q h = h
 first slices Cb v None q h = h
 first slices Cr v None q h = h
 
-pub edges-inside : (slices : ℕ → SliceFilter) (w : ℕ) (xs : List CodedMacroblock) (q : CodedMacroblock) (p : Component) (c r : ℕ) → length xs ≡ r * w + c → c < w → AreInside c r (coded_edges slices w xs q p)
+pub edges-inside : (slices : ℕ → SliceFilter) (w : ℕ) (xs : List CodedMacroblock) (q : CodedMacroblock) (p : Component) (c r : ℕ) → length xs ≡ r * w + c →
+    c < w → AreInside c r (coded_edges slices w xs q p)
 unfolding coded_edges
 edges-inside slices w xs q p c r e k =
     let column = remainder (length xs) w r c k e in

@@ -1,11 +1,13 @@
 -- Room is made where fewer frames are used for reference than there are places.
-use Rattle.std.proofs.Common.{◌≡◌, ℕ, zero, suc, ◌+◌, ◌<◌, ◌≤◌, inl, inr, Bool, true, false, ◌||◌, ◌&&◌, Option, Some, None, List, [], ◌∷◌, ◌++◌, length, map, cond, refl, ap, sym, ◌∙◌, subst, arith, ℤ, if◌then◌else◌}
+use Rattle.std.proofs.Common.{◌≡◌, ℕ, zero, suc, ◌+◌, ◌<◌, ◌≤◌, inl, inr, Bool, true, false, ◌||◌, ◌&&◌, Option, Some, None, List, [], ◌∷◌, ◌++◌, length, map}
+use Rattle.std.proofs.Common.{cond, refl, ap, sym, ◌∙◌, subst, arith, ℤ, if◌then◌else◌}
 use Rattle.std.specs.Prelude.{nat_lt}
 use Rattle.std.specs.List.{filter}
 use Rattle.std.specs.Ordering.{int_eq}
 use Rattle.std.proofs.lemmas.Bool.Decides.{nat_tests}
 use Rattle.h264_dpb.specs.declared.entry.Entry.{Entry}
-use Rattle.h264_dpb.specs.Bumping.{Step, in_front, is_next, least_with, least_count, left_of, written_at, written_by, bumped, made_room, is_in_use, marked_by, marked}
+use Rattle.h264_dpb.specs.Bumping.{Step, in_front, is_next, least_with, least_count, left_of, written_at, written_by, bumped, made_room, is_in_use, marked_by}
+use Rattle.h264_dpb.specs.Bumping.{marked}
 use Rattle.h264_dpb.specs.Buffered.{references, AreUsed}
 use Rattle.h264_dpb.proofs.Out.{chosen}
 use Rattle.h264_dpb.proofs.Least.{Has, has-least}
@@ -40,7 +42,8 @@ module _ {N : Type 0} where
   all-held [] u h = omega arith
   all-held (e ∷ es) u h = by e.waiting e.reference u.0 h (λ k. all-held es u.1 k)
     where
-      by : (w r : Bool) → (w || r) ≡ true → cond w 1 0 + waiting_in es ≡ 0 → (waiting_in es ≡ 0 → length es ≤ references es) → suc (length es) ≤ cond r 1 0 + references es
+      by : (w r : Bool) → (w || r) ≡ true → cond w 1 0 + waiting_in es ≡ 0 → (waiting_in es ≡ 0 → length es ≤ references es) →
+          suc (length es) ≤ cond r 1 0 + references es
       by true r t h k = absurd (omega (arith, h))
       by false true t h k = let j = k (omega (arith, h)) in omega arith
       by false false t h k = cc
@@ -49,7 +52,8 @@ module _ {N : Type 0} where
   none-waits [] h = refl
   none-waits (e ∷ es) h = by e.waiting h (none-waits es)
     where
-      by : (w : Bool) → (if w then Some (least_with e.count (least_count es)) else least_count es) ≡ None → (least_count es ≡ None → waiting_in es ≡ 0) → cond w 1 0 + waiting_in es ≡ 0
+      by : (w : Bool) → (if w then Some (least_with e.count (least_count es)) else least_count es) ≡ None → (least_count es ≡ None → waiting_in es ≡ 0) →
+          cond w 1 0 + waiting_in es ≡ 0
       by true h k = cc
       by false h k = let j = k h in omega arith
 
@@ -67,8 +71,10 @@ module _ {N : Type 0} where
       by false s h = h
 
   lessens-here : (e : Entry N) (es : List (Entry N)) (r : Bool) → e.reference ≡ r → e.waiting ≡ true → AreUsed es → Lessens (e ∷ es) (left_of e ++ es)
-  lessens-here e es true r w u = subst (λ (l : List (Entry N)). Lessens (e ∷ es) (l ++ es)) (sym (chosen e.reference true _ _ r)) (record { used = (r, u); references_same = refl; waiting_less = rw w (omega arith) })
-  lessens-here e es false r w u = subst (λ (l : List (Entry N)). Lessens (e ∷ es) (l ++ es)) (sym (chosen e.reference false _ _ r)) (record { used = u; references_same = rw r (omega arith); waiting_less = rw w (omega arith) })
+  lessens-here e es true r w u = subst (λ (l : List (Entry N)). Lessens (e ∷ es) (l ++ es)) (sym (chosen e.reference true _ _ r))
+      (record { used = (r, u); references_same = refl; waiting_less = rw w (omega arith) })
+  lessens-here e es false r w u = subst (λ (l : List (Entry N)). Lessens (e ∷ es) (l ++ es)) (sym (chosen e.reference false _ _ r))
+      (record { used = u; references_same = rw r (omega arith); waiting_less = rw w (omega arith) })
 
   lessens-front : (e : Entry N) (es : List (Entry N)) (s t : Step N) → s ≡ in_front e t → is_in_use e ≡ true → Lessens es t.entries → Lessens (e ∷ es) s.entries
   lessens-front e es s t q u l = subst (λ (x : Step N). Lessens (e ∷ es) x.entries) (sym q) (record {
@@ -77,8 +83,10 @@ module _ {N : Type 0} where
     waiting_less = let w = l.waiting_less in omega arith;
   })
 
-  lessens-turn : (c : ℤ) (e : Entry N) (es : List (Entry N)) (b : Bool) → is_next c e ≡ b → AreUsed (e ∷ es) → Has c (e ∷ es) → (Has c es → Lessens es (written_at c es).entries) → Lessens (e ∷ es) (written_at c (e ∷ es)).entries
-  lessens-turn c e es true n u h k = subst (λ (s : Step N). Lessens (e ∷ es) s.entries) (sym (chosen (is_next c e) true _ _ n)) (lessens-here e es e.reference refl (waiting-next c e n) u.1)
+  lessens-turn : (c : ℤ) (e : Entry N) (es : List (Entry N)) (b : Bool) → is_next c e ≡ b → AreUsed (e ∷ es) → Has c (e ∷ es) →
+      (Has c es → Lessens es (written_at c es).entries) → Lessens (e ∷ es) (written_at c (e ∷ es)).entries
+  lessens-turn c e es true n u h k = subst (λ (s : Step N). Lessens (e ∷ es) s.entries) (sym (chosen (is_next c e) true _ _ n))
+      (lessens-here e es e.reference refl (waiting-next c e n) u.1)
   lessens-turn c e es false n u (inl h) k = let bad : true ≡ false = sym h ∙ n in cc
   lessens-turn c e es false n u (inr h) k = lessens-front e es (written_at c (e ∷ es)) (written_at c es) (chosen (is_next c e) false _ _ n) u.0 (k h)
 
@@ -86,7 +94,9 @@ module _ {N : Type 0} where
   lessens c [] u h = absurd h
   lessens c (e ∷ es) u h = lessens-turn c e es (is_next c e) refl u h (λ k. lessens c es u.1 k)
 
-  room-on : (n places : ℕ) (es : List (Entry N)) (o : Option ℤ) → least_count es ≡ o → AreUsed es → references es < places → places ≤ length es → waiting_in es ≤ suc n → ((es' : List (Entry N)) → waiting_in es' ≤ n → AreUsed es' → references es' < places → length (made_room n places es').entries < places) → length (made_room n places (written_by o es).entries).entries < places
+  room-on : (n places : ℕ) (es : List (Entry N)) (o : Option ℤ) → least_count es ≡ o → AreUsed es → references es < places → places ≤ length es →
+      waiting_in es ≤ suc n → ((es' : List (Entry N)) → waiting_in es' ≤ n → AreUsed es' → references es' < places →
+      length (made_room n places es').entries < places) → length (made_room n places (written_by o es).entries).entries < places
   room-on n places es None l u r f w k = let h = all-held es u (none-waits es l) in absurd (omega (arith, h, r, f))
   room-on n places es (Some c) l u r f w k =
       let s = lessens c es u (has-least es c l) in
@@ -94,12 +104,16 @@ module _ {N : Type 0} where
       let same = s.references_same in
       k (written_at c es).entries (omega (arith, less, w)) s.used (omega (arith, same, r))
 
-  room-turn : (n places : ℕ) (es : List (Entry N)) (b : Bool) → nat_lt (length es) places ≡ b → AreUsed es → references es < places → waiting_in es ≤ suc n → ((es' : List (Entry N)) → waiting_in es' ≤ n → AreUsed es' → references es' < places → length (made_room n places es').entries < places) → length (made_room (suc n) places es).entries < places
+  room-turn : (n places : ℕ) (es : List (Entry N)) (b : Bool) → nat_lt (length es) places ≡ b → AreUsed es → references es < places → waiting_in es ≤ suc n →
+      ((es' : List (Entry N)) → waiting_in es' ≤ n → AreUsed es' → references es' < places → length (made_room n places es').entries < places) →
+      length (made_room (suc n) places es).entries < places
   unfolding made_room bumped
-  room-turn n places es true t u r w k = subst (λ (s : Step N). length s.entries < places) (sym (chosen (nat_lt (length es) places) true _ _ t)) (grind (arith, nat_tests))
+  room-turn n places es true t u r w k = subst (λ (s : Step N). length s.entries < places) (sym (chosen (nat_lt (length es) places) true _ _ t))
+      (grind (arith, nat_tests))
   room-turn n places es false t u r w k =
       let full : places ≤ length es = grind (arith, nat_tests) in
-      subst (λ (s : Step N). length s.entries < places) (sym (chosen (nat_lt (length es) places) false _ _ t)) (room-on n places es (least_count es) refl u r full w k)
+      subst (λ (s : Step N). length s.entries < places) (sym (chosen (nat_lt (length es) places) false _ _ t))
+      (room-on n places es (least_count es) refl u r full w k)
 
   room-made : (n places : ℕ) (es : List (Entry N)) → waiting_in es ≤ n → AreUsed es → references es < places → length (made_room n places es).entries < places
   unfolding made_room

@@ -1,5 +1,6 @@
 -- Emptying writes all that wait.
-use Rattle.std.proofs.Common.{◌≡◌, ℕ, zero, suc, ◌+◌, ◌≤◌, inl, inr, Bool, true, false, Option, Some, None, List, [], ◌∷◌, length, cond, refl, ap, sym, ◌∙◌, subst, arith, ℤ, if◌then◌else◌}
+use Rattle.std.proofs.Common.{◌≡◌, ℕ, zero, suc, ◌+◌, ◌≤◌, inl, inr, Bool, true, false, Option, Some, None, List, [], ◌∷◌, length, cond, refl, ap, sym, ◌∙◌}
+use Rattle.std.proofs.Common.{subst, arith, ℤ, if◌then◌else◌}
 use Rattle.std.specs.Prelude.{nat_lt}
 use Rattle.std.proofs.lemmas.Bool.Decides.{nat_tests}
 use Rattle.h264_dpb.specs.declared.entry.Entry.{Entry}
@@ -17,7 +18,8 @@ module _ {N : Type 0} where
   few-waiting [] = omega arith
   few-waiting (e ∷ es) = by e.waiting refl (waiting-cons e es) (few-waiting es)
     where
-      by : (b : Bool) → e.waiting ≡ b → waiting_in (e ∷ es) ≡ cond e.waiting 1 0 + waiting_in es → waiting_in es ≤ length es → waiting_in (e ∷ es) ≤ suc (length es)
+      by : (b : Bool) → e.waiting ≡ b → waiting_in (e ∷ es) ≡ cond e.waiting 1 0 + waiting_in es → waiting_in es ≤ length es →
+          waiting_in (e ∷ es) ≤ suc (length es)
       by true t w h = let v : waiting_in (e ∷ es) ≡ 1 + waiting_in es = w ∙ ap (λ b. cond b 1 0 + waiting_in es) t in omega (arith, v, h)
       by false t w h = let v : waiting_in (e ∷ es) ≡ 0 + waiting_in es = w ∙ ap (λ b. cond b 1 0 + waiting_in es) t in omega (arith, v, h)
 
@@ -25,7 +27,8 @@ module _ {N : Type 0} where
   none-waits [] h = refl
   none-waits (e ∷ es) h = by e.waiting refl h (waiting-cons e es) (none-waits es)
     where
-      by : (w : Bool) → e.waiting ≡ w → (if w then Some (least_with e.count (least_count es)) else least_count es) ≡ None → waiting_in (e ∷ es) ≡ cond e.waiting 1 0 + waiting_in es → (least_count es ≡ None → waiting_in es ≡ 0) → waiting_in (e ∷ es) ≡ 0
+      by : (w : Bool) → e.waiting ≡ w → (if w then Some (least_with e.count (least_count es)) else least_count es) ≡ None →
+          waiting_in (e ∷ es) ≡ cond e.waiting 1 0 + waiting_in es → (least_count es ≡ None → waiting_in es ≡ 0) → waiting_in (e ∷ es) ≡ 0
       by true t h v k = cc
       by false t h v k = let j = k h in let u : waiting_in (e ∷ es) ≡ 0 + waiting_in es = v ∙ ap (λ b. cond b 1 0 + waiting_in es) t in omega (arith, j, u)
 
@@ -48,10 +51,12 @@ module _ {N : Type 0} where
       by (Some c) l =
           let one = one-written c es (has-least es c l) in
           let all : length (written_by (least_count es) es).written + waiting_in (written_by (least_count es) es).entries ≡ waiting_in es = counts-of es in
-          let same : length (written_by (least_count es) es).written ≡ length (written_at c es).written = ap (λ (o : Option ℤ). length (written_by o es).written) l in
+          let same : length (written_by (least_count es) es).written ≡ length (written_at c es).written =
+          ap (λ (o : Option ℤ). length (written_by o es).written) l in
           omega (arith, one, all, same, h)
         where
-          counts-of : (es : List (Entry N)) → length (written_by (least_count es) es).written + waiting_in (written_by (least_count es) es).entries ≡ waiting_in es
+          counts-of : (es : List (Entry N)) → length (written_by (least_count es) es).written + waiting_in (written_by (least_count es) es).entries ≡
+              waiting_in es
           counts-of es = counts-bumped es
 
   drained : (n : ℕ) (es : List (Entry N)) → waiting_in es ≤ n → waiting_in (made_room n 0 es).entries ≡ 0

@@ -26,14 +26,17 @@ pub record Follows (step : Step Placed) (missing size : ℕ) (t : Turn) : Type 0
 
 -- ---- the turns
 
-pub flushed-follows : (b : Buffered Shown) (kept : Buffered Placed) (write : Bool) (size : ℕ) → SameBuffer b kept → Follows (flushed write kept.entries) 0 size (flush_turn write size b)
+pub flushed-follows : (b : Buffered Shown) (kept : Buffered Placed) (write : Bool) (size : ℕ) → SameBuffer b kept →
+    Follows (flushed write kept.entries) 0 size (flush_turn write size b)
 unfolding flush_turn
 flushed-follows b kept write size same = record { is = flush-is b kept same write; missing_is = refl; size_is = refl }
 
-pub missing-follows : (b : Buffered Shown) (kept : Buffered Placed) (refs : References) (pic : Picture) → SameBuffer b kept → pic.held.now ≡ names refs → Follows (stored_by kinds.Missing pic kept) (missing_in (names refs)) kept.size (missing_turn refs b)
+pub missing-follows : (b : Buffered Shown) (kept : Buffered Placed) (refs : References) (pic : Picture) → SameBuffer b kept → pic.held.now ≡ names refs →
+    Follows (stored_by kinds.Missing pic kept) (missing_in (names refs)) kept.size (missing_turn refs b)
 unfolding missing_turn
 missing-follows b kept refs pic same named = record {
-  is = missing-is b kept same refs (missing_in (names refs)) ∙ sym (ap (λ (l : List (Option ℕ)). renamed_step shown_at (missing_step (λ n. is_held l n.picture) (missing_in l) kept)) named);
+  is = missing-is b kept same refs (missing_in (names refs)) ∙
+      sym (ap (λ (l : List (Option ℕ)). renamed_step shown_at (missing_step (λ n. is_held l n.picture) (missing_in l) kept)) named);
   missing_is = refl;
   size_is = same.size;
 }
@@ -45,17 +48,21 @@ pub record IsStored (p : Ended) (place : ℕ) (refs : References) (pic : Picture
   pub count : pic.count ≡ p.count
   pub named : pic.held.now ≡ names refs
 
-entry-is : (p : Ended) (place : ℕ) (refs : References) (pic : Picture) (r : Bool) → IsStored p place refs pic → p.reference ≡ r → entry_of p ≡ renamed shown_at (entry_in pic r)
+entry-is : (p : Ended) (place : ℕ) (refs : References) (pic : Picture) (r : Bool) → IsStored p place refs pic → p.reference ≡ r →
+    entry_of p ≡ renamed shown_at (entry_in pic r)
 entry-is p place refs pic r h e = rw (h.of, h.count, e) refl
 
-stored-by-kind : (p : Ended) (place : ℕ) (refs : References) (pic : Picture) (b : Buffered Shown) (kept : Buffered Placed) (r : Bool) → IsStored p place refs pic → SameBuffer b kept → p.reference ≡ r → Follows (stored_by (kind_of r) pic kept) (missing_by (kind_of r) pic kept) kept.size (store_turn p refs b)
+stored-by-kind : (p : Ended) (place : ℕ) (refs : References) (pic : Picture) (b : Buffered Shown) (kept : Buffered Placed) (r : Bool) →
+    IsStored p place refs pic → SameBuffer b kept → p.reference ≡ r →
+    Follows (stored_by (kind_of r) pic kept) (missing_by (kind_of r) pic kept) kept.size (store_turn p refs b)
 unfolding store_turn reference_turn other_turn
 stored-by-kind p place refs pic b kept true h same e =
     subst (λ (t : Turn). Follows (stored_by kinds.Reference pic kept) (missing_in pic.held.now) kept.size t) (sym (chosen p.reference true _ _ e)) (record {
       is =
           ap (λ (x : Entry Shown). reference_step x (still refs) (missing_in (names refs)) b) (entry-is p place refs pic true h e)
           ∙ reference-is b kept same (entry_in pic true) refs (missing_in (names refs))
-          ∙ sym (ap (λ (l : List (Option ℕ)). renamed_step shown_at (reference_step (entry_in pic true) (λ n. is_held l n.picture) (missing_in l) kept)) h.named);
+          ∙ sym (ap (λ (l : List (Option ℕ)). renamed_step shown_at (reference_step (entry_in pic true) (λ n. is_held l n.picture) (missing_in l) kept))
+          h.named);
       missing_is = sym (ap (λ l. missing_in l) h.named);
       size_is = same.size;
     })
@@ -68,44 +75,65 @@ stored-by-kind p place refs pic b kept false h same e =
       size_is = same.size;
     })
 
-pub stored-follows : (p : Ended) (place : ℕ) (refs : References) (pic : Picture) (b : Buffered Shown) (kept : Buffered Placed) → IsStored p place refs pic → SameBuffer b kept → Follows (stored_by pic.kind pic kept) (missing_by pic.kind pic kept) kept.size (store_turn p refs b)
-stored-follows p place refs pic b kept h same = subst (λ (k : Kind). Follows (stored_by k pic kept) (missing_by k pic kept) kept.size (store_turn p refs b)) (sym h.kind) (stored-by-kind p place refs pic b kept p.reference h same refl)
+pub stored-follows : (p : Ended) (place : ℕ) (refs : References) (pic : Picture) (b : Buffered Shown) (kept : Buffered Placed) → IsStored p place refs pic →
+    SameBuffer b kept → Follows (stored_by pic.kind pic kept) (missing_by pic.kind pic kept) kept.size (store_turn p refs b)
+stored-follows p place refs pic b kept h same =
+    subst (λ (k : Kind). Follows (stored_by k pic kept) (missing_by k pic kept) kept.size (store_turn p refs b)) (sym h.kind)
+    (stored-by-kind p place refs pic b kept p.reference h same refl)
 
 -- ---- frames at their places
 
 module _ (P : Placed → Type 0) where
-  pub missing-each : (pic : Picture) (kept : Buffered Placed) → Each P kept.entries → Each P (stored_by kinds.Missing pic kept).written × Each P (stored_by kinds.Missing pic kept).entries
+  pub missing-each : (pic : Picture) (kept : Buffered Placed) → Each P kept.entries → Each P (stored_by kinds.Missing pic kept).written ×
+      Each P (stored_by kinds.Missing pic kept).entries
   missing-each pic kept each = both-made_room P _ _ (marked (still_in pic) kept.entries) (each-marked P (still_in pic) kept.entries each)
 
-  stored-each-by : (pic : Picture) (kept : Buffered Placed) (r : Bool) → P pic.of → Each P kept.entries → Each P (stored_by (kind_of r) pic kept).written × Each P (stored_by (kind_of r) pic kept).entries
-  stored-each-by pic kept true own each = both-reference P _ (entry_in pic true) (marked (still_in pic) kept.entries) own (each-marked P (still_in pic) kept.entries each)
+  stored-each-by : (pic : Picture) (kept : Buffered Placed) (r : Bool) → P pic.of → Each P kept.entries → Each P (stored_by (kind_of r) pic kept).written ×
+      Each P (stored_by (kind_of r) pic kept).entries
+  stored-each-by pic kept true own each = both-reference P _ (entry_in pic true) (marked (still_in pic) kept.entries) own
+      (each-marked P (still_in pic) kept.entries each)
   stored-each-by pic kept false own each = both-other P _ (entry_in pic false) kept.entries own each
 
-  pub stored-each : (p : Ended) (place : ℕ) (refs : References) (pic : Picture) (kept : Buffered Placed) → IsStored p place refs pic → P (placed_at p place) → Each P kept.entries → Each P (stored_by pic.kind pic kept).written × Each P (stored_by pic.kind pic kept).entries
-  stored-each p place refs pic kept h own each = subst (λ (k : Kind). Each P (stored_by k pic kept).written × Each P (stored_by k pic kept).entries) (sym h.kind) (stored-each-by pic kept p.reference (subst P (sym h.of) own) each)
+  pub stored-each : (p : Ended) (place : ℕ) (refs : References) (pic : Picture) (kept : Buffered Placed) → IsStored p place refs pic → P (placed_at p place) →
+      Each P kept.entries → Each P (stored_by pic.kind pic kept).written × Each P (stored_by pic.kind pic kept).entries
+  stored-each p place refs pic kept h own each =
+      subst (λ (k : Kind). Each P (stored_by k pic kept).written × Each P (stored_by k pic kept).entries) (sym h.kind)
+      (stored-each-by pic kept p.reference (subst P (sym h.of) own) each)
 
 -- ---- how many are written
 
-pub missing-counts : (pic : Picture) (kept : Buffered Placed) → length (stored_by kinds.Missing pic kept).written + waiting_in (stored_by kinds.Missing pic kept).entries ≡ waiting_in kept.entries
-missing-counts pic kept = counts-made_room (length (marked (still_in pic) kept.entries)) (kept.size - (missing_in pic.held.now - 1)) (marked (still_in pic) kept.entries) ∙ counts-marked (still_in pic) kept.entries
+pub missing-counts : (pic : Picture) (kept : Buffered Placed) →
+    length (stored_by kinds.Missing pic kept).written + waiting_in (stored_by kinds.Missing pic kept).entries ≡ waiting_in kept.entries
+missing-counts pic kept = counts-made_room (length (marked (still_in pic) kept.entries)) (kept.size - (missing_in pic.held.now - 1))
+    (marked (still_in pic) kept.entries) ∙ counts-marked (still_in pic) kept.entries
 
-stored-counts-by : (pic : Picture) (kept : Buffered Placed) (r : Bool) → length (stored_by (kind_of r) pic kept).written + waiting_in (stored_by (kind_of r) pic kept).entries ≡ waiting_in kept.entries + 1
-stored-counts-by pic kept true = counts-reference (kept.size - missing_in pic.held.now) (entry_in pic true) (marked (still_in pic) kept.entries) refl ∙ ap (λ n. n + 1) (counts-marked (still_in pic) kept.entries)
+stored-counts-by : (pic : Picture) (kept : Buffered Placed) (r : Bool) →
+    length (stored_by (kind_of r) pic kept).written + waiting_in (stored_by (kind_of r) pic kept).entries ≡ waiting_in kept.entries + 1
+stored-counts-by pic kept true = counts-reference (kept.size - missing_in pic.held.now) (entry_in pic true) (marked (still_in pic) kept.entries) refl ∙
+    ap (λ n. n + 1) (counts-marked (still_in pic) kept.entries)
 stored-counts-by pic kept false = counts-other (kept.size - kept.missing) (entry_in pic false) kept.entries refl
 
-pub stored-counts : (p : Ended) (place : ℕ) (refs : References) (pic : Picture) (kept : Buffered Placed) → IsStored p place refs pic → length (stored_by pic.kind pic kept).written + waiting_in (stored_by pic.kind pic kept).entries ≡ waiting_in kept.entries + 1
-stored-counts p place refs pic kept h = subst (λ (k : Kind). length (stored_by k pic kept).written + waiting_in (stored_by k pic kept).entries ≡ waiting_in kept.entries + 1) (sym h.kind) (stored-counts-by pic kept p.reference)
+pub stored-counts : (p : Ended) (place : ℕ) (refs : References) (pic : Picture) (kept : Buffered Placed) → IsStored p place refs pic →
+    length (stored_by pic.kind pic kept).written + waiting_in (stored_by pic.kind pic kept).entries ≡ waiting_in kept.entries + 1
+stored-counts p place refs pic kept h = subst
+    (λ (k : Kind). length (stored_by k pic kept).written + waiting_in (stored_by k pic kept).entries ≡ waiting_in kept.entries + 1) (sym h.kind)
+    (stored-counts-by pic kept p.reference)
 
 -- ---- their order
 
-pub missing-rising : (pic : Picture) (kept : Buffered Placed) (high : ℕ) → AreRising number_of 0 kept.entries high → AreRising number_of 0 (stored_by kinds.Missing pic kept).entries high
-missing-rising pic kept high h = rising-made_room number_of 0 high _ _ (marked (still_in pic) kept.entries) (rising-marked number_of 0 high (still_in pic) kept.entries h)
+pub missing-rising : (pic : Picture) (kept : Buffered Placed) (high : ℕ) → AreRising number_of 0 kept.entries high →
+    AreRising number_of 0 (stored_by kinds.Missing pic kept).entries high
+missing-rising pic kept high h = rising-made_room number_of 0 high _ _ (marked (still_in pic) kept.entries)
+    (rising-marked number_of 0 high (still_in pic) kept.entries h)
 
-stored-rising-by : (pic : Picture) (kept : Buffered Placed) (r : Bool) → AreRising number_of 0 kept.entries pic.of.picture → AreRising number_of 0 (stored_by (kind_of r) pic kept).entries (pic.of.picture + 1)
-stored-rising-by pic kept true h = rising-reference number_of 0 pic.of.picture _ (entry_in pic true) (marked (still_in pic) kept.entries) (omega arith) (rising-marked number_of 0 pic.of.picture (still_in pic) kept.entries h)
+stored-rising-by : (pic : Picture) (kept : Buffered Placed) (r : Bool) → AreRising number_of 0 kept.entries pic.of.picture →
+    AreRising number_of 0 (stored_by (kind_of r) pic kept).entries (pic.of.picture + 1)
+stored-rising-by pic kept true h = rising-reference number_of 0 pic.of.picture _ (entry_in pic true) (marked (still_in pic) kept.entries) (omega arith)
+    (rising-marked number_of 0 pic.of.picture (still_in pic) kept.entries h)
 stored-rising-by pic kept false h = rising-other number_of 0 pic.of.picture _ (entry_in pic false) kept.entries (omega arith) h
 
-pub stored-rising : (p : Ended) (place : ℕ) (refs : References) (pic : Picture) (kept : Buffered Placed) → IsStored p place refs pic → AreRising number_of 0 kept.entries p.picture → AreRising number_of 0 (stored_by pic.kind pic kept).entries (p.picture + 1)
+pub stored-rising : (p : Ended) (place : ℕ) (refs : References) (pic : Picture) (kept : Buffered Placed) → IsStored p place refs pic →
+    AreRising number_of 0 kept.entries p.picture → AreRising number_of 0 (stored_by pic.kind pic kept).entries (p.picture + 1)
 stored-rising p place refs pic kept h r =
     let number : pic.of.picture ≡ p.picture = ap (λ (n : Placed). n.picture) h.of in
     subst (λ (n : ℕ). AreRising number_of 0 (stored_by pic.kind pic kept).entries (n + 1)) number

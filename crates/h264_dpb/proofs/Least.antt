@@ -18,7 +18,8 @@ module _ {N : Type 0} where
   Has c [] = ⊥
   Has c (e ∷ es) = (is_next c e ≡ true) ⊎ Has c es
 
-  has-turn : (e : Entry N) (es : List (Entry N)) (c : ℤ) (w : Bool) (o : Option ℤ) → e.waiting ≡ w → least_count es ≡ o → (o ≡ Some c → Has c es) → ((d : ℤ) → o ≡ Some d → Has d es) → (if w then Some (least_with e.count o) else o) ≡ Some c → Has c (e ∷ es)
+  has-turn : (e : Entry N) (es : List (Entry N)) (c : ℤ) (w : Bool) (o : Option ℤ) → e.waiting ≡ w → least_count es ≡ o → (o ≡ Some c → Has c es) →
+      ((d : ℤ) → o ≡ Some d → Has d es) → (if w then Some (least_with e.count o) else o) ≡ Some c → Has c (e ∷ es)
   has-turn e es c false o w l k j h = inr (k h)
   has-turn e es c true None w l k j h = inl (rw w (has-next e.count c (some-same _ _ h)))
   has-turn e es c true (Some d) w l k j h = by (int_lt d e.count) (some-same _ _ h)

@@ -23,7 +23,8 @@ frame-is : (frames : ℕ → Frame) (lent : ℕ → Option Frame) (n : Placed) �
 frame-is frames lent n h = ap (λ o. unwrap_or o no_frame) h
 
 -- the calls of frames at their places are those of their pictures
-pub calls-are : (frames : ℕ → Frame) (lent : ℕ → Option Frame) (written : List (Entry Placed)) → Each (IsAtPlace frames lent) written → calls_of lent written ≡ shown_calls frames (all_renamed shown_at written)
+pub calls-are : (frames : ℕ → Frame) (lent : ℕ → Option Frame) (written : List (Entry Placed)) → Each (IsAtPlace frames lent) written →
+    calls_of lent written ≡ shown_calls frames (all_renamed shown_at written)
 calls-are frames lent [] h = refl
 calls-are frames lent (e ∷ es) h =
     ap (λ f. frame_call e.count f e.of.rectangle ∷ calls_of lent es) (frame-is frames lent e.of h.0.0)
@@ -34,7 +35,8 @@ abbrev pub held_by : References → Placed → Bool
 held_by refs n = is_held (names refs) n.picture
 
 module _ (b : Buffered Shown) (kept : Buffered Placed) (same : SameBuffer b kept) where
-  pub reference-is : (e : Entry Placed) (refs : References) (missing : ℕ) → reference_step (renamed shown_at e) (still refs) missing b ≡ renamed_step shown_at (reference_step e (held_by refs) missing kept)
+  pub reference-is : (e : Entry Placed) (refs : References) (missing : ℕ) → reference_step (renamed shown_at e) (still refs) missing b ≡
+      renamed_step shown_at (reference_step e (held_by refs) missing kept)
   reference-is e refs missing =
       ap (λ (n : ℕ). stored_reference (n - missing) (renamed shown_at e) (marked (still refs) b.entries)) same.size
       ∙ ap (λ (es : List (Entry Shown)). stored_reference (kept.size - missing) (renamed shown_at e) (marked (still refs) es)) same.entries
@@ -59,8 +61,11 @@ module _ (b : Buffered Shown) (kept : Buffered Placed) (same : SameBuffer b kept
   flush-is write = ap (λ (es : List (Entry Shown)). flushed write es) same.entries ∙ flushed-renamed shown_at write kept.entries
 
 -- A step at the places was made, which is this step of pictures.
-module _ {X S : Type 0} (took : S → List Call → Type 0) (failures : S → ℕ) (lent : ℕ → Option Frame) (step : Step Placed) (t : Step Shown) (is : t ≡ renamed_step shown_at step) where
-  pub written-is : (new : List (Entry Placed)) (s s' : S) (result : Result X Stop) (frames : ℕ → Frame) → Steps (span took failures s s') lent step new result → Each (IsAtPlace frames lent) step.written → Writes took failures (shown_calls frames t.written) s s' result
+module _ {X S : Type 0} (took : S → List Call → Type 0) (failures : S → ℕ) (lent : ℕ → Option Frame) (step : Step Placed) (t : Step Shown)
+    (is : t ≡ renamed_step shown_at step) where
+  pub written-is : (new : List (Entry Placed)) (s s' : S) (result : Result X Stop) (frames : ℕ → Frame) →
+      Steps (span took failures s s') lent step new result → Each (IsAtPlace frames lent) step.written →
+      Writes took failures (shown_calls frames t.written) s s' result
   written-is new s s' result frames h each = by result h
     where
       calls : calls_of lent step.written ≡ shown_calls frames t.written

@@ -42,15 +42,20 @@ unfolding made_room
 free-already zero places es h = refl
 free-already (suc n) places es h = rw h refl
 
-pub steady-turn : (refs : References) (b : Buffered Shown) (kept : Buffered Placed) → SameBuffer b kept → is_steady (names refs) kept ≡ true → missing_turn refs b ≡ stays b
+pub steady-turn : (refs : References) (b : Buffered Shown) (kept : Buffered Placed) → SameBuffer b kept → is_steady (names refs) kept ≡ true →
+    missing_turn refs b ≡ stays b
 unfolding missing_turn
 steady-turn refs b kept same h =
     let missing = missing_in (names refs) in
-    let p = both (kept.missing == missing && nat_lt (length kept.entries) (kept.size - (missing - 1))) (list_all (is_marked (λ n. is_held (names refs) n.picture)) kept.entries) h in
+    let p = both (kept.missing == missing && nat_lt (length kept.entries) (kept.size - (missing - 1)))
+    (list_all (is_marked (λ n. is_held (names refs) n.picture)) kept.entries) h in
     let q = both (kept.missing == missing) (nat_lt (length kept.entries) (kept.size - (missing - 1))) p.0 in
-    let stay : marked (still refs) b.entries ≡ b.entries = ap (marked (still refs)) same.entries ∙ marked-renamed shown_at (still refs) kept.entries ∙ ap (all_renamed shown_at) (marked-same (λ n. still refs (shown_at n)) kept.entries p.1) ∙ sym same.entries in
+    let stay : marked (still refs) b.entries ≡ b.entries = ap (marked (still refs)) same.entries ∙ marked-renamed shown_at (still refs) kept.entries ∙
+    ap (all_renamed shown_at) (marked-same (λ n. still refs (shown_at n)) kept.entries p.1) ∙ sym same.entries in
     let lengths : length b.entries ≡ length kept.entries = ap length same.entries ∙ length-map kept.entries (renamed shown_at) in
-    let free : nat_lt (length b.entries) (b.size - (missing - 1)) ≡ true = ap (λ (n : ℕ). nat_lt n (b.size - (missing - 1))) lengths ∙ ap (λ (n : ℕ). nat_lt (length kept.entries) (n - (missing - 1))) same.size ∙ q.1 in
+    let free : nat_lt (length b.entries) (b.size - (missing - 1)) ≡ true = ap (λ (n : ℕ). nat_lt n (b.size - (missing - 1))) lengths ∙
+    ap (λ (n : ℕ). nat_lt (length kept.entries) (n - (missing - 1))) same.size ∙ q.1 in
     ap (λ (es : List (Entry Shown)). turn_of (made_room (length es) (b.size - (missing - 1)) es) missing b.size) stay
     ∙ ap (λ (s : Step Shown). turn_of s missing b.size) (free-already (length b.entries) (b.size - (missing - 1)) b.entries free)
-    ∙ ap (λ (n : ℕ). let t : Turn = record { written = []; buffer = record { entries = b.entries; missing = n; size = b.size } } in t) (sym (eqb-true kept.missing missing q.0) ∙ sym same.missing)
+    ∙ ap (λ (n : ℕ). let t : Turn = record { written = []; buffer = record { entries = b.entries; missing = n; size = b.size } } in t)
+    (sym (eqb-true kept.missing missing q.0) ∙ sym same.missing)

@@ -21,7 +21,8 @@ one-place : (k first n : ℕ) → hits (λ place. nat_eq k place) first n ≤ 1
 one-place k first zero = omega arith
 one-place k first (suc n) = turn (nat_eq k (first + n)) refl (one-place k first n)
   where
-    turn : (b : Bool) → nat_eq k (first + n) ≡ b → hits (λ place. nat_eq k place) first n ≤ 1 → cond (nat_eq k (first + n)) 1 0 + hits (λ place. nat_eq k place) first n ≤ 1
+    turn : (b : Bool) → nat_eq k (first + n) ≡ b → hits (λ place. nat_eq k place) first n ≤ 1 →
+        cond (nat_eq k (first + n)) 1 0 + hits (λ place. nat_eq k place) first n ≤ 1
     turn true t rest =
         let same : k ≡ first + n = grind (arith, nat_tests) in
         let none = none-below k first n (omega arith) in

@@ -18,10 +18,18 @@ HasId p = p.seq_parameter_set_id ≤ 31
 
 pps-gives : (target : Target) → Gives (pps target) HasId
 unfolding pps
-pps-gives target = gives-following _ _ _ (λ id. gives-to _ _ _ _ (λ sps low. gives-following _ _ _ (λ _. gives-following _ _ _ (λ _. gives-following _ _ _ (λ _. gives-following _ _ _ (λ _. gives-following _ _ _ (λ _. gives-following _ _ _ (λ _. gives-following _ _ _ (λ _. gives-following _ _ _ (λ _. gives-following _ _ _ (λ _. gives-following _ _ _ (λ _. gives-following _ _ _ (λ _. gives-following _ _ _ (λ _. gives-following _ _ _ (λ _. gives-following _ _ _ (λ _. low))))))))))))))))
+pps-gives target = gives-following _ _ _
+    (λ id. gives-to _ _ _ _ (λ sps low. gives-following _ _ _
+    (λ _. gives-following _ _ _ (λ _. gives-following _ _ _
+    (λ _. gives-following _ _ _ (λ _. gives-following _ _ _
+    (λ _. gives-following _ _ _ (λ _. gives-following _ _ _
+    (λ _. gives-following _ _ _ (λ _. gives-following _ _ _
+    (λ _. gives-following _ _ _ (λ _. gives-following _ _ _
+    (λ _. gives-following _ _ _ (λ _. gives-following _ _ _ (λ _. gives-following _ _ _ (λ _. low))))))))))))))))
 
 -- a set that some unit gives is never left out
-pub named-accepted : (target : Target) (maps : Maps) (id : ℕ) (p : Pps) (s : Sps) → IsAcceptedPps target p → IsAcceptedSps target s → pps_of maps id ≡ Some p → sps_of maps p.seq_parameter_set_id ≡ Some s → sets_of maps id ≡ Some (p, s)
+pub named-accepted : (target : Target) (maps : Maps) (id : ℕ) (p : Pps) (s : Sps) → IsAcceptedPps target p → IsAcceptedSps target s →
+    pps_of maps id ≡ Some p → sps_of maps p.seq_parameter_set_id ≡ Some s → sets_of maps id ≡ Some (p, s)
 named-accepted target maps id p s a b e f =
     let low = gives-derived (pps target) HasId a.body a.from a.elements a.to p (pps-gives target) a.derives in
     let given = gives-derived (sps target) (λ s. is_accepted s ≡ true) b.body b.from b.elements b.to s (gives-accepted target) b.derives in

@@ -1,5 +1,6 @@
 -- The entries of a list that a code ends: their turns, their codes, and what other codes are.
-use Rattle.std.proofs.Common.{◌≡◌, ◌≢◌, ℕ, zero, suc, ◌+◌, ◌-◌, ◌<◌, ◌≤◌, ◌==◌, Bool, true, false, List, [], ◌∷◌, ◌++◌, Option, Some, None, Ok, Err, refl, subst, arith}
+use Rattle.std.proofs.Common.{◌≡◌, ◌≢◌, ℕ, zero, suc, ◌+◌, ◌-◌, ◌<◌, ◌≤◌, ◌==◌, Bool, true, false, List, [], ◌∷◌, ◌++◌, Option, Some, None, Ok, Err, refl}
+use Rattle.std.proofs.Common.{subst, arith}
 use Rattle.h264_base.specs.declared.stop.Stop.{Stop}
 use Rattle.h264_base.specs.Call.{Call, span}
 use Rattle.h264_base.specs.Word.{digit}
@@ -33,19 +34,25 @@ digit-is true = refl
 digit-is false = refl
 
 -- a part that is read last, seen otherwise
-pub seen-last : {X A B S : Type 0} {took : S → List Call → Type 0} {failures : S → ℕ} {R : X → A → Type 0} {R' : X → B → Type 0} {g : Grammar A} (f : A → B) {old new : Reader} {s s' : S} (r : Result X Stop) → ((x : X) (v : A) → R x v → R' x (f v)) → Meets (span took failures s s') R g old new r → Meets (span took failures s s') R' (g >>= (λ v. Done (f v))) old new r
+pub seen-last : {X A B S : Type 0} {took : S → List Call → Type 0} {failures : S → ℕ} {R : X → A → Type 0} {R' : X → B → Type 0} {g : Grammar A} (f : A → B)
+    {old new : Reader} {s s' : S} (r : Result X Stop) → ((x : X) (v : A) → R x v → R' x (f v)) → Meets (span took failures s s') R g old new r →
+    Meets (span took failures s s') R' (g >>= (λ v. Done (f v))) old new r
 seen-last f (Ok x) h m = bind_as _ m (λ v e. done _ _ _ _ _ _ _ (h x v e))
 seen-last f (Err e) h m = stop _ m
 
 module _ {A S : Type 0} {took : S → List Call → Type 0} {failures : S → ℕ} where
   -- before the first entry
-  pub listed-starts : (entry : List A → Grammar (Option A)) (n : ℕ) (before : List A) (old : Reader) (s : S) → before ≡ [] → Leads took failures (listed entry n []) (listed entry (n - 0) before) old old s s
+  pub listed-starts : (entry : List A → Grammar (Option A)) (n : ℕ) (before : List A) (old : Reader) (s : S) → before ≡ [] →
+      Leads took failures (listed entry n []) (listed entry (n - 0) before) old old s s
   listed-starts entry n before old s e =
       let whole : n - 0 ≡ n = omega arith in
       rw (whole, e) (leads-starts took failures (listed entry n []) old s)
 
   -- one more entry
-  pub listed-next : {g : Grammar (List A)} {old now mid : Reader} {s s' s'' : S} {x : A} (entry : List A → Grammar (Option A)) (n i : ℕ) (before after : List A) → i < n → after ≡ before ++ x ∷ [] → Leads took failures g (listed entry (n - i) before) old now s s' → Meets (span took failures s' s'') (Is (λ (o : Option A). o)) (entry before) now mid (Ok (Some x)) → Leads took failures g (listed entry (n - (i + 1)) after) old mid s s''
+  pub listed-next : {g : Grammar (List A)} {old now mid : Reader} {s s' s'' : S} {x : A} (entry : List A → Grammar (Option A)) (n i : ℕ)
+      (before after : List A) → i < n → after ≡ before ++ x ∷ [] → Leads took failures g (listed entry (n - i) before) old now s s' →
+      Meets (span took failures s' s'') (Is (λ (o : Option A). o)) (entry before) now mid (Ok (Some x)) →
+      Leads took failures g (listed entry (n - (i + 1)) after) old mid s s''
   unfolding listed
   listed-next {g} {old} {now} {mid} {s} {s'} {s''} entry n i before after h e l m =
       let k : n - i ≡ suc (n - (i + 1)) = omega arith in
@@ -53,7 +60,10 @@ module _ {A S : Type 0} {took : S → List Call → Type 0} {failures : S → �
       rw e (leads-on (listed_on (listed entry (n - (i + 1))) before) (subst P k l) m)
 
   -- an entry stops
-  pub listed-stop : {g : Grammar (List A)} {Y : Type 0} {R : Y → List A → Type 0} {old now mid : Reader} {s s' s'' : S} {e : Stop} (entry : List A → Grammar (Option A)) (n i : ℕ) (before : List A) → i < n → Leads took failures g (listed entry (n - i) before) old now s s' → Meets (span took failures s' s'') (Is (λ (o : Option A). o)) (entry before) now mid (Err e) → Meets {X = Y} (span took failures s s'') R g old mid (Err e)
+  pub listed-stop : {g : Grammar (List A)} {Y : Type 0} {R : Y → List A → Type 0} {old now mid : Reader} {s s' s'' : S} {e : Stop}
+      (entry : List A → Grammar (Option A)) (n i : ℕ) (before : List A) → i < n → Leads took failures g (listed entry (n - i) before) old now s s' →
+      Meets (span took failures s' s'') (Is (λ (o : Option A). o)) (entry before) now mid (Err e) →
+      Meets {X = Y} (span took failures s s'') R g old mid (Err e)
   unfolding listed
   listed-stop {g} {old = old} {now} {s = s} {s'} entry n i before h l m =
       let k : n - i ≡ suc (n - (i + 1)) = omega arith in
@@ -61,7 +71,9 @@ module _ {A S : Type 0} {took : S → List Call → Type 0} {failures : S → �
       finish (subst P k l) (stop (listed_on (listed entry (n - (i + 1))) before) m)
 
   -- the end
-  pub listed-ends : {g : Grammar (List A)} {Y : Type 0} {R : Y → List A → Type 0} {old now mid : Reader} {s s' s'' : S} (entry : List A → Grammar (Option A)) (n i : ℕ) (before : List A) (y : Y) → i < n → R y before → Leads took failures g (listed entry (n - i) before) old now s s' → Meets (span took failures s' s'') (Is (λ (o : Option A). o)) (entry before) now mid (Ok None) → Meets (span took failures s s'') R g old mid (Ok y)
+  pub listed-ends : {g : Grammar (List A)} {Y : Type 0} {R : Y → List A → Type 0} {old now mid : Reader} {s s' s'' : S} (entry : List A → Grammar (Option A))
+      (n i : ℕ) (before : List A) (y : Y) → i < n → R y before → Leads took failures g (listed entry (n - i) before) old now s s' →
+      Meets (span took failures s' s'') (Is (λ (o : Option A). o)) (entry before) now mid (Ok None) → Meets (span took failures s s'') R g old mid (Ok y)
   unfolding listed
   listed-ends {g} {R = R} {old} {now} {mid} {s} {s'} {s''} entry n i before y h r l m =
       let k : n - i ≡ suc (n - (i + 1)) = omega arith in
@@ -69,7 +81,9 @@ module _ {A S : Type 0} {took : S → List Call → Type 0} {failures : S → �
       finish (leads-on (listed_on (listed entry (n - (i + 1))) before) (subst P k l) m) (done took failures R before mid s'' y r)
 
   -- no turn is left
-  pub listed-over : {g : Grammar (List A)} {Y : Type 0} {R : Y → List A → Type 0} {old now : Reader} {s s' : S} (entry : List A → Grammar (Option A)) (n i : ℕ) (before : List A) (y : Y) → n ≤ i → R y before → Leads took failures g (listed entry (n - i) before) old now s s' → Meets (span took failures s s') R g old now (Ok y)
+  pub listed-over : {g : Grammar (List A)} {Y : Type 0} {R : Y → List A → Type 0} {old now : Reader} {s s' : S} (entry : List A → Grammar (Option A))
+      (n i : ℕ) (before : List A) (y : Y) → n ≤ i → R y before → Leads took failures g (listed entry (n - i) before) old now s s' →
+      Meets (span took failures s s') R g old now (Ok y)
   unfolding listed
   listed-over {g} {R = R} {old} {now} {s} {s'} entry n i before y h r l =
       let k : n - i ≡ 0 = omega arith in
@@ -90,11 +104,14 @@ pub operation-known : (before : List MarkingOperation) (number : ℕ) → number
 operation-known before number h t = grind (arith, nat_tests)
 
 -- the code's own test of a repetition
-pub allowed-by : (before : List MarkingOperation) (number : ℕ) → number ≢ 0 → number ≤ 6 → length before < 36 → is_operation_allowed before number ≡ not (is_repeated before number)
+pub allowed-by : (before : List MarkingOperation) (number : ℕ) → number ≢ 0 → number ≤ 6 → length before < 36 →
+    is_operation_allowed before number ≡ not (is_repeated before number)
 allowed-by before number h k l = grind (arith, nat_tests)
 
 -- where a command has a difference, that stops
-pub difference-stops : {S : Type 0} {took : S → List Call → Type 0} {failures : S → ℕ} {old new : Reader} {s s' : S} {e : Stop} (greatest idc : ℕ) → idc ≤ 2 → idc ≢ 2 → Meets {X = ℕ} (span took failures s s') (Is (λ x. x)) (unsigned_to AbsDiffPicNumMinus1 greatest) old new (Err e) → Meets {X = Modification} (span took failures s s') (Is Some) (command greatest idc) old new (Err e)
+pub difference-stops : {S : Type 0} {took : S → List Call → Type 0} {failures : S → ℕ} {old new : Reader} {s s' : S} {e : Stop} (greatest idc : ℕ) → idc ≤ 2 →
+    idc ≢ 2 → Meets {X = ℕ} (span took failures s s') (Is (λ x. x)) (unsigned_to AbsDiffPicNumMinus1 greatest) old new (Err e) →
+    Meets {X = Modification} (span took failures s s') (Is Some) (command greatest idc) old new (Err e)
 unfolding command
 difference-stops greatest zero h k m = stop _ m
 difference-stops greatest (suc zero) h k m = stop _ m
@@ -109,7 +126,9 @@ deblocking-other (suc zero) a b = absurd (b refl)
 deblocking-other (suc (suc n)) a b = refl
 
 -- where disable_deblocking_filter_idc is not 1, the offsets stop
-pub offsets-stop : {S : Type 0} {took : S → List Call → Type 0} {failures : S → ℕ} {old new : Reader} {s s' : S} {e : Stop} (n : ℕ) → n ≢ 1 → Meets {X = FilterOffsets} (span took failures s s') (Is (λ x. x)) filter_offsets old new (Err e) → Meets {X = Deblocking} (span took failures s s') (Is (λ x. x)) (deblocking_of n) old new (Err e)
+pub offsets-stop : {S : Type 0} {took : S → List Call → Type 0} {failures : S → ℕ} {old new : Reader} {s s' : S} {e : Stop} (n : ℕ) → n ≢ 1 →
+    Meets {X = FilterOffsets} (span took failures s s') (Is (λ x. x)) filter_offsets old new (Err e) →
+    Meets {X = Deblocking} (span took failures s s') (Is (λ x. x)) (deblocking_of n) old new (Err e)
 unfolding deblocking_of
 offsets-stop zero h m = stop _ m
 offsets-stop (suc zero) h m = absurd (h refl)
@@ -128,7 +147,9 @@ one-operand (suc (suc (suc (suc (suc (suc zero)))))) h k a b = refl
 one-operand (suc (suc (suc (suc (suc (suc (suc n))))))) h k a b = absurd (omega arith)
 
 -- the first operand stops
-pub operand-stops : {S : Type 0} {took : S → List Call → Type 0} {failures : S → ℕ} {old new : Reader} {s s' : S} {e : Stop} (n : ℕ) → 0 < n → n ≤ 6 → n ≢ 5 → Meets {X = ℕ} (span took failures s s') (Is (λ x. x)) (unsigned (operand_name n)) old new (Err e) → Meets {X = Operation} (span took failures s s') (Is Some) (operands n) old new (Err e)
+pub operand-stops : {S : Type 0} {took : S → List Call → Type 0} {failures : S → ℕ} {old new : Reader} {s s' : S} {e : Stop} (n : ℕ) → 0 < n → n ≤ 6 → n ≢ 5 →
+    Meets {X = ℕ} (span took failures s s') (Is (λ x. x)) (unsigned (operand_name n)) old new (Err e) →
+    Meets {X = Operation} (span took failures s s') (Is Some) (operands n) old new (Err e)
 unfolding operands
 operand-stops zero h k b m = absurd (omega arith)
 operand-stops (suc zero) h k b m = stop _ m

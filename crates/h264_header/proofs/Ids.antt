@@ -33,11 +33,18 @@ named-gives sets = λ e t h. record { small = leb-true _ _ t; there = seen-there
 
 header-gives : (sets : ℕ → Option (Pps × Sps)) (unit : SliceUnit) → Gives (header sets unit) (λ h. IsNamed sets h.pic_parameter_set_id.value)
 unfolding header
-header-gives sets unit = gives-following _ _ _ (λ first. gives-following _ _ _ (λ stated. gives-met (named_sets sets) _ (λ n. IsNamed sets n.id.value) _ (named-gives sets) (λ named h. gives-following _ _ _ (λ num. gives-following _ _ _ (λ idr. gives-following _ _ _ (λ order. gives-following _ _ _ (λ kind. gives-following _ _ _ (λ marking. gives-following _ _ _ (λ qp. gives-following _ _ _ (λ filter. h))))))))))
+header-gives sets unit = gives-following _ _ _
+    (λ first. gives-following _ _ _ (λ stated. gives-met (named_sets sets) _ (λ n. IsNamed sets n.id.value) _ (named-gives sets)
+    (λ named h. gives-following _ _ _ (λ num. gives-following _ _ _
+    (λ idr. gives-following _ _ _ (λ order. gives-following _ _ _
+    (λ kind. gives-following _ _ _ (λ marking. gives-following _ _ _ (λ qp. gives-following _ _ _ (λ filter. h))))))))))
 
 -- so where a header was read
-pub header-named : {S : Type 0} {took : S → List Call → Type 0} {failures : S → ℕ} {h : Header} {old new : Reader} {s s' : S} (sets : ℕ → Option (Pps × Sps)) (unit : SliceUnit) (r : Result (Unit {0}) Stop) → Meets (span took failures s s') (Is (λ _. h)) (header sets unit) old new r → OnOk r (IsNamed sets h.pic_parameter_set_id.value)
+pub header-named : {S : Type 0} {took : S → List Call → Type 0} {failures : S → ℕ} {h : Header} {old new : Reader} {s s' : S} (sets : ℕ → Option (Pps × Sps))
+    (unit : SliceUnit) (r : Result (Unit {0}) Stop) → Meets (span took failures s s') (Is (λ _. h)) (header sets unit) old new r →
+    OnOk r (IsNamed sets h.pic_parameter_set_id.value)
 header-named {h = h} {old} {new} sets unit (Ok x) m =
     let a = answers m in
-    subst (λ (v : Header). IsNamed sets v.pic_parameter_set_id.value) a.2 (gives-derived (header sets unit) (λ v. IsNamed sets v.pic_parameter_set_id.value) old.body old.at a.0 new.at a.1 (header-gives sets unit) a.3)
+    subst (λ (v : Header). IsNamed sets v.pic_parameter_set_id.value) a.2
+    (gives-derived (header sets unit) (λ v. IsNamed sets v.pic_parameter_set_id.value) old.body old.at a.0 new.at a.1 (header-gives sets unit) a.3)
 header-named sets unit (Err e) m = tt

@@ -15,7 +15,8 @@ if-lengths : (b : Bool) (pps : Pps) (sps : Sps) (p : Pps × Sps) → (if b then 
 if-lengths true pps sps p e = cc
 if-lengths false pps sps p e = absurd (cc)
 
-if-there : (b : Bool) (pps : Pps) (o : Option Sps) (p : Pps × Sps) → (if b then option_and_then (if_accepted pps) o else None) ≡ Some p → option_map (λ sps. as_pair (pps, sps)) o ≡ Some (as_pair p)
+if-there : (b : Bool) (pps : Pps) (o : Option Sps) (p : Pps × Sps) → (if b then option_and_then (if_accepted pps) o else None) ≡ Some p →
+    option_map (λ sps. as_pair (pps, sps)) o ≡ Some (as_pair p)
 if-there true pps None p e = absurd (cc)
 if-there true pps (Some sps) p e = if-lengths (is_accepted sps) pps sps p e
 if-there false pps o p e = absurd (cc)

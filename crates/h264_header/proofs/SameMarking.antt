@@ -57,28 +57,32 @@ make_current_long_term-same : (a b : ℕ) → operation.MakeCurrentLongTerm a �
 make_current_long_term-same a b e = cc
 
 pub decides-operation : (a b : Operation) → Decides (eq_operation.ghosts.eq a b) (a ≡ b)
-decides-operation (operation.UnmarkShortTerm a) (operation.UnmarkShortTerm b) = Decides-like _ (same-unmark_short_term a b) (unmark_short_term-same a b) (Decides-eqb a b)
+decides-operation (operation.UnmarkShortTerm a) (operation.UnmarkShortTerm b) =
+    Decides-like _ (same-unmark_short_term a b) (unmark_short_term-same a b) (Decides-eqb a b)
 decides-operation (operation.UnmarkShortTerm a) (operation.UnmarkLongTerm b) = apart number_of _ _ _ refl refl
 decides-operation (operation.UnmarkShortTerm a) (operation.MakeLongTerm b j) = apart number_of _ _ _ refl refl
 decides-operation (operation.UnmarkShortTerm a) (operation.LimitLongTerm b) = apart number_of _ _ _ refl refl
 decides-operation (operation.UnmarkShortTerm a) operation.UnmarkAll = apart number_of _ _ _ refl refl
 decides-operation (operation.UnmarkShortTerm a) (operation.MakeCurrentLongTerm b) = apart number_of _ _ _ refl refl
 decides-operation (operation.UnmarkLongTerm a) (operation.UnmarkShortTerm b) = apart number_of _ _ _ refl refl
-decides-operation (operation.UnmarkLongTerm a) (operation.UnmarkLongTerm b) = Decides-like _ (same-unmark_long_term a b) (unmark_long_term-same a b) (Decides-eqb a b)
+decides-operation (operation.UnmarkLongTerm a) (operation.UnmarkLongTerm b) =
+    Decides-like _ (same-unmark_long_term a b) (unmark_long_term-same a b) (Decides-eqb a b)
 decides-operation (operation.UnmarkLongTerm a) (operation.MakeLongTerm b j) = apart number_of _ _ _ refl refl
 decides-operation (operation.UnmarkLongTerm a) (operation.LimitLongTerm b) = apart number_of _ _ _ refl refl
 decides-operation (operation.UnmarkLongTerm a) operation.UnmarkAll = apart number_of _ _ _ refl refl
 decides-operation (operation.UnmarkLongTerm a) (operation.MakeCurrentLongTerm b) = apart number_of _ _ _ refl refl
 decides-operation (operation.MakeLongTerm a i) (operation.UnmarkShortTerm b) = apart number_of _ _ _ refl refl
 decides-operation (operation.MakeLongTerm a i) (operation.UnmarkLongTerm b) = apart number_of _ _ _ refl refl
-decides-operation (operation.MakeLongTerm a i) (operation.MakeLongTerm b j) = Decides-like _ (λ h. same-make_long_term a b i j h.0 h.1) (make_long_term-same a b i j) (Decides-and _ _ (Decides-eqb a b) (Decides-eqb i j))
+decides-operation (operation.MakeLongTerm a i) (operation.MakeLongTerm b j) =
+    Decides-like _ (λ h. same-make_long_term a b i j h.0 h.1) (make_long_term-same a b i j) (Decides-and _ _ (Decides-eqb a b) (Decides-eqb i j))
 decides-operation (operation.MakeLongTerm a i) (operation.LimitLongTerm b) = apart number_of _ _ _ refl refl
 decides-operation (operation.MakeLongTerm a i) operation.UnmarkAll = apart number_of _ _ _ refl refl
 decides-operation (operation.MakeLongTerm a i) (operation.MakeCurrentLongTerm b) = apart number_of _ _ _ refl refl
 decides-operation (operation.LimitLongTerm a) (operation.UnmarkShortTerm b) = apart number_of _ _ _ refl refl
 decides-operation (operation.LimitLongTerm a) (operation.UnmarkLongTerm b) = apart number_of _ _ _ refl refl
 decides-operation (operation.LimitLongTerm a) (operation.MakeLongTerm b j) = apart number_of _ _ _ refl refl
-decides-operation (operation.LimitLongTerm a) (operation.LimitLongTerm b) = Decides-like _ (same-limit_long_term a b) (limit_long_term-same a b) (Decides-eqb a b)
+decides-operation (operation.LimitLongTerm a) (operation.LimitLongTerm b) =
+    Decides-like _ (same-limit_long_term a b) (limit_long_term-same a b) (Decides-eqb a b)
 decides-operation (operation.LimitLongTerm a) operation.UnmarkAll = apart number_of _ _ _ refl refl
 decides-operation (operation.LimitLongTerm a) (operation.MakeCurrentLongTerm b) = apart number_of _ _ _ refl refl
 decides-operation operation.UnmarkAll (operation.UnmarkShortTerm b) = apart number_of _ _ _ refl refl
@@ -92,13 +96,17 @@ decides-operation (operation.MakeCurrentLongTerm a) (operation.UnmarkLongTerm b)
 decides-operation (operation.MakeCurrentLongTerm a) (operation.MakeLongTerm b j) = apart number_of _ _ _ refl refl
 decides-operation (operation.MakeCurrentLongTerm a) (operation.LimitLongTerm b) = apart number_of _ _ _ refl refl
 decides-operation (operation.MakeCurrentLongTerm a) operation.UnmarkAll = apart number_of _ _ _ refl refl
-decides-operation (operation.MakeCurrentLongTerm a) (operation.MakeCurrentLongTerm b) = Decides-like _ (same-make_current_long_term a b) (make_current_long_term-same a b) (Decides-eqb a b)
+decides-operation (operation.MakeCurrentLongTerm a) (operation.MakeCurrentLongTerm b) =
+    Decides-like _ (same-make_current_long_term a b) (make_current_long_term-same a b) (Decides-eqb a b)
 
-same-marking_operation : (a b : ℕ) (o p : Operation) → a ≡ b → o ≡ p → (let m : MarkingOperation = record { bit = a; operation = o } in m) ≡ record { bit = b; operation = p }
+same-marking_operation : (a b : ℕ) (o p : Operation) → a ≡ b → o ≡ p →
+    (let m : MarkingOperation = record { bit = a; operation = o } in m) ≡ record { bit = b; operation = p }
 same-marking_operation a b o p e f = cc
 
 decides-marking_operation : (a b : MarkingOperation) → Decides (eq_marking_operation.ghosts.eq a b) (a ≡ b)
-decides-marking_operation a b = Decides-like _ (λ h. same-marking_operation a.bit b.bit a.operation b.operation h.0 h.1) (λ e. (ap (λ (m : MarkingOperation). m.bit) e, ap (λ (m : MarkingOperation). m.operation) e)) (Decides-and _ _ (Decides-eqb a.bit b.bit) (decides-operation a.operation b.operation))
+decides-marking_operation a b = Decides-like _ (λ h. same-marking_operation a.bit b.bit a.operation b.operation h.0 h.1)
+    (λ e. (ap (λ (m : MarkingOperation). m.bit) e, ap (λ (m : MarkingOperation). m.operation) e))
+    (Decides-and _ _ (Decides-eqb a.bit b.bit) (decides-operation a.operation b.operation))
 
 same-idr : (a b : Bool) (i j : Bool) → a ≡ b → i ≡ j → marking.Idr a i ≡ marking.Idr b j
 same-idr a b i j e f = cc
@@ -113,7 +121,8 @@ adaptive-same : (v w : ArrayVec MarkingOperation) → marking.Adaptive v ≡ mar
 adaptive-same v w e = cc
 
 pub decides-marking : (a b : Marking) → Decides (eq_marking.ghosts.eq a b) (a ≡ b)
-decides-marking (marking.Idr a i) (marking.Idr b j) = Decides-like _ (λ h. same-idr a b i j h.0 h.1) (idr-same a b i j) (Decides-and _ _ (booleans_Decides a b) (booleans_Decides i j))
+decides-marking (marking.Idr a i) (marking.Idr b j) =
+    Decides-like _ (λ h. same-idr a b i j h.0 h.1) (idr-same a b i j) (Decides-and _ _ (booleans_Decides a b) (booleans_Decides i j))
 decides-marking (marking.Idr a i) marking.SlidingWindow = apart mode_of _ _ _ refl refl
 decides-marking (marking.Idr a i) (marking.Adaptive w) = apart mode_of _ _ _ refl refl
 decides-marking marking.SlidingWindow (marking.Idr b j) = apart mode_of _ _ _ refl refl
@@ -121,4 +130,5 @@ decides-marking marking.SlidingWindow marking.SlidingWindow = (λ _. refl, λ _.
 decides-marking marking.SlidingWindow (marking.Adaptive w) = apart mode_of _ _ _ refl refl
 decides-marking (marking.Adaptive v) (marking.Idr b j) = apart mode_of _ _ _ refl refl
 decides-marking (marking.Adaptive v) marking.SlidingWindow = apart mode_of _ _ _ refl refl
-decides-marking (marking.Adaptive v) (marking.Adaptive w) = Decides-like _ (same-adaptive v w) (adaptive-same v w) (pointwise_decides decides-marking_operation v.items w.items)
+decides-marking (marking.Adaptive v) (marking.Adaptive w) =
+    Decides-like _ (same-adaptive v w) (adaptive-same v w) (pointwise_decides decides-marking_operation v.items w.items)

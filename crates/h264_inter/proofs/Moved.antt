@@ -44,14 +44,16 @@ moved b p x c y z w e h = record {
 }
 
 -- the windows of a row before the next one
-pub both_moved : (b : Bool) (width : ℕ) (p : Samples) (x c y z : ℕ) (w : Windows) → y + 1 ≡ z → AllSixOfBoth b width p (rows_at x c y) w → LastFiveOfBoth b width p (rows_at x c z) w
+pub both_moved : (b : Bool) (width : ℕ) (p : Samples) (x c y z : ℕ) (w : Windows) → y + 1 ≡ z → AllSixOfBoth b width p (rows_at x c y) w →
+    LastFiveOfBoth b width p (rows_at x c z) w
 both_moved b width p x c y z w e h = record {
   left = moved b p x c y z w.left e h.left;
   right = λ more. moved b p (x + 8) c y z w.right e (h.right more);
 }
 
 -- the same windows by another number of their row
-pub both_at : (b : Bool) (width : ℕ) (p : Samples) (x c y z : ℕ) (w : Windows) → y ≡ z → LastFiveOfBoth b width p (rows_at x c y) w → LastFiveOfBoth b width p (rows_at x c z) w
+pub both_at : (b : Bool) (width : ℕ) (p : Samples) (x c y z : ℕ) (w : Windows) → y ≡ z → LastFiveOfBoth b width p (rows_at x c y) w →
+    LastFiveOfBoth b width p (rows_at x c z) w
 both_at b width p x c y z w e h = rw (← e) h
 
 -- how large the numbers of a window are
@@ -94,7 +96,8 @@ pub below_is : (p : Samples) (x c y u : ℕ) (w : Window) → AllSix false p (ro
     ≡ half (six (λ i. pos (at p (x + u + c) (y + i))))
 below_is p x c y u w s q =
     rw (s.e.each u q, s.f.each u q, s.g.each u q, s.h.each u q, s.i.each u q) (
-    sums_lane (at p (x + u + c) (y + 0)) (at p (x + u + c) (y + 1)) (at p (x + u + c) (y + 2)) (at p (x + u + c) (y + 3)) (at p (x + u + c) (y + 4)) (at p (x + u + c) (y + 5))
+    sums_lane (at p (x + u + c) (y + 0)) (at p (x + u + c) (y + 1)) (at p (x + u + c) (y + 2)) (at p (x + u + c) (y + 3)) (at p (x + u + c) (y + 4))
+    (at p (x + u + c) (y + 5))
     )
 
 -- j, from values across

@@ -58,7 +58,8 @@ whole_is p mv w h x y m n out wide tall l t i j block = record {
 }
 
 -- a window of them
-window_is : (p s : Samples) (a b : ℤ) (w h x y u v m n : ℕ) → ShowsReference p (pos x +ℤ a -ℤ pos 2) (pos y +ℤ b -ℤ pos 2) (w + 5) (h + 5) s m n → u < w → v < h →
+window_is : (p s : Samples) (a b : ℤ) (w h x y u v m n : ℕ) → ShowsReference p (pos x +ℤ a -ℤ pos 2) (pos y +ℤ b -ℤ pos 2) (w + 5) (h + 5) s m n → u < w →
+    v < h →
     SameWindow (λ i j. at s (m + u + i) (n + v + j)) (around p.width p.height (at p) (pos (x + u) +ℤ a) (pos (y + v) +ℤ b))
 window_is p s a b w h x y u v m n shown f g = record {
   each = λ i j q r.
@@ -74,7 +75,8 @@ window_is p s a b w h x y u v m n shown f g = record {
 -- a block at the quarter place of its vector
 pub luma_is : (p s : Samples) (mv : MotionVector) (w h x y m n i j : ℕ) (out : List ℕ) →
     ShowsReference p (pos x +ℤ whole 2 mv.x -ℤ pos 2) (pos y +ℤ whole 2 mv.y -ℤ pos 2) (w + 5) (h + 5) s m n → i ≡ parts 4 mv.x → j ≡ parts 4 mv.y →
-    HasBlock w h out (λ u v. quarter i j (λ a b. at s (m + u + a) (n + v + b))) → HasBlock w h out (λ u v. predicted_luma p.width p.height (at p) mv (x + u) (y + v))
+    HasBlock w h out (λ u v. quarter i j (λ a b. at s (m + u + a) (n + v + b))) →
+    HasBlock w h out (λ u v. predicted_luma p.width p.height (at p) mv (x + u) (y + v))
 unfolding predicted_luma
 luma_is p s mv w h x y m n i j out shown across down block = record {
   each = λ u v q r.
@@ -98,13 +100,15 @@ chroma_sample_is p s a b w h x y u v m n i j shown f g q r =
 -- a block at the eighth place of its vector
 pub chroma_is : (p s : Samples) (mv : MotionVector) (w h x y m n i j : ℕ) (out : List ℕ) →
     ShowsReference p (pos x +ℤ whole 3 mv.x) (pos y +ℤ whole 3 mv.y) (w + 1) (h + 1) s m n → i ≡ parts 8 mv.x → j ≡ parts 8 mv.y →
-    HasBlock w h out (λ u v. eighth i j (λ a b. at s (m + u + a) (n + v + b))) → HasBlock w h out (λ u v. predicted_chroma p.width p.height (at p) mv (x + u) (y + v))
+    HasBlock w h out (λ u v. eighth i j (λ a b. at s (m + u + a) (n + v + b))) →
+    HasBlock w h out (λ u v. predicted_chroma p.width p.height (at p) mv (x + u) (y + v))
 unfolding predicted_chroma
 chroma_is p s mv w h x y m n i j out shown across down block = record {
   each = λ u v q r.
       let same = λ (a b : ℕ) (k : a < 2) (l : b < 2). chroma_sample_is p s (whole 3 mv.x) (whole 3 mv.y) w h x y u v m n a b shown q r k l in
       block.each u v q r
-      ∙ eighth_same i j _ _ (same 0 0 (omega arith) (omega arith)) (same 1 0 (omega arith) (omega arith)) (same 0 1 (omega arith) (omega arith)) (same 1 1 (omega arith) (omega arith))
+      ∙ eighth_same i j _ _ (same 0 0 (omega arith) (omega arith)) (same 1 0 (omega arith) (omega arith)) (same 0 1 (omega arith) (omega arith))
+      (same 1 1 (omega arith) (omega arith))
       ∙ ap (λ e. eighth e j (around_chroma p.width p.height (at p) (pos (x + u) +ℤ whole 3 mv.x) (pos (y + v) +ℤ whole 3 mv.y))) across
       ∙ ap (λ e. eighth (parts 8 mv.x) e (around_chroma p.width p.height (at p) (pos (x + u) +ℤ whole 3 mv.x) (pos (y + v) +ℤ whole 3 mv.y))) down;
 }

@@ -20,9 +20,11 @@ under a b c p q r h = omega (arith, h)
 
 -- the sixteenth of the sum, in two steps, the first of which may stop at 0
 steps : (a b c : ℕ) → a ≤ 26520 → b ≤ 26520 → c ≤ 26520 →
-    min ((((((a + 26520 - b) / 4 + c + 25370 - b) / 4) + c) - 13068) / 64) 255 ≡ central (pos a -ℤ pos 5100 -ℤ pos 5 *ℤ (pos b -ℤ pos 5100) +ℤ pos 20 *ℤ (pos c -ℤ pos 5100))
+    min ((((((a + 26520 - b) / 4 + c + 25370 - b) / 4) + c) - 13068) / 64) 255 ≡
+    central (pos a -ℤ pos 5100 -ℤ pos 5 *ℤ (pos b -ℤ pos 5100) +ℤ pos 20 *ℤ (pos c -ℤ pos 5100))
 steps a b c p q r =
-    clip_shr 10 ((((((a + 26520 - b) / 4 + c + 25370 - b) / 4) + c) - 13068) / 64) (pos a -ℤ pos 5100 -ℤ pos 5 *ℤ (pos b -ℤ pos 5100) +ℤ pos 20 *ℤ (pos c -ℤ pos 5100) +ℤ pos 512)
+    clip_shr 10 ((((((a + 26520 - b) / 4 + c + 25370 - b) / 4) + c) - 13068) / 64)
+    (pos a -ℤ pos 5100 -ℤ pos 5 *ℤ (pos b -ℤ pos 5100) +ℤ pos 20 *ℤ (pos c -ℤ pos 5100) +ℤ pos 512)
     (λ m e. (let h : m + 5 * b + 81088 ≡ a + 20 * c = omega (arith, ints, e) in over a b c m p q r h))
     (λ m e. (let h : a + 20 * c < 5 * b + 81088 = omega (arith, ints, e) in under a b c p q r h))
 
@@ -56,14 +58,18 @@ shr_and (negsuc m) n =
           part ∙ sym (ap (λ z. int_shr z 5) sum)
     ]
 
-pub between_lane : (e f g h i j : ℕ) → clip1 (int_shr (pos (e + j + 16 + 20 * (g + h)) -ℤ pos (5 * (f + i))) 5 +ℤ pos 0) ≡ half (taps (pos e) (pos f) (pos g) (pos h) (pos i) (pos j))
+pub between_lane : (e f g h i j : ℕ) → clip1 (int_shr (pos (e + j + 16 + 20 * (g + h)) -ℤ pos (5 * (f + i))) 5 +ℤ pos 0) ≡
+    half (taps (pos e) (pos f) (pos g) (pos h) (pos i) (pos j))
 unfolding taps
 between_lane e f g h i j =
-    let sum : pos (e + j + 16 + 20 * (g + h)) -ℤ pos (5 * (f + i)) +ℤ pos (32 * 0) ≡ taps (pos e) (pos f) (pos g) (pos h) (pos i) (pos j) +ℤ pos 16 = omega (arith, ints) in
+    let sum : pos (e + j + 16 + 20 * (g + h)) -ℤ pos (5 * (f + i)) +ℤ pos (32 * 0) ≡ taps (pos e) (pos f) (pos g) (pos h) (pos i) (pos j) +ℤ pos 16 =
+    omega (arith, ints) in
     ap clip1 (shr_and (pos (e + j + 16 + 20 * (g + h)) -ℤ pos (5 * (f + i))) 0 ∙ ap (λ z. int_shr z 5) sum)
 
-pub sums_lane : (e f g h i j : ℕ) → clip1 (int_shr (pos (e + f + (i + j) + 16) -ℤ pos (6 * (f + g + (g + h) + (h + i)))) 5 +ℤ pos (g + h)) ≡ half (taps (pos e) (pos f) (pos g) (pos h) (pos i) (pos j))
+pub sums_lane : (e f g h i j : ℕ) → clip1 (int_shr (pos (e + f + (i + j) + 16) -ℤ pos (6 * (f + g + (g + h) + (h + i)))) 5 +ℤ pos (g + h)) ≡
+    half (taps (pos e) (pos f) (pos g) (pos h) (pos i) (pos j))
 unfolding taps
 sums_lane e f g h i j =
-    let sum : pos (e + f + (i + j) + 16) -ℤ pos (6 * (f + g + (g + h) + (h + i))) +ℤ pos (32 * (g + h)) ≡ taps (pos e) (pos f) (pos g) (pos h) (pos i) (pos j) +ℤ pos 16 = omega (arith, ints) in
+    let sum : pos (e + f + (i + j) + 16) -ℤ pos (6 * (f + g + (g + h) + (h + i))) +ℤ pos (32 * (g + h)) ≡
+    taps (pos e) (pos f) (pos g) (pos h) (pos i) (pos j) +ℤ pos 16 = omega (arith, ints) in
     ap clip1 (shr_and (pos (e + f + (i + j) + 16) -ℤ pos (6 * (f + g + (g + h) + (h + i)))) (g + h) ∙ ap (λ z. int_shr z 5) sum)

@@ -1,5 +1,6 @@
 -- Weighted samples.
-use Rattle.std.proofs.Common.{◌≡◌, ℕ, zero, suc, ◌+◌, ◌*◌, ◌^◌, ◌<◌, ◌≤◌, min, rules, w16, of_z, to_z, FitsSigned, unsigned_abs, ℤ, pos, negsuc, ◌+ℤ◌, ◌*ℤ◌, ◌≤ℤ◌, ap, ◌∙◌, arith}
+use Rattle.std.proofs.Common.{◌≡◌, ℕ, zero, suc, ◌+◌, ◌*◌, ◌^◌, ◌<◌, ◌≤◌, min, rules, w16, of_z, to_z, FitsSigned, unsigned_abs, ℤ, pos, negsuc, ◌+ℤ◌, ◌*ℤ◌}
+use Rattle.std.proofs.Common.{◌≤ℤ◌, ap, ◌∙◌, arith}
 use Rattle.std.proofs.lemmas.Int.{to_z-of_z, fits_signed_from_abs}
 use Rattle.std.proofs.lemmas.Nat.{div-mul-add, pow_pos}
 use Rattle.h264_base.specs.declared.weight.Weight.{Weight}
@@ -37,4 +38,5 @@ weighted-of w p product value r e s f t =
     let o = to_z-of_z w16 w.offset (offset_fits w.offset r.offset_low r.offset_high) in
     let m : product ≡ pos p *ℤ w.weight = e ∙ ap (λ z. pos p *ℤ z) (same_of w.weight (let b = r.weight in omega arith)) in
     let v : value ≡ scaled w.log2_weight_denom (pos p *ℤ w.weight) = f ∙ ap (scaled w.log2_weight_denom) (same_of product s ∙ m) in
-    rw (same_of value t, o) (ap clip1 (to_z-of_z w16 (value +ℤ w.offset) (sum_fits value w.offset t r.offset_low r.offset_high)) ∙ ap (λ z. clip1 (z +ℤ w.offset)) v)
+    rw (same_of value t, o) (ap clip1 (to_z-of_z w16 (value +ℤ w.offset) (sum_fits value w.offset t r.offset_low r.offset_high)) ∙
+    ap (λ z. clip1 (z +ℤ w.offset)) v)

@@ -10,7 +10,8 @@ four_of x = x ∷ x ∷ x ∷ x ∷ []
 
 -- the samples in one row
 abbrev listed : List ℕ → ℕ → List ℕ → List ℕ → List ℕ
-listed l c a r = slice_index l 3 ∷ slice_index l 2 ∷ slice_index l 1 ∷ slice_index l 0 ∷ c ∷ slice_index a 0 ∷ slice_index a 1 ∷ slice_index a 2 ∷ slice_index a 3 ∷ slice_index r 0 ∷ slice_index r 1 ∷ slice_index r 2 ∷ slice_index r 3 ∷ []
+listed l c a r = slice_index l 3 ∷ slice_index l 2 ∷ slice_index l 1 ∷ slice_index l 0 ∷ c ∷ slice_index a 0 ∷ slice_index a 1 ∷ slice_index a 2 ∷ slice_index
+    a 3 ∷ slice_index r 0 ∷ slice_index r 1 ∷ slice_index r 2 ∷ slice_index r 3 ∷ []
 
 abbrev beside : Option (List ℕ) → Option (List ℕ) → Option (List ℕ) → Option ℕ → Neighbours4
 beside l a r c = record { left = l; above = a; above_right = r; corner = c }
@@ -39,28 +40,64 @@ by_five P a b c d e (suc (suc (suc zero))) p = d
 by_five P a b c d e (suc (suc (suc (suc zero)))) p = e
 by_five P a b c d e (suc (suc (suc (suc (suc j))))) p = absurd (let q : ⊥ = omega arith in q)
 
-row_is : (l a r : Option (List ℕ)) (c : Option ℕ) (k : ℕ) → k ≤ 8 → from_border (border l a r c) k 0 ≡ filled (sides4 (beside l a r c)) (around4 (beside l a r c)) k 0
-row_is l None None None k p = by_nine (λ k. from_border (border l None None None) k 0 ≡ filled (sides4 (beside l None None None)) (around4 (beside l None None None)) k 0) refl refl refl refl refl refl refl refl refl k p
-row_is l None None (Some c) k p = by_nine (λ k. from_border (border l None None (Some c)) k 0 ≡ filled (sides4 (beside l None None (Some c))) (around4 (beside l None None (Some c))) k 0) refl refl refl refl refl refl refl refl refl k p
-row_is l None (Some r) None k p = by_nine (λ k. from_border (border l None (Some r) None) k 0 ≡ filled (sides4 (beside l None (Some r) None)) (around4 (beside l None (Some r) None)) k 0) refl refl refl refl refl refl refl refl refl k p
-row_is l None (Some r) (Some c) k p = by_nine (λ k. from_border (border l None (Some r) (Some c)) k 0 ≡ filled (sides4 (beside l None (Some r) (Some c))) (around4 (beside l None (Some r) (Some c))) k 0) refl refl refl refl refl refl refl refl refl k p
-row_is l (Some a) None None k p = by_nine (λ k. from_border (border l (Some a) None None) k 0 ≡ filled (sides4 (beside l (Some a) None None)) (around4 (beside l (Some a) None None)) k 0) refl refl refl refl refl refl refl refl refl k p
-row_is l (Some a) None (Some c) k p = by_nine (λ k. from_border (border l (Some a) None (Some c)) k 0 ≡ filled (sides4 (beside l (Some a) None (Some c))) (around4 (beside l (Some a) None (Some c))) k 0) refl refl refl refl refl refl refl refl refl k p
-row_is l (Some a) (Some r) None k p = by_nine (λ k. from_border (border l (Some a) (Some r) None) k 0 ≡ filled (sides4 (beside l (Some a) (Some r) None)) (around4 (beside l (Some a) (Some r) None)) k 0) refl refl refl refl refl refl refl refl refl k p
-row_is l (Some a) (Some r) (Some c) k p = by_nine (λ k. from_border (border l (Some a) (Some r) (Some c)) k 0 ≡ filled (sides4 (beside l (Some a) (Some r) (Some c))) (around4 (beside l (Some a) (Some r) (Some c))) k 0) refl refl refl refl refl refl refl refl refl k p
+row_is : (l a r : Option (List ℕ)) (c : Option ℕ) (k : ℕ) → k ≤ 8 →
+    from_border (border l a r c) k 0 ≡ filled (sides4 (beside l a r c)) (around4 (beside l a r c)) k 0
+row_is l None None None k p = by_nine (λ k. from_border (border l None None None) k 0 ≡
+    filled (sides4 (beside l None None None)) (around4 (beside l None None None)) k 0) refl refl refl refl refl refl refl refl refl k p
+row_is l None None (Some c) k p = by_nine
+    (λ k. from_border (border l None None (Some c)) k 0 ≡ filled (sides4 (beside l None None (Some c))) (around4 (beside l None None (Some c))) k 0) refl refl
+    refl refl refl refl refl refl refl k p
+row_is l None (Some r) None k p = by_nine
+    (λ k. from_border (border l None (Some r) None) k 0 ≡ filled (sides4 (beside l None (Some r) None)) (around4 (beside l None (Some r) None)) k 0) refl refl
+    refl refl refl refl refl refl refl k p
+row_is l None (Some r) (Some c) k p = by_nine
+    (λ k. from_border (border l None (Some r) (Some c)) k 0 ≡
+    filled (sides4 (beside l None (Some r) (Some c))) (around4 (beside l None (Some r) (Some c))) k 0) refl refl refl refl refl refl refl refl refl k p
+row_is l (Some a) None None k p = by_nine
+    (λ k. from_border (border l (Some a) None None) k 0 ≡ filled (sides4 (beside l (Some a) None None)) (around4 (beside l (Some a) None None)) k 0) refl refl
+    refl refl refl refl refl refl refl k p
+row_is l (Some a) None (Some c) k p = by_nine
+    (λ k. from_border (border l (Some a) None (Some c)) k 0 ≡
+    filled (sides4 (beside l (Some a) None (Some c))) (around4 (beside l (Some a) None (Some c))) k 0) refl refl refl refl refl refl refl refl refl k p
+row_is l (Some a) (Some r) None k p = by_nine
+    (λ k. from_border (border l (Some a) (Some r) None) k 0 ≡
+    filled (sides4 (beside l (Some a) (Some r) None)) (around4 (beside l (Some a) (Some r) None)) k 0) refl refl refl refl refl refl refl refl refl k p
+row_is l (Some a) (Some r) (Some c) k p =
+    by_nine (λ k. from_border (border l (Some a) (Some r) (Some c)) k 0 ≡
+    filled (sides4 (beside l (Some a) (Some r) (Some c))) (around4 (beside l (Some a) (Some r) (Some c))) k 0) refl refl refl refl refl refl refl refl refl k
+    p
 
-column_is : (l a r : Option (List ℕ)) (c : Option ℕ) (k : ℕ) → k ≤ 4 → from_border (border l a r c) 0 k ≡ filled (sides4 (beside l a r c)) (around4 (beside l a r c)) 0 k
-column_is None a None None k p = by_five (λ k. from_border (border None a None None) 0 k ≡ filled (sides4 (beside None a None None)) (around4 (beside None a None None)) 0 k) refl refl refl refl refl k p
-column_is None a None (Some c) k p = by_five (λ k. from_border (border None a None (Some c)) 0 k ≡ filled (sides4 (beside None a None (Some c))) (around4 (beside None a None (Some c))) 0 k) refl refl refl refl refl k p
-column_is None a (Some r) None k p = by_five (λ k. from_border (border None a (Some r) None) 0 k ≡ filled (sides4 (beside None a (Some r) None)) (around4 (beside None a (Some r) None)) 0 k) refl refl refl refl refl k p
-column_is None a (Some r) (Some c) k p = by_five (λ k. from_border (border None a (Some r) (Some c)) 0 k ≡ filled (sides4 (beside None a (Some r) (Some c))) (around4 (beside None a (Some r) (Some c))) 0 k) refl refl refl refl refl k p
-column_is (Some l) a None None k p = by_five (λ k. from_border (border (Some l) a None None) 0 k ≡ filled (sides4 (beside (Some l) a None None)) (around4 (beside (Some l) a None None)) 0 k) refl refl refl refl refl k p
-column_is (Some l) a None (Some c) k p = by_five (λ k. from_border (border (Some l) a None (Some c)) 0 k ≡ filled (sides4 (beside (Some l) a None (Some c))) (around4 (beside (Some l) a None (Some c))) 0 k) refl refl refl refl refl k p
-column_is (Some l) a (Some r) None k p = by_five (λ k. from_border (border (Some l) a (Some r) None) 0 k ≡ filled (sides4 (beside (Some l) a (Some r) None)) (around4 (beside (Some l) a (Some r) None)) 0 k) refl refl refl refl refl k p
-column_is (Some l) a (Some r) (Some c) k p = by_five (λ k. from_border (border (Some l) a (Some r) (Some c)) 0 k ≡ filled (sides4 (beside (Some l) a (Some r) (Some c))) (around4 (beside (Some l) a (Some r) (Some c))) 0 k) refl refl refl refl refl k p
+column_is : (l a r : Option (List ℕ)) (c : Option ℕ) (k : ℕ) → k ≤ 4 →
+    from_border (border l a r c) 0 k ≡ filled (sides4 (beside l a r c)) (around4 (beside l a r c)) 0 k
+column_is None a None None k p = by_five
+    (λ k. from_border (border None a None None) 0 k ≡ filled (sides4 (beside None a None None)) (around4 (beside None a None None)) 0 k) refl refl refl refl
+    refl k p
+column_is None a None (Some c) k p = by_five
+    (λ k. from_border (border None a None (Some c)) 0 k ≡ filled (sides4 (beside None a None (Some c))) (around4 (beside None a None (Some c))) 0 k) refl refl
+    refl refl refl k p
+column_is None a (Some r) None k p = by_five
+    (λ k. from_border (border None a (Some r) None) 0 k ≡ filled (sides4 (beside None a (Some r) None)) (around4 (beside None a (Some r) None)) 0 k) refl refl
+    refl refl refl k p
+column_is None a (Some r) (Some c) k p =
+    by_five (λ k. from_border (border None a (Some r) (Some c)) 0 k ≡
+    filled (sides4 (beside None a (Some r) (Some c))) (around4 (beside None a (Some r) (Some c))) 0 k) refl refl refl refl refl k p
+column_is (Some l) a None None k p = by_five
+    (λ k. from_border (border (Some l) a None None) 0 k ≡ filled (sides4 (beside (Some l) a None None)) (around4 (beside (Some l) a None None)) 0 k) refl refl
+    refl refl refl k p
+column_is (Some l) a None (Some c) k p =
+    by_five (λ k. from_border (border (Some l) a None (Some c)) 0 k ≡
+    filled (sides4 (beside (Some l) a None (Some c))) (around4 (beside (Some l) a None (Some c))) 0 k) refl refl refl refl refl k p
+column_is (Some l) a (Some r) None k p =
+    by_five (λ k. from_border (border (Some l) a (Some r) None) 0 k ≡
+    filled (sides4 (beside (Some l) a (Some r) None)) (around4 (beside (Some l) a (Some r) None)) 0 k) refl refl refl refl refl k p
+column_is (Some l) a (Some r) (Some c) k p =
+    by_five (λ k. from_border (border (Some l) a (Some r) (Some c)) 0 k ≡
+    filled (sides4 (beside (Some l) a (Some r) (Some c))) (around4 (beside (Some l) a (Some r) (Some c))) 0 k) refl refl refl refl refl k p
 
 pub border_is : (n : Neighbours4) (l a r : List ℕ) (c : ℕ) → l ≡ unwrap_or n.left zeros → a ≡ unwrap_or n.above zeros →
-    r ≡ unwrap_or n.above_right (four_of (slice_index a 3)) → c ≡ unwrap_or n.corner 0 → SameRound4 (from_border (listed l c a r)) (filled (sides4 n) (around4 n))
+    r ≡ unwrap_or n.above_right (four_of (slice_index a 3)) → c ≡ unwrap_or n.corner 0 →
+    SameRound4 (from_border (listed l c a r)) (filled (sides4 n) (around4 n))
 border_is n l a r c p q s t =
-    let e : r ≡ unwrap_or n.above_right (four_of (slice_index (unwrap_or n.above zeros) 3)) = s ∙ ap (λ xs. unwrap_or n.above_right (four_of (slice_index xs 3))) q in
+    let e : r ≡ unwrap_or n.above_right (four_of (slice_index (unwrap_or n.above zeros) 3)) = s ∙
+    ap (λ xs. unwrap_or n.above_right (four_of (slice_index xs 3))) q in
     rw (p, q, e, t) (record { row = row_is n.left n.above n.above_right n.corner; column = column_is n.left n.above n.above_right n.corner })

@@ -65,8 +65,10 @@ shr5_high (negsuc n) = omega arith
 
 -- a sample of a plane before it is clipped, as the code computes it
 pub shifted_is : (a r s : ℤ) → IsIn 8160 a → IsIn 130560 r → IsIn 130560 s →
-    to_z w32 (of_z w32 (shr_z (to_z w32 (of_z w32 (to_z w32 (of_z w32 (to_z w32 (of_z w32 (to_z w32 (of_z w32 a) +ℤ to_z w32 (of_z w32 r))) +ℤ to_z w32 (of_z w32 s))) +ℤ pos 16))) 32))
+    to_z w32 (of_z w32 (shr_z (to_z w32 (of_z w32
+    (to_z w32 (of_z w32 (to_z w32 (of_z w32 (to_z w32 (of_z w32 a) +ℤ to_z w32 (of_z w32 r))) +ℤ to_z w32 (of_z w32 s))) +ℤ pos 16))) 32))
     ≡ shr_z (a +ℤ r +ℤ s +ℤ pos 16) 32
 shifted_is a r s p q t =
-    let sum : to_z w32 (of_z w32 (to_z w32 (of_z w32 (to_z w32 (of_z w32 (to_z w32 (of_z w32 a) +ℤ to_z w32 (of_z w32 r))) +ℤ to_z w32 (of_z w32 s))) +ℤ pos 16)) ≡ a +ℤ r +ℤ s +ℤ pos 16 = omega (arith, ints) in
+    let sum : to_z w32 (of_z w32 (to_z w32 (of_z w32 (to_z w32 (of_z w32 (to_z w32 (of_z w32 a) +ℤ to_z w32 (of_z w32 r))) +ℤ to_z w32 (of_z w32 s))) +ℤ pos
+    16)) ≡ a +ℤ r +ℤ s +ℤ pos 16 = omega (arith, ints) in
     rw sum (omega (arith, ints, shr5_low, shr5_high))

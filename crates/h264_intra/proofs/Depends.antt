@@ -1,5 +1,6 @@
 -- A prediction depends on the sides alone that are available, for whoever hands in samples of a whole picture.
-use Rattle.std.proofs.Common.{◌≡◌, ℕ, zero, suc, ◌+◌, ◌-◌, ◌*◌, ◌/◌, ◌<◌, ◌≤◌, arith, refl, sym, ap, ◌∙◌, ⊎_elim, add-one, eqb, Bool, true, false, ◌&&◌, IsTrue, cond, ℤ, pos, ◌+ℤ◌, ◌-ℤ◌, ◌*ℤ◌}
+use Rattle.std.proofs.Common.{◌≡◌, ℕ, zero, suc, ◌+◌, ◌-◌, ◌*◌, ◌/◌, ◌<◌, ◌≤◌, arith, refl, sym, ap, ◌∙◌, ⊎_elim, add-one, eqb, Bool, true, false, ◌&&◌}
+use Rattle.std.proofs.Common.{IsTrue, cond, ℤ, pos, ◌+ℤ◌, ◌-ℤ◌, ◌*ℤ◌}
 use Rattle.std.proofs.lemmas.Bool.{cases_Bool, cases_lt, cases_eq, cond-true, cond-false, lt-ltb}
 use Rattle.std.proofs.lemmas.Bool.Decides.{nat_tests}
 use Rattle.std.specs.Int.{int_shr}
@@ -8,7 +9,8 @@ use Rattle.h264_intra.specs.Sides.{Sides, SameSides}
 use Rattle.h264_intra.specs.Slope.{total_z, difference, gradient, slope, plane}
 use Rattle.h264_intra.specs.Luma4.{diagonal_down_left, vertical_left, horizontal_up, dc, filled, predicted4, Sides4, SameSides4, SameRound4, is_possible4}
 use Rattle.h264_intra.specs.declared.luma4.Intra4x4PredMode.{Intra4x4PredMode}
-use Rattle.h264_intra.specs.declared.luma4.Intra4x4PredMode.TheVariants.{Vertical, Horizontal, Dc, DiagonalDownLeft, DiagonalDownRight, VerticalRight, HorizontalDown, VerticalLeft, HorizontalUp}
+use Rattle.h264_intra.specs.declared.luma4.Intra4x4PredMode.TheVariants.{Vertical, Horizontal, Dc, DiagonalDownLeft, DiagonalDownRight, VerticalRight}
+use Rattle.h264_intra.specs.declared.luma4.Intra4x4PredMode.TheVariants.{HorizontalDown, VerticalLeft, HorizontalUp}
 use Rattle.h264_intra.specs.Luma16.{predicted16, is_possible16}
 use Rattle.h264_intra.specs.declared.luma16.Intra16x16PredMode.{Intra16x16PredMode}
 use Rattle.h264_intra.specs.declared.luma16.Intra16x16PredMode.TheVariants as luma
@@ -72,11 +74,13 @@ filled_row s p q h a k i j = ⊎_elim
 round_same : (s : Sides4) (p q : ℕ → ℕ → ℕ) → SameSides4 s p q → IsTrue s.above → IsTrue s.left → IsTrue s.corner → SameRound4 (filled s p) (filled s q)
 round_same s p q h a l c = record {
   row = λ k i. ⊎_elim
-      (λ (e : k ≡ 0). ap (λ n. filled s p n 0) e ∙ filled_near s p 0 (omega arith) ∙ h.corner c ∙ sym (filled_near s q 0 (omega arith)) ∙ ap (λ n. filled s q n 0) (sym e))
+      (λ (e : k ≡ 0). ap (λ n. filled s p n 0) e ∙ filled_near s p 0 (omega arith) ∙ h.corner c ∙ sym (filled_near s q 0 (omega arith)) ∙
+      ap (λ n. filled s q n 0) (sym e))
       (λ other. filled_row s p q h a k (omega arith) i)
       (cases_eq k 0);
   column = λ k i. ⊎_elim
-      (λ (e : k ≡ 0). ap (λ n. filled s p 0 n) e ∙ filled_near s p 0 (omega arith) ∙ h.corner c ∙ sym (filled_near s q 0 (omega arith)) ∙ ap (λ n. filled s q 0 n) (sym e))
+      (λ (e : k ≡ 0). ap (λ n. filled s p 0 n) e ∙ filled_near s p 0 (omega arith) ∙ h.corner c ∙ sym (filled_near s q 0 (omega arith)) ∙
+      ap (λ n. filled s q 0 n) (sym e))
       (λ other. filled_column s p k ∙ near_column s p q h l k (omega arith) i ∙ sym (filled_column s q k))
       (cases_eq k 0);
 }
@@ -108,9 +112,15 @@ predicted4_same Vertical s p q x y n a b h = filled_row s p q h n (x + 1) (omega
 predicted4_same Horizontal s p q x y n a b h = filled_left s p q h n (y + 1) (omega arith) (omega arith)
 predicted4_same Dc s p q x y n a b h = dc_same s p q h
 predicted4_same DiagonalDownLeft s p q x y n a b h = down_left_same (filled s p) (filled s q) x y a b (filled_row s p q h n)
-predicted4_same DiagonalDownRight s p q x y n a b h = directed_same DiagonalDownRight 0 (filled s p) (filled s q) x y a b (round_same s p q h (all_three s.above s.left s.corner n).0 (all_three s.above s.left s.corner n).1 (all_three s.above s.left s.corner n).2)
-predicted4_same VerticalRight s p q x y n a b h = directed_same VerticalRight 0 (filled s p) (filled s q) x y a b (round_same s p q h (all_three s.above s.left s.corner n).0 (all_three s.above s.left s.corner n).1 (all_three s.above s.left s.corner n).2)
-predicted4_same HorizontalDown s p q x y n a b h = directed_same HorizontalDown 0 (filled s p) (filled s q) x y a b (round_same s p q h (all_three s.above s.left s.corner n).0 (all_three s.above s.left s.corner n).1 (all_three s.above s.left s.corner n).2)
+predicted4_same DiagonalDownRight s p q x y n a b h =
+    directed_same DiagonalDownRight 0 (filled s p) (filled s q) x y a b
+    (round_same s p q h (all_three s.above s.left s.corner n).0 (all_three s.above s.left s.corner n).1 (all_three s.above s.left s.corner n).2)
+predicted4_same VerticalRight s p q x y n a b h =
+    directed_same VerticalRight 0 (filled s p) (filled s q) x y a b
+    (round_same s p q h (all_three s.above s.left s.corner n).0 (all_three s.above s.left s.corner n).1 (all_three s.above s.left s.corner n).2)
+predicted4_same HorizontalDown s p q x y n a b h =
+    directed_same HorizontalDown 0 (filled s p) (filled s q) x y a b
+    (round_same s p q h (all_three s.above s.left s.corner n).0 (all_three s.above s.left s.corner n).1 (all_three s.above s.left s.corner n).2)
 predicted4_same VerticalLeft s p q x y n a b h = left_same (filled s p) (filled s q) x y a b (filled_row s p q h n)
 predicted4_same HorizontalUp s p q x y n a b h = up_same (filled s p) (filled s q) x y a b (filled_left s p q h n)
 
@@ -133,7 +143,12 @@ pub plane_same : (half : ℕ) (weight : ℤ) (p q : ℕ → ℕ → ℕ) (x y : 
     plane half weight p x y ≡ plane half weight q x y
 unfolding plane
 plane_same half weight p q x y row column =
-    rw (row (2 * half) (omega arith), column (2 * half) (omega arith), slope_same half weight (λ k. p k 0) (λ k. q k 0) row, slope_same half weight (λ k. p 0 k) (λ k. q 0 k) column) refl
+    rw (
+      row (2 * half) (omega arith),
+      column (2 * half) (omega arith),
+      slope_same half weight (λ k. p k 0) (λ k. q k 0) row,
+      slope_same half weight (λ k. p 0 k) (λ k. q 0 k) column,
+    ) refl
 
 -- ---- macroblocks
 
@@ -145,18 +160,23 @@ whole_column : (n : ℕ) (s : Sides) (p q : ℕ → ℕ → ℕ) → SameSides n
 whole_column n s p q h l c zero i = h.corner c
 whole_column n s p q h l c (suc k) i = rw (← add-one k) (h.left l k (omega arith))
 
-pub predicted16_same : (mode : Intra16x16PredMode) (s : Sides) (p q : ℕ → ℕ → ℕ) (x y : ℕ) → IsTrue (is_possible16 mode s) → x < 16 → y < 16 → SameSides 16 s p q →
+pub predicted16_same : (mode : Intra16x16PredMode) (s : Sides) (p q : ℕ → ℕ → ℕ) (x y : ℕ) → IsTrue (is_possible16 mode s) → x < 16 → y < 16 →
+    SameSides 16 s p q →
     predicted16 mode s p x y ≡ predicted16 mode s q x y
 unfolding predicted16
 predicted16_same luma.Vertical s p q x y n a b h = h.above n x a
 predicted16_same luma.Horizontal s p q x y n a b h = h.left n y b
 predicted16_same luma.Dc s p q x y n a b h = means_same 16 s.left s.above _ _ _ _ (λ l. total_same 16 _ _ (h.left l)) (λ t. total_same 16 _ _ (h.above t))
-predicted16_same luma.Plane s p q x y n a b h = plane_same 8 (pos 5) p q x y (whole_row 16 s p q h (all_three s.above s.left s.corner n).0 (all_three s.above s.left s.corner n).2) (whole_column 16 s p q h (all_three s.above s.left s.corner n).1 (all_three s.above s.left s.corner n).2)
+predicted16_same luma.Plane s p q x y n a b h =
+    plane_same 8 (pos 5) p q x y (whole_row 16 s p q h (all_three s.above s.left s.corner n).0 (all_three s.above s.left s.corner n).2)
+    (whole_column 16 s p q h (all_three s.above s.left s.corner n).1 (all_three s.above s.left s.corner n).2)
 
-part_left : (s : Sides) (p q : ℕ → ℕ → ℕ) → SameSides 8 s p q → (j : ℕ) → j < 2 → IsTrue s.left → total 4 (λ k. p 0 (4 * j + k + 1)) ≡ total 4 (λ k. q 0 (4 * j + k + 1))
+part_left : (s : Sides) (p q : ℕ → ℕ → ℕ) → SameSides 8 s p q → (j : ℕ) → j < 2 → IsTrue s.left →
+    total 4 (λ k. p 0 (4 * j + k + 1)) ≡ total 4 (λ k. q 0 (4 * j + k + 1))
 part_left s p q h j i l = total_same 4 _ _ (λ k m. h.left l (4 * j + k) (omega arith))
 
-part_above : (s : Sides) (p q : ℕ → ℕ → ℕ) → SameSides 8 s p q → (i : ℕ) → i < 2 → IsTrue s.above → total 4 (λ k. p (4 * i + k + 1) 0) ≡ total 4 (λ k. q (4 * i + k + 1) 0)
+part_above : (s : Sides) (p q : ℕ → ℕ → ℕ) → SameSides 8 s p q → (i : ℕ) → i < 2 → IsTrue s.above →
+    total 4 (λ k. p (4 * i + k + 1) 0) ≡ total 4 (λ k. q (4 * i + k + 1) 0)
 part_above s p q h i m a = total_same 4 _ _ (λ k n. h.above a (4 * i + k) (omega arith))
 
 -- one side before the other
@@ -176,10 +196,13 @@ block_dc_same s p q i j m n h =
     either_same (eqb i j) _ _ _ _ (means_same 4 s.left s.above _ _ _ _ left above)
     (either_same (eqb j 0) _ _ _ _ (first_same s.above s.left _ _ _ _ above left) (first_same s.left s.above _ _ _ _ left above))
 
-pub predicted_chroma_same : (mode : IntraChromaPredMode) (s : Sides) (p q : ℕ → ℕ → ℕ) (x y : ℕ) → IsTrue (is_possible_chroma mode s) → x < 8 → y < 8 → SameSides 8 s p q →
+pub predicted_chroma_same : (mode : IntraChromaPredMode) (s : Sides) (p q : ℕ → ℕ → ℕ) (x y : ℕ) → IsTrue (is_possible_chroma mode s) → x < 8 → y < 8 →
+    SameSides 8 s p q →
     predicted_chroma mode s p x y ≡ predicted_chroma mode s q x y
 unfolding predicted_chroma
 predicted_chroma_same chroma.Dc s p q x y n a b h = block_dc_same s p q (x / 4) (y / 4) (omega arith) (omega arith) h
 predicted_chroma_same chroma.Horizontal s p q x y n a b h = h.left n y b
 predicted_chroma_same chroma.Vertical s p q x y n a b h = h.above n x a
-predicted_chroma_same chroma.Plane s p q x y n a b h = plane_same 4 (pos 34) p q x y (whole_row 8 s p q h (all_three s.above s.left s.corner n).0 (all_three s.above s.left s.corner n).2) (whole_column 8 s p q h (all_three s.above s.left s.corner n).1 (all_three s.above s.left s.corner n).2)
+predicted_chroma_same chroma.Plane s p q x y n a b h =
+    plane_same 4 (pos 34) p q x y (whole_row 8 s p q h (all_three s.above s.left s.corner n).0 (all_three s.above s.left s.corner n).2)
+    (whole_column 8 s p q h (all_three s.above s.left s.corner n).1 (all_three s.above s.left s.corner n).2)

@@ -68,10 +68,12 @@ pub left_block : (n : NeighboursChroma) (l : List ℕ) (i j s : ℕ) → n.left 
     s ≡ total 4 (λ k. slice_index l (4 * j + k)) → (s + 2) / 4 ≡ block_dc (sides_chroma n) (around_chroma n) i j
 left_block n l i j s p q e =
     let left = e ∙ left_part j (Some l) None n.corner in
-    rw (p, q, left) (sym (ap (λ x. cond (eqb i j) ((total 4 (λ k. beside (Some l) None n.corner 0 (4 * j + k + 1)) + 2) / 4) x) (same_either (eqb j 0) _) ∙ same_either (eqb i j) _))
+    rw (p, q, left) (sym (ap (λ x. cond (eqb i j) ((total 4 (λ k. beside (Some l) None n.corner 0 (4 * j + k + 1)) + 2) / 4) x) (same_either (eqb j 0) _) ∙
+    same_either (eqb i j) _))
 
 pub above_block : (n : NeighboursChroma) (a : List ℕ) (i j t : ℕ) → n.left ≡ None → n.above ≡ Some a →
     t ≡ total 4 (λ k. slice_index a (4 * i + k)) → (t + 2) / 4 ≡ block_dc (sides_chroma n) (around_chroma n) i j
 above_block n a i j t p q f =
     let above = f ∙ above_part i None (Some a) n.corner in
-    rw (p, q, above) (sym (ap (λ x. cond (eqb i j) ((total 4 (λ k. beside None (Some a) n.corner (4 * i + k + 1) 0) + 2) / 4) x) (same_either (eqb j 0) _) ∙ same_either (eqb i j) _))
+    rw (p, q, above) (sym (ap (λ x. cond (eqb i j) ((total 4 (λ k. beside None (Some a) n.corner (4 * i + k + 1) 0) + 2) / 4) x) (same_either (eqb j 0) _) ∙
+    same_either (eqb i j) _))

@@ -1,9 +1,11 @@
 use Rattle.std.proofs.Common.{◌≡◌, ℕ, ◌+◌, ◌-◌, ◌/◌, ◌<◌, arith, refl, ◌∙◌, List}
 use Rattle.std.proofs.lemmas.Bool.Decides.{nat_tests}
 use Rattle.h264_intra.specs.Filters.{HasSamples}
-use Rattle.h264_intra.specs.Luma4.{diagonal_down_left, diagonal_down_right, vertical_right, horizontal_down, vertical_left, horizontal_up, directed, dc, filled, from_border, predicted4, Sides4, SameRound4}
+use Rattle.h264_intra.specs.Luma4.{diagonal_down_left, diagonal_down_right, vertical_right, horizontal_down, vertical_left, horizontal_up, directed, dc}
+use Rattle.h264_intra.specs.Luma4.{filled, from_border, predicted4, Sides4, SameRound4}
 use Rattle.h264_intra.specs.declared.luma4.Intra4x4PredMode.{Intra4x4PredMode}
-use Rattle.h264_intra.specs.declared.luma4.Intra4x4PredMode.TheVariants.{Vertical, Horizontal, Dc, DiagonalDownLeft, DiagonalDownRight, VerticalRight, HorizontalDown, VerticalLeft, HorizontalUp}
+use Rattle.h264_intra.specs.declared.luma4.Intra4x4PredMode.TheVariants.{Vertical, Horizontal, Dc, DiagonalDownLeft, DiagonalDownRight, VerticalRight}
+use Rattle.h264_intra.specs.declared.luma4.Intra4x4PredMode.TheVariants.{HorizontalDown, VerticalLeft, HorizontalUp}
 
 diagonal_down_left_same : (p q : ℕ → ℕ → ℕ) (x y : ℕ) → x < 4 → y < 4 → SameRound4 p q → diagonal_down_left p x y ≡ diagonal_down_left q x y
 diagonal_down_left_same p q x y a b h =
@@ -11,7 +13,19 @@ diagonal_down_left_same p q x y a b h =
 
 diagonal_down_right_same : (p q : ℕ → ℕ → ℕ) (x y : ℕ) → x < 4 → y < 4 → SameRound4 p q → diagonal_down_right p x y ≡ diagonal_down_right q x y
 diagonal_down_right_same p q x y a b h =
-    grind (arith, nat_tests, h.row 0, h.row 1, h.column 1, h.row (x - y - 1), h.row (x - y), h.row (x - y + 1), h.column (y - x - 1), h.column (y - x), h.column (y - x + 1))
+    grind (
+      arith,
+      nat_tests,
+      h.row 0,
+      h.row 1,
+      h.column 1,
+      h.row (x - y - 1),
+      h.row (x - y),
+      h.row (x - y + 1),
+      h.column (y - x - 1),
+      h.column (y - x),
+      h.column (y - x + 1),
+    )
 
 vertical_right_same : (p q : ℕ → ℕ → ℕ) (x y : ℕ) → x < 4 → y < 4 → SameRound4 p q → vertical_right p x y ≡ vertical_right q x y
 vertical_right_same p q x y a b h =

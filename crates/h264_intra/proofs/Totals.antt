@@ -26,7 +26,8 @@ pub beside_column : (l a : Option (List ℕ)) (c : Option ℕ) (j k : ℕ) → j
 beside_column l a c j k e =
     let other : j ≢ 0 = omega arith in
     let place : j - 1 ≡ k = omega arith in
-    cond-false (eqb j 0) (with_corner (unwrap_or c 0) (unwrap_or a []) 0) (slice_index (unwrap_or l []) (j - 1)) (ne_eqb j 0 other) ∙ ap (slice_index (unwrap_or l [])) place
+    cond-false (eqb j 0) (with_corner (unwrap_or c 0) (unwrap_or a []) 0) (slice_index (unwrap_or l []) (j - 1)) (ne_eqb j 0 other) ∙
+    ap (slice_index (unwrap_or l [])) place
 
 -- the sum of a side, and of half a side
 pub left_total : (n : ℕ) (l a : Option (List ℕ)) (c : Option ℕ) → total n (λ k. slice_index (unwrap_or l []) k) ≡ total n (λ k. beside l a c 0 (k + 1))
@@ -35,8 +36,10 @@ left_total n l a c = total_same n _ _ (λ k p. sym (beside_column l a c (k + 1) 
 pub above_total : (n : ℕ) (l a : Option (List ℕ)) (c : Option ℕ) → total n (λ k. slice_index (unwrap_or a []) k) ≡ total n (λ k. beside l a c (k + 1) 0)
 above_total n l a c = total_same n _ _ (λ k p. sym (beside_row l a c (k + 1) k refl))
 
-pub left_part : (j : ℕ) (l a : Option (List ℕ)) (c : Option ℕ) → total 4 (λ k. slice_index (unwrap_or l []) (4 * j + k)) ≡ total 4 (λ k. beside l a c 0 (4 * j + k + 1))
+pub left_part : (j : ℕ) (l a : Option (List ℕ)) (c : Option ℕ) → total 4 (λ k. slice_index (unwrap_or l []) (4 * j + k)) ≡
+    total 4 (λ k. beside l a c 0 (4 * j + k + 1))
 left_part j l a c = total_same 4 _ _ (λ k p. sym (beside_column l a c (4 * j + k + 1) (4 * j + k) refl))
 
-pub above_part : (i : ℕ) (l a : Option (List ℕ)) (c : Option ℕ) → total 4 (λ k. slice_index (unwrap_or a []) (4 * i + k)) ≡ total 4 (λ k. beside l a c (4 * i + k + 1) 0)
+pub above_part : (i : ℕ) (l a : Option (List ℕ)) (c : Option ℕ) → total 4 (λ k. slice_index (unwrap_or a []) (4 * i + k)) ≡
+    total 4 (λ k. beside l a c (4 * i + k + 1) 0)
 above_part i l a c = total_same 4 _ _ (λ k p. sym (beside_row l a c (4 * i + k + 1) (4 * i + k) refl))

@@ -1,4 +1,5 @@
-use Rattle.std.proofs.Common.{◌≡◌, ℕ, zero, suc, ◌+◌, ◌*◌, ◌/◌, ◌<◌, refl, sym, ap, ◌∙◌, arith, List, [], ◌∷◌, slice_index, Option, Some, None, unwrap_or, is_some, IsTrue, ℤ, pos}
+use Rattle.std.proofs.Common.{◌≡◌, ℕ, zero, suc, ◌+◌, ◌*◌, ◌/◌, ◌<◌, refl, sym, ap, ◌∙◌, arith, List, [], ◌∷◌, slice_index, Option, Some, None, unwrap_or}
+use Rattle.std.proofs.Common.{is_some, IsTrue, ℤ, pos}
 use Rattle.std.proofs.lemmas.Bool.{false≢true}
 use Rattle.h264_intra.specs.Filters.{HasSamples}
 use Rattle.h264_intra.specs.Sides.{beside, with_corner}
@@ -25,7 +26,8 @@ column_is l a c s z p e y = ap (λ xs. slice_index xs y) (side_is l s z p e) ∙
 
 plane16 : (l a : Option (List ℕ)) (c : Option ℕ) (left above z : List ℕ) (corner : ℕ) (m r s : ℤ) (x y : ℕ) →
     IsTrue (is_some l) → IsTrue (is_some a) → IsTrue (is_some c) → left ≡ unwrap_or l z → above ≡ unwrap_or a z → corner ≡ unwrap_or c 0 →
-    m ≡ pos (16 * (slice_index left 15 + slice_index above 15)) → r ≡ slope 8 (pos 5) (with_corner corner above) → s ≡ slope 8 (pos 5) (with_corner corner left) →
+    m ≡ pos (16 * (slice_index left 15 + slice_index above 15)) → r ≡ slope 8 (pos 5) (with_corner corner above) →
+    s ≡ slope 8 (pos 5) (with_corner corner left) →
     plane_sample 8 m r s x y ≡ plane 8 (pos 5) (beside l a c) x y
 unfolding plane
 plane16 (Some l) (Some a) (Some c) left above z corner m r s x y p q t i j k e f g = rw (e, f, g, i, j, k) refl
@@ -35,7 +37,8 @@ plane16 (Some l) (Some a) None left above z corner m r s x y p q t i j k e f g =
 
 plane8 : (l a : Option (List ℕ)) (c : Option ℕ) (left above z : List ℕ) (corner : ℕ) (m r s : ℤ) (x y : ℕ) →
     IsTrue (is_some l) → IsTrue (is_some a) → IsTrue (is_some c) → left ≡ unwrap_or l z → above ≡ unwrap_or a z → corner ≡ unwrap_or c 0 →
-    m ≡ pos (16 * (slice_index left 7 + slice_index above 7)) → r ≡ slope 4 (pos 34) (with_corner corner above) → s ≡ slope 4 (pos 34) (with_corner corner left) →
+    m ≡ pos (16 * (slice_index left 7 + slice_index above 7)) → r ≡ slope 4 (pos 34) (with_corner corner above) →
+    s ≡ slope 4 (pos 34) (with_corner corner left) →
     plane_sample 4 m r s x y ≡ plane 4 (pos 34) (beside l a c) x y
 unfolding plane
 plane8 (Some l) (Some a) (Some c) left above z corner m r s x y p q t i j k e f g = rw (e, f, g, i, j, k) refl
@@ -59,8 +62,10 @@ horizontal16 n left above z out flat t p e has = record {
 }
 
 pub plane_whole16 : (n : Neighbours16) (left above z out : List ℕ) (corner : ℕ) (flat : ℕ) (t : Slopes) →
-    IsTrue (is_some n.above) → IsTrue (is_some n.left) → IsTrue (is_some n.corner) → left ≡ unwrap_or n.left z → above ≡ unwrap_or n.above z → corner ≡ unwrap_or n.corner 0 →
-    t.a ≡ pos (16 * (slice_index left 15 + slice_index above 15)) → t.b ≡ slope 8 (pos 5) (with_corner corner above) → t.c ≡ slope 8 (pos 5) (with_corner corner left) →
+    IsTrue (is_some n.above) → IsTrue (is_some n.left) → IsTrue (is_some n.corner) → left ≡ unwrap_or n.left z → above ≡ unwrap_or n.above z →
+    corner ≡ unwrap_or n.corner 0 →
+    t.a ≡ pos (16 * (slice_index left 15 + slice_index above 15)) → t.b ≡ slope 8 (pos 5) (with_corner corner above) →
+    t.c ≡ slope 8 (pos 5) (with_corner corner left) →
     HasSamples 16 out (chosen16 3 left above flat t) → HasSamples 16 out (predicted16 luma.Plane (sides16 n) (around16 n))
 unfolding predicted16
 plane_whole16 n left above z out corner flat t p q r e f g h i j has = record {
@@ -83,8 +88,10 @@ horizontal_chroma n left above z out flat t p e has = record {
 }
 
 pub plane_whole_chroma : (n : NeighboursChroma) (left above z out : List ℕ) (corner : ℕ) (flat : List ℕ) (t : Slopes) →
-    IsTrue (is_some n.above) → IsTrue (is_some n.left) → IsTrue (is_some n.corner) → left ≡ unwrap_or n.left z → above ≡ unwrap_or n.above z → corner ≡ unwrap_or n.corner 0 →
-    t.a ≡ pos (16 * (slice_index left 7 + slice_index above 7)) → t.b ≡ slope 4 (pos 34) (with_corner corner above) → t.c ≡ slope 4 (pos 34) (with_corner corner left) →
+    IsTrue (is_some n.above) → IsTrue (is_some n.left) → IsTrue (is_some n.corner) → left ≡ unwrap_or n.left z → above ≡ unwrap_or n.above z →
+    corner ≡ unwrap_or n.corner 0 →
+    t.a ≡ pos (16 * (slice_index left 7 + slice_index above 7)) → t.b ≡ slope 4 (pos 34) (with_corner corner above) →
+    t.c ≡ slope 4 (pos 34) (with_corner corner left) →
     HasSamples 8 out (chosen_chroma 3 left above flat t) → HasSamples 8 out (predicted_chroma chroma.Plane (sides_chroma n) (around_chroma n))
 unfolding predicted_chroma
 plane_whole_chroma n left above z out corner flat t p q r e f g h i j has = record {

@@ -1,5 +1,6 @@
 -- A list has frames of those that are held.
-use Rattle.std.proofs.Common.{◌≡◌, ℕ, zero, suc, ◌+◌, Bool, true, false, List, [], ◌∷◌, ◌++◌, map, take, drop, replicate, Option, Some, None, Result, ℤ, pos, IfOk, subst, if◌then◌else◌}
+use Rattle.std.proofs.Common.{◌≡◌, ℕ, zero, suc, ◌+◌, Bool, true, false, List, [], ◌∷◌, ◌++◌, map, take, drop, replicate, Option, Some, None, Result, ℤ, pos}
+use Rattle.std.proofs.Common.{IfOk, subst, if◌then◌else◌}
 use Rattle.std.specs.List.{find, AllByRecursion}
 use Rattle.h264_header.specs.declared.header.PicNumModification.{PicNumModification}
 use Rattle.h264_header.specs.declared.header.RefPicList0.{RefPicList0}
@@ -14,7 +15,8 @@ use Rattle.h264_lists.specs.Built.{AreOf, built}
 module _ (P : ReferenceFrame → Type 0) where
   -- ---- the initial list
 
-  put-by : (f g : ReferenceFrame) (gs rest : List ReferenceFrame) (b : Bool) → P f → P g → AllByRecursion P gs → AllByRecursion P rest → AllByRecursion P (if b then f ∷ g ∷ gs else g ∷ rest)
+  put-by : (f g : ReferenceFrame) (gs rest : List ReferenceFrame) (b : Bool) → P f → P g → AllByRecursion P gs → AllByRecursion P rest →
+      AllByRecursion P (if b then f ∷ g ∷ gs else g ∷ rest)
   put-by f g gs rest true p q h k = (p, (q, h))
   put-by f g gs rest false p q h k = (q, k)
 
@@ -53,7 +55,8 @@ module _ (P : ReferenceFrame → Type 0) where
 
   of-initial : (c : Numbering) (places : ℕ) (fs : List ReferenceFrame) → AllByRecursion P fs → AreOf P (initial c places fs)
   unfolding initial
-  of-initial c places fs h = of-take places (map Held (in_order c fs) ++ replicate places NoPicture) (of-both (map Held (in_order c fs)) (replicate places NoPicture) (of-held (in_order c fs) (all-ordered c fs h)) (of-none places))
+  of-initial c places fs h = of-take places (map Held (in_order c fs) ++ replicate places NoPicture)
+      (of-both (map Held (in_order c fs)) (replicate places NoPicture) (of-held (in_order c fs) (all-ordered c fs h)) (of-none places))
 
   -- ---- modifications
 
@@ -73,8 +76,11 @@ module _ (P : ReferenceFrame → Type 0) where
   of-without is [] h = tt
   of-without is (x ∷ xs) h = without-by x xs (without_first is xs) (is x) h (of-without is xs (of-rest x xs h))
 
-  of-put : (places k : ℕ) (named : ReferenceFrame → Bool) (f : ReferenceFrame) (slots : List RefSlot) → P f → AreOf P slots → AreOf P (put_at places k named f slots)
-  of-put places k named f slots p h = of-take places (take k slots ++ Held f ∷ without_first (is_in named) (drop k slots)) (of-both (take k slots) (Held f ∷ without_first (is_in named) (drop k slots)) (of-take k slots h) (p, of-without (is_in named) (drop k slots) (of-drop k slots h)))
+  of-put : (places k : ℕ) (named : ReferenceFrame → Bool) (f : ReferenceFrame) (slots : List RefSlot) → P f → AreOf P slots →
+      AreOf P (put_at places k named f slots)
+  of-put places k named f slots p h = of-take places (take k slots ++ Held f ∷ without_first (is_in named) (drop k slots))
+      (of-both (take k slots) (Held f ∷ without_first (is_in named) (drop k slots)) (of-take k slots h)
+      (p, of-without (is_in named) (drop k slots) (of-drop k slots h)))
 
   found-by : (g f : ReferenceFrame) (b : Bool) (o : Option ReferenceFrame) → P g → (o ≡ Some f → P f) → (if b then Some g else o) ≡ Some f → P f
   found-by g f true o p k e = let same : g ≡ f = cc in subst P same p
@@ -84,15 +90,22 @@ module _ (P : ReferenceFrame → Type 0) where
   found test [] f h e = cc
   found test (g ∷ gs) f h e = found-by g f (test g) (find test gs) h.0 (found test gs f h.1) e
 
-  went-on : (o : Option ReferenceFrame) (bit : ℕ) (rest : ReferenceFrame → Result (List RefSlot) ℕ) → ((f : ReferenceFrame) → o ≡ Some f → IfOk (rest f) (AreOf P)) → IfOk (go_on o bit rest) (AreOf P)
+  went-on : (o : Option ReferenceFrame) (bit : ℕ) (rest : ReferenceFrame → Result (List RefSlot) ℕ) →
+      ((f : ReferenceFrame) → o ≡ Some f → IfOk (rest f) (AreOf P)) → IfOk (go_on o bit rest) (AreOf P)
   went-on None bit rest h = tt
   went-on (Some f) bit rest h = h f (λ i. Some f)
 
-  of-modified : (c : Numbering) (places : ℕ) (fs : List ReferenceFrame) (k : ℕ) (pred : ℤ) (ms : List PicNumModification) (slots : List RefSlot) → AllByRecursion P fs → AreOf P slots → IfOk (modified (source c places fs) k pred ms slots) (AreOf P)
+  of-modified : (c : Numbering) (places : ℕ) (fs : List ReferenceFrame) (k : ℕ) (pred : ℤ) (ms : List PicNumModification) (slots : List RefSlot) →
+      AllByRecursion P fs → AreOf P slots → IfOk (modified (source c places fs) k pred ms slots) (AreOf P)
   unfolding modified
   of-modified c places fs k pred [] slots h s = s
-  of-modified c places fs k pred (m ∷ ms) slots h s = went-on _ m.bit _ (λ f e. of-modified c places fs (k + 1) (pred_after c pred m.modification) ms _ h (of-put places k (is_named c (pred_after c pred m.modification) m.modification) f slots (found (is_named c (pred_after c pred m.modification) m.modification) fs f h e) s))
+  of-modified c places fs k pred (m ∷ ms) slots h s =
+      went-on _ m.bit _ (λ f e. of-modified c places fs (k + 1) (pred_after c pred m.modification) ms _ h
+      (of-put places k (is_named c (pred_after c pred m.modification) m.modification) f slots
+      (found (is_named c (pred_after c pred m.modification) m.modification) fs f h e) s))
 
-pub built-held : (c : Numbering) (list : RefPicList0) (fs : List ReferenceFrame) (P : ReferenceFrame → Type 0) → AllByRecursion P fs → IfOk (built c list fs) (AreOf P)
+pub built-held : (c : Numbering) (list : RefPicList0) (fs : List ReferenceFrame) (P : ReferenceFrame → Type 0) → AllByRecursion P fs →
+    IfOk (built c list fs) (AreOf P)
 unfolding built
-built-held c list fs P h = of-modified P c (list_places list.num_ref_idx_l0_active) fs 0 (pos c.frame_num) list.modifications.items _ h (of-initial P c (list_places list.num_ref_idx_l0_active) fs h)
+built-held c list fs P h = of-modified P c (list_places list.num_ref_idx_l0_active) fs 0 (pos c.frame_num) list.modifications.items _ h
+    (of-initial P c (list_places list.num_ref_idx_l0_active) fs h)

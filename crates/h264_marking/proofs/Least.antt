@@ -1,5 +1,6 @@
 -- The least FrameNumWrap, and what the window leaves.
-use Rattle.std.proofs.Common.{◌≡◌, ℕ, ◌+◌, ◌<◌, Bool, true, false, Option, Some, None, List, [], ◌∷◌, ◌++◌, take, length, get_or, ℤ, refl, ap, sym, ◌∙◌, cond, arith}
+use Rattle.std.proofs.Common.{◌≡◌, ℕ, ◌+◌, ◌<◌, Bool, true, false, Option, Some, None, List, [], ◌∷◌, ◌++◌, take, length, get_or, ℤ, refl, ap, sym, ◌∙◌, cond}
+use Rattle.std.proofs.Common.{arith}
 use Rattle.std.proofs.lemmas.List.{take_more}
 use Rattle.std.proofs.lemmas.Int.{ints, clamps}
 use Rattle.std.specs.Prelude.{◌||◌, int_lt}
@@ -25,12 +26,14 @@ lesser-assoc (Some a) None c = refl
 lesser-assoc (Some a) (Some b) None = refl
 lesser-assoc (Some a) (Some b) (Some c) = ap (λ (z : ℤ). let o : Option ℤ = Some z in o) (int_min-assoc a b c)
 
-least_pic_num-push : (c : Numbering) (xs : List ReferenceFrame) (x : ReferenceFrame) → least_pic_num c (xs ++ x ∷ []) ≡ lesser (least_pic_num c xs) (pic_num c x)
+least_pic_num-push : (c : Numbering) (xs : List ReferenceFrame) (x : ReferenceFrame) → least_pic_num c (xs ++ x ∷ []) ≡
+    lesser (least_pic_num c xs) (pic_num c x)
 least_pic_num-push c [] x = lesser-none (pic_num c x)
 least_pic_num-push c (y ∷ ys) x = ap (lesser (pic_num c y)) (least_pic_num-push c ys x) ∙ sym (lesser-assoc (pic_num c y) (least_pic_num c ys) (pic_num c x))
 
 -- one more frame, as at a step of a loop
-pub least_pic_num-more : (c : Numbering) (xs : List ReferenceFrame) (i : ℕ) (d : ReferenceFrame) → i < length xs → least_pic_num c (take (i + 1) xs) ≡ lesser (least_pic_num c (take i xs)) (pic_num c (get_or xs i d))
+pub least_pic_num-more : (c : Numbering) (xs : List ReferenceFrame) (i : ℕ) (d : ReferenceFrame) → i < length xs →
+    least_pic_num c (take (i + 1) xs) ≡ lesser (least_pic_num c (take i xs)) (pic_num c (get_or xs i d))
 least_pic_num-more c xs i d h = ap (least_pic_num c) (take_more xs i d h) ∙ least_pic_num-push c (take i xs) (get_or xs i d)
 
 is_pic_num-same : (n a : ℤ) (more : Bool) → a ≡ n → (is_pic_num n (Some a) || more) ≡ true
@@ -52,5 +55,6 @@ pub least_pic_num-held : (c : Numbering) (n : ℤ) (xs : List ReferenceFrame) �
 least_pic_num-held c n [] h = cc
 least_pic_num-held c n (x ∷ xs) h = lesser-held n (pic_num c x) (least_pic_num c xs) (list_any (has_pic_num c n) xs) h (least_pic_num-held c n xs)
 
-pub least_pic_num-step : (c : Numbering) (xs : List ReferenceFrame) (i : ℕ) (d : ReferenceFrame) (least p r : Option ℤ) → i < length xs → least ≡ least_pic_num c (take i xs) → p ≡ pic_num c (get_or xs i d) → r ≡ lesser least p → r ≡ least_pic_num c (take (i + 1) xs)
+pub least_pic_num-step : (c : Numbering) (xs : List ReferenceFrame) (i : ℕ) (d : ReferenceFrame) (least p r : Option ℤ) → i < length xs →
+    least ≡ least_pic_num c (take i xs) → p ≡ pic_num c (get_or xs i d) → r ≡ lesser least p → r ≡ least_pic_num c (take (i + 1) xs)
 least_pic_num-step c xs i d least p r h kept own is = is ∙ rw (kept, own) (sym (least_pic_num-more c xs i d h))

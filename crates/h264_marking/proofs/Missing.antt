@@ -1,5 +1,6 @@
 -- The missing numbers before a picture follow one another from PrevRefFrameNum to frame_num.
-use Rattle.std.proofs.Common.{◌≡◌, ◌≢◌, ℕ, zero, suc, ◌+◌, ◌-◌, ◌%◌, ◌<◌, ◌≤◌, nat_le, ne_eqb, eq-eqb, ◌⊎◌, inl, inr, [], ◌==◌, false, true, Bool, if◌then◌else◌, refl, ap, sym, ◌∙◌, subst, arith}
+use Rattle.std.proofs.Common.{◌≡◌, ◌≢◌, ℕ, zero, suc, ◌+◌, ◌-◌, ◌%◌, ◌<◌, ◌≤◌, nat_le, ne_eqb, eq-eqb, ◌⊎◌, inl, inr, [], ◌==◌, false, true, Bool}
+use Rattle.std.proofs.Common.{if◌then◌else◌, refl, ap, sym, ◌∙◌, subst, arith}
 use Rattle.std.proofs.Math.Nat.{add-mod_left, mod-eq_of_lt, mod_self, eq-or-lt_of_le}
 use Rattle.std.proofs.Math.Numerals.{lt_of_le_of_ne}
 use Rattle.std.proofs.lemmas.Bool.{leb-true, leb-false}
@@ -31,7 +32,8 @@ module _ (m : ℕ) where
       pub to : (q + k + 1 ≡ f) ⊎ (q + k + 1 ≡ f + m)
 
     step-by : (q i k : ℕ) → Stands q i (suc k) → Following q → Stands ((q + 1) % m) (suc i) k
-    step-by q i k s (inl b) = subst (λ x. Stands x (suc i) k) (sym b.0) (record { within = b.1; few = few-on i k s.few; from = from-on s.from; to = to-on s.to })
+    step-by q i k s (inl b) = subst (λ x. Stands x (suc i) k) (sym b.0)
+        (record { within = b.1; few = few-on i k s.few; from = from-on s.from; to = to-on s.to })
       where
         few-on : (i k : ℕ) → i + suc k + 1 < m + 1 → suc i + k + 1 < m + 1
         few-on i k h = omega (arith, h)
@@ -43,7 +45,8 @@ module _ (m : ℕ) where
         to-on : (q + suc k + 1 ≡ f) ⊎ (q + suc k + 1 ≡ f + m) → (q + 1 + k + 1 ≡ f) ⊎ (q + 1 + k + 1 ≡ f + m)
         to-on (inl e) = inl (omega (arith, e))
         to-on (inr e) = inr (omega (arith, e))
-    step-by q i k s (inr b) = subst (λ x. Stands x (suc i) k) (sym b.0) (record { within = omega (arith, in-range); few = few-on i k s.few; from = from-on s.from; to = to-on s.to })
+    step-by q i k s (inr b) = subst (λ x. Stands x (suc i) k) (sym b.0)
+        (record { within = omega (arith, in-range); few = few-on i k s.few; from = from-on s.from; to = to-on s.to })
       where
         few-on : (i k : ℕ) → i + suc k + 1 < m + 1 → suc i + k + 1 < m + 1
         few-on i k h = omega (arith, h)
@@ -123,10 +126,14 @@ module _ (m : ℕ) where
 ne-false : (a b : ℕ) → a ≢ b → (a == b) ≡ false
 ne-false a b h = ne_eqb a b h
 
-pub is-gap : (prev : ℕ) (n : Numbering) → prev < n.max_frame_num → n.frame_num < n.max_frame_num → n.frame_num ≢ prev → IsGap prev n (unused_short_term_frame_nums false prev n)
+pub is-gap : (prev : ℕ) (n : Numbering) → prev < n.max_frame_num → n.frame_num < n.max_frame_num → n.frame_num ≢ prev →
+    IsGap prev n (unused_short_term_frame_nums false prev n)
 is-gap prev n p f ne =
-    let g : gap_before false prev n ≡ (n.frame_num + n.max_frame_num - (prev + 1)) % n.max_frame_num = ap (λ b. if b then 0 else (n.frame_num + n.max_frame_num - (prev + 1)) % n.max_frame_num) (ne-false n.frame_num prev ne) in
-    gap-by n.max_frame_num prev n.frame_num p f (gap_before false prev n) (starts n.max_frame_num prev n.frame_num p f (gap_before false prev n) g ne) n refl refl
+    let g : gap_before false prev n ≡ (n.frame_num + n.max_frame_num - (prev + 1)) % n.max_frame_num =
+    ap (λ b. if b then 0 else (n.frame_num + n.max_frame_num - (prev + 1)) % n.max_frame_num) (ne-false n.frame_num prev ne) in
+    gap-by n.max_frame_num prev n.frame_num p f (gap_before false prev n) (starts n.max_frame_num prev n.frame_num p f (gap_before false prev n) g ne) n refl
+    refl
 
 pub no-gap : (prev : ℕ) (n : Numbering) → n.frame_num ≡ prev → unused_short_term_frame_nums false prev n ≡ []
-no-gap prev n e = ap (λ b. numbers_from (if b then 0 else (n.frame_num + n.max_frame_num - (prev + 1)) % n.max_frame_num) ((prev + 1) % n.max_frame_num) n.max_frame_num) (eq-eqb n.frame_num prev e)
+no-gap prev n e = ap (λ b. numbers_from (if b then 0 else (n.frame_num + n.max_frame_num - (prev + 1)) % n.max_frame_num) ((prev + 1) % n.max_frame_num)
+    n.max_frame_num) (eq-eqb n.frame_num prev e)

@@ -1,5 +1,6 @@
 -- What was read is what the macroblock holds.
-use Rattle.std.proofs.Common.{◌≡◌, ℕ, ◌-◌, ◌<◌, ◌≤◌, Bool, true, false, IsTrue, nat_le, nat_lt, List, map, length, replicate, get_or, Option, Some, None, Result, Ok, Err, refl, ap, sym, ◌∙◌, arith}
+use Rattle.std.proofs.Common.{◌≡◌, ℕ, ◌-◌, ◌<◌, ◌≤◌, Bool, true, false, IsTrue, nat_le, nat_lt, List, map, length, replicate, get_or, Option, Some, None}
+use Rattle.std.proofs.Common.{Result, Ok, Err, refl, ap, sym, ◌∙◌, arith}
 use Rattle.std.proofs.lemmas.Bool.Decides.{nat_tests}
 use Rattle.std.proofs.lemmas.List.{get_or-replicate}
 use Rattle.std.proofs.lemmas.Option.{slice_get-get_or}
@@ -41,25 +42,37 @@ use Rattle.h264_near.specs.declared.partition.Partition.{Partition}
 use Rattle.h264_near.specs.Partition.{MovesByPartition}
 
 -- the part that is read last gives the whole
-pub ending : {X A B S : Type 0} {took : S → List Call → Type 0} {failures : S → ℕ} {R : X → A → Type 0} {R' : X → B → Type 0} {g : Grammar A} (f : A → B) {old new : Reader} {s s' : S} (r : Result X Stop) → ((x : X) (v : A) → R x v → R' x (f v)) → Meets (span took failures s s') R g old new r → Meets (span took failures s s') R' (g >>= (λ v. Done (f v))) old new r
+pub ending : {X A B S : Type 0} {took : S → List Call → Type 0} {failures : S → ℕ} {R : X → A → Type 0} {R' : X → B → Type 0} {g : Grammar A} (f : A → B)
+    {old new : Reader} {s s' : S} (r : Result X Stop) → ((x : X) (v : A) → R x v → R' x (f v)) → Meets (span took failures s s') R g old new r →
+    Meets (span took failures s s') R' (g >>= (λ v. Done (f v))) old new r
 ending f (Ok x) k m = bind_as _ m (λ v e. done _ _ _ _ _ _ _ (k x v e))
 ending f (Err e) k m = stop _ m
 
 -- a check that is made last, and what is known where it holds
-pub ending-check : {B S : Type 0} {took : S → List Call → Type 0} {failures : S → ℕ} {R : Unit {0} → B → Type 0} {rule : Rule} {bit : ℕ} {holds : Bool} {old : Reader} {s : S} (v : B) (r : Result (Unit {0}) Stop) → Checks rule bit holds r → (IsTrue holds → R tt v) → Meets (span took failures s s) R (check rule bit holds >>= (λ x. Done v)) old old r
+pub ending-check : {B S : Type 0} {took : S → List Call → Type 0} {failures : S → ℕ} {R : Unit {0} → B → Type 0} {rule : Rule} {bit : ℕ} {holds : Bool}
+    {old : Reader} {s : S} (v : B) (r : Result (Unit {0}) Stop) → Checks rule bit holds r → (IsTrue holds → R tt v) →
+    Meets (span took failures s s) R (check rule bit holds >>= (λ x. Done v)) old old r
 ending-check v (Ok x) c k = bind _ (checked _ _ _ _ c) (done _ _ _ _ _ _ _ (k c.checks))
 ending-check v (Err e) c k = stop _ (checked _ _ _ _ c)
 
 -- coded_block_pattern and what follows it
-pub with-pattern : {X B S : Type 0} {took : S → List Call → Type 0} {failures : S → ℕ} {R : X → B → Type 0} {old new : Reader} {s s' : S} {r : Result X Stop} (table : Table) (width : ℕ) (picture : List CodedMacroblock) (slice qp : ℕ) (f : Coefficients → Grammar B) → Meets (span took failures s s') R (patterned table width picture slice qp >>= f) old new r → Meets (span took failures s s') R (element CodedBlockPattern (Words (code_table table)) >>= (λ e. coefficients width picture slice qp (natural e.value) >>= f)) old new r
+pub with-pattern : {X B S : Type 0} {took : S → List Call → Type 0} {failures : S → ℕ} {R : X → B → Type 0} {old new : Reader} {s s' : S} {r : Result X Stop}
+    (table : Table) (width : ℕ) (picture : List CodedMacroblock) (slice qp : ℕ) (f : Coefficients → Grammar B) →
+    Meets (span took failures s s') R (patterned table width picture slice qp >>= f) old new r →
+    Meets (span took failures s s') R (element CodedBlockPattern (Words (code_table table)) >>=
+    (λ e. coefficients width picture slice qp (natural e.value) >>= f)) old new r
 unfolding patterned ◌>>=◌ read_word
 with-pattern table width picture slice qp f m = m
 
 -- an intra macroblock has no references
-pub no-motion : (motions : List (Option Motion)) (n : ℕ) → motions ≡ replicate 16 None → n < 16 → ◌≡◌ {A = Option (Option Motion)} (Some None) (Some (get_or motions n None))
+pub no-motion : (motions : List (Option Motion)) (n : ℕ) → motions ≡ replicate 16 None → n < 16 →
+    ◌≡◌ {A = Option (Option Motion)} (Some None) (Some (get_or motions n None))
 no-motion motions n e h = rw e (ap Some (sym (get_or-replicate 16 n None None h)))
 
-pub holds-intra4x4 : (mb : Macroblock) (slice : ℕ) (chroma : IntraChromaPredMode) (modes : List Intra4x4PredMode) (c : Coefficients) → mb.kind ≡ kind.Intra4x4 → mb.contexts.modes ≡ modes → mb.chroma_mode ≡ chroma → mb.contexts.slice ≡ slice → mb.contexts.intra ≡ true → mb.contexts.qp ≡ mb.qp → mb.contexts.motions ≡ replicate 16 None → mb.residual.luma_dc_total ≡ 0 → length mb.contexts.totals ≡ 16 → length mb.contexts.chroma_totals ≡ 8 → length modes ≡ 16 → StoredCoefficients mb c → HoldsMacroblock mb (coded slice (Intra4x4 modes chroma) c)
+pub holds-intra4x4 : (mb : Macroblock) (slice : ℕ) (chroma : IntraChromaPredMode) (modes : List Intra4x4PredMode) (c : Coefficients) → mb.kind ≡
+    kind.Intra4x4 → mb.contexts.modes ≡ modes → mb.chroma_mode ≡ chroma → mb.contexts.slice ≡ slice → mb.contexts.intra ≡ true → mb.contexts.qp ≡ mb.qp →
+    mb.contexts.motions ≡ replicate 16 None → mb.residual.luma_dc_total ≡ 0 → length mb.contexts.totals ≡ 16 → length mb.contexts.chroma_totals ≡ 8 →
+    length modes ≡ 16 → StoredCoefficients mb c → HoldsMacroblock mb (coded slice (Intra4x4 modes chroma) c)
 unfolding coded no_block
 holds-intra4x4 mb slice chroma modes c ek em ec es ei eq ev ed nt nc nm s = record {
   contexts = record {
@@ -77,7 +90,10 @@ holds-intra4x4 mb slice chroma modes c ek em ec es ei eq ev ed nt nc nm s = reco
   chroma = rw ek (record { each = s.chroma.dc.each }, record { each = s.chroma.ac.each });
 }
 
-pub holds-intra16x16 : (mb : Macroblock) (slice : ℕ) (chroma : IntraChromaPredMode) (mode : Intra16x16PredMode) (c : Coefficients) → mb.kind ≡ kind.Intra16x16 mode → mb.contexts.modes ≡ replicate 16 Dc → mb.chroma_mode ≡ chroma → mb.contexts.slice ≡ slice → mb.contexts.intra ≡ true → mb.contexts.qp ≡ mb.qp → mb.contexts.motions ≡ replicate 16 None → length mb.contexts.totals ≡ 16 → length mb.contexts.chroma_totals ≡ 8 → StoredCoefficients16 mb c → HoldsMacroblock mb (coded slice (Intra16x16 mode chroma) c)
+pub holds-intra16x16 : (mb : Macroblock) (slice : ℕ) (chroma : IntraChromaPredMode) (mode : Intra16x16PredMode) (c : Coefficients) → mb.kind ≡
+    kind.Intra16x16 mode → mb.contexts.modes ≡ replicate 16 Dc → mb.chroma_mode ≡ chroma → mb.contexts.slice ≡ slice → mb.contexts.intra ≡ true →
+    mb.contexts.qp ≡ mb.qp → mb.contexts.motions ≡ replicate 16 None → length mb.contexts.totals ≡ 16 → length mb.contexts.chroma_totals ≡ 8 →
+    StoredCoefficients16 mb c → HoldsMacroblock mb (coded slice (Intra16x16 mode chroma) c)
 unfolding coded
 holds-intra16x16 mb slice chroma mode c ek em ec es ei eq ev nt nc s = record {
   contexts = record {
@@ -95,7 +111,9 @@ holds-intra16x16 mb slice chroma mode c ek em ec es ei eq ev nt nc s = record {
   chroma = rw ek (record { each = s.chroma.dc.each }, record { each = s.chroma.ac.each });
 }
 
-pub holds-pcm : (mb : Macroblock) (slice : ℕ) (samples : List ℕ) → mb.kind ≡ kind.Pcm → mb.pcm ≡ samples → mb.contexts.slice ≡ slice → mb.contexts.intra ≡ true → mb.contexts.qp ≡ 0 → mb.contexts.totals ≡ replicate 16 16 → mb.contexts.chroma_totals ≡ replicate 8 16 → mb.contexts.modes ≡ replicate 16 Dc → mb.contexts.motions ≡ replicate 16 None → HoldsMacroblock mb (pcm_of slice mb.qp samples)
+pub holds-pcm : (mb : Macroblock) (slice : ℕ) (samples : List ℕ) → mb.kind ≡ kind.Pcm → mb.pcm ≡ samples → mb.contexts.slice ≡ slice →
+    mb.contexts.intra ≡ true → mb.contexts.qp ≡ 0 → mb.contexts.totals ≡ replicate 16 16 → mb.contexts.chroma_totals ≡ replicate 8 16 →
+    mb.contexts.modes ≡ replicate 16 Dc → mb.contexts.motions ≡ replicate 16 None → HoldsMacroblock mb (pcm_of slice mb.qp samples)
 unfolding pcm_of
 holds-pcm mb slice samples ek ep es ei eq et ec em ev = record {
   contexts = record {
@@ -114,11 +132,17 @@ holds-pcm mb slice samples ek ep es ei eq et ec em ev = record {
 }
 
 -- a macroblock by the type of its slice
-pub typed : {X S : Type 0} {took : S → List Call → Type 0} {failures : S → ℕ} {R : X → CodedMacroblock → Type 0} {old new : Reader} {s s' : S} {r : Result X Stop} (t want : SliceType) (width : ℕ) (slice : SliceContext) (picture : List CodedMacroblock) (bit kind : ℕ) → t ≡ want → Meets (span took failures s s') R (by_type want width slice picture bit kind) old new r → Meets (span took failures s s') R (by_type t width slice picture bit kind) old new r
+pub typed : {X S : Type 0} {took : S → List Call → Type 0} {failures : S → ℕ} {R : X → CodedMacroblock → Type 0} {old new : Reader} {s s' : S}
+    {r : Result X Stop} (t want : SliceType) (width : ℕ) (slice : SliceContext) (picture : List CodedMacroblock) (bit kind : ℕ) → t ≡ want →
+    Meets (span took failures s s') R (by_type want width slice picture bit kind) old new r →
+    Meets (span took failures s s') R (by_type t width slice picture bit kind) old new r
 typed t want width slice picture bit kind e m = rw e m
 
 -- an inter macroblock of a P slice, whose mb_type is in range
-pub of-inter : {X S : Type 0} {took : S → List Call → Type 0} {failures : S → ℕ} {R : X → CodedMacroblock → Type 0} {old new : Reader} {s s' : S} {r : Result X Stop} (width : ℕ) (slice : SliceContext) (picture : List CodedMacroblock) (bit kind : ℕ) → kind < 5 → Meets (span took failures s s') R (inter width slice picture bit kind) old new r → Meets (span took failures s s') R (by_type slice_type.P width slice picture bit kind) old new r
+pub of-inter : {X S : Type 0} {took : S → List Call → Type 0} {failures : S → ℕ} {R : X → CodedMacroblock → Type 0} {old new : Reader} {s s' : S}
+    {r : Result X Stop} (width : ℕ) (slice : SliceContext) (picture : List CodedMacroblock) (bit kind : ℕ) → kind < 5 →
+    Meets (span took failures s s') R (inter width slice picture bit kind) old new r →
+    Meets (span took failures s s') R (by_type slice_type.P width slice picture bit kind) old new r
 unfolding by_type
 of-inter {took = took} {failures} {old = old} {s = s} width slice picture bit kind h m =
     let e : nat_le kind 30 ≡ true = grind (arith, nat_tests) in
@@ -126,7 +150,10 @@ of-inter {took = took} {failures} {old = old} {s = s} width slice picture bit ki
     bind _ (checked took failures {rule = Range} {bit = bit} {holds = nat_le kind 30} old s {r = Ok tt} (record { checks = e })) (rw i m)
 
 -- an intra macroblock of a P slice: its mb_type is in range as that of an I slice is
-pub of-intra : {X S : Type 0} {took : S → List Call → Type 0} {failures : S → ℕ} {R : X → CodedMacroblock → Type 0} {old new : Reader} {s s' : S} {r : Result X Stop} (width : ℕ) (slice : SliceContext) (picture : List CodedMacroblock) (bit kind : ℕ) → 5 ≤ kind → Meets (span took failures s s') R (by_type slice_type.I width slice picture bit (kind - 5)) old new r → Meets (span took failures s s') R (by_type slice_type.P width slice picture bit kind) old new r
+pub of-intra : {X S : Type 0} {took : S → List Call → Type 0} {failures : S → ℕ} {R : X → CodedMacroblock → Type 0} {old new : Reader} {s s' : S}
+    {r : Result X Stop} (width : ℕ) (slice : SliceContext) (picture : List CodedMacroblock) (bit kind : ℕ) → 5 ≤ kind →
+    Meets (span took failures s s') R (by_type slice_type.I width slice picture bit (kind - 5)) old new r →
+    Meets (span took failures s s') R (by_type slice_type.P width slice picture bit kind) old new r
 unfolding by_type
 of-intra width slice picture bit kind h m =
     let i : nat_lt kind 5 ≡ false = grind (arith, nat_tests) in
@@ -138,10 +165,15 @@ some-at None e = absurd (cc)
 some-at (Some x) e = refl
 
 -- every block of an inter macroblock has its reference and vector
-pub all-derived : (motions : List (Option Motion)) (n : ℕ) → map is_some motions ≡ replicate 16 true → n < 16 → option_map (λ x. Some x) (get_or motions n None) ≡ Some (get_or motions n None)
-all-derived motions n e h = some-at (get_or motions n None) (sym (math.get_or-map is_some motions n None) ∙ (ap (λ l. get_or l n false) e ∙ get_or-replicate 16 n true false h))
+pub all-derived : (motions : List (Option Motion)) (n : ℕ) → map is_some motions ≡ replicate 16 true → n < 16 →
+    option_map (λ x. Some x) (get_or motions n None) ≡ Some (get_or motions n None)
+all-derived motions n e h = some-at (get_or motions n None)
+    (sym (math.get_or-map is_some motions n None) ∙ (ap (λ l. get_or l n false) e ∙ get_or-replicate 16 n true false h))
 
-pub holds-inter : (mb : Macroblock) (slice : ℕ) (d : Derived) (within : Bool) (partition : Partition) (c : Coefficients) → mb.kind ≡ kind.Inter partition → MovesByPartition partition mb.contexts.motions → Agrees within mb.contexts.motions (replicate 16 true) d → within ≡ true → mb.contexts.modes ≡ replicate 16 Dc → mb.contexts.slice ≡ slice → mb.contexts.intra ≡ false → mb.contexts.qp ≡ mb.qp → mb.residual.luma_dc_total ≡ 0 → length mb.contexts.totals ≡ 16 → length mb.contexts.chroma_totals ≡ 8 → StoredCoefficients mb c → HoldsMacroblock mb (coded slice (Inter d.motions) c)
+pub holds-inter : (mb : Macroblock) (slice : ℕ) (d : Derived) (within : Bool) (partition : Partition) (c : Coefficients) → mb.kind ≡ kind.Inter partition →
+    MovesByPartition partition mb.contexts.motions → Agrees within mb.contexts.motions (replicate 16 true) d → within ≡ true →
+    mb.contexts.modes ≡ replicate 16 Dc → mb.contexts.slice ≡ slice → mb.contexts.intra ≡ false → mb.contexts.qp ≡ mb.qp → mb.residual.luma_dc_total ≡ 0 →
+    length mb.contexts.totals ≡ 16 → length mb.contexts.chroma_totals ≡ 8 → StoredCoefficients mb c → HoldsMacroblock mb (coded slice (Inter d.motions) c)
 unfolding coded no_block
 holds-inter mb slice d within partition c ek parted a w em es ei eq ed nt nc s = record {
   contexts = record {

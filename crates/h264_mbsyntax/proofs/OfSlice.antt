@@ -1,5 +1,6 @@
 -- Slice data give macroblocks of their slice.
-use Rattle.std.proofs.Common.{◌≡◌, ℕ, zero, suc, ◌<◌, ◌≤◌, ◌==◌, ◌||◌, nat_lt, Bool, true, false, IsTrue, List, [], ◌∷◌, ◌++◌, length, take, map, replicate, Some, None, refl, ap, sym, ◌∙◌, subst, arith, ⊎_elim, append_assoc, length-append}
+use Rattle.std.proofs.Common.{◌≡◌, ℕ, zero, suc, ◌<◌, ◌≤◌, ◌==◌, ◌||◌, nat_lt, Bool, true, false, IsTrue, List, [], ◌∷◌, ◌++◌, length, take, map, replicate}
+use Rattle.std.proofs.Common.{Some, None, refl, ap, sym, ◌∙◌, subst, arith, ⊎_elim, append_assoc, length-append}
 use Rattle.std.specs.List.{AllByRecursion, slice_get}
 use Rattle.std.specs.Option.{is_some}
 use Rattle.std.proofs.lemmas.Bool.{cases_lt}
@@ -34,11 +35,14 @@ module _ (width : ℕ) (slice : SliceContext) (picture : List CodedMacroblock) w
 
   own-intra4x4 : Gives (intra4x4 width slice picture) Own
   unfolding intra4x4 coded
-  own-intra4x4 = gives-bind _ Own _ _ (gives-any _) (λ modes a. gives-bind _ Own _ _ (gives-any _) (λ chroma b. gives-bind _ Own _ _ (gives-any _) (λ pattern c. gives-bind _ Own _ _ (gives-any _) (λ levels d. gives-done Own _ (refl, tt)))))
+  own-intra4x4 = gives-bind _ Own _ _ (gives-any _)
+      (λ modes a. gives-bind _ Own _ _ (gives-any _)
+      (λ chroma b. gives-bind _ Own _ _ (gives-any _) (λ pattern c. gives-bind _ Own _ _ (gives-any _) (λ levels d. gives-done Own _ (refl, tt)))))
 
   own-intra16x16 : (bit kind : ℕ) → Gives (intra16x16 width slice picture bit kind) Own
   unfolding intra16x16 coded
-  own-intra16x16 bit kind = gives-bind _ Own _ _ (gives-any _) (λ x a. gives-bind _ Own _ _ (gives-any _) (λ chroma b. gives-bind _ Own _ _ (gives-any _) (λ levels c. gives-done Own _ (refl, tt))))
+  own-intra16x16 bit kind = gives-bind _ Own _ _ (gives-any _)
+      (λ x a. gives-bind _ Own _ _ (gives-any _) (λ chroma b. gives-bind _ Own _ _ (gives-any _) (λ levels c. gives-done Own _ (refl, tt))))
 
   own-pcm : Gives (pcm slice picture) Own
   unfolding pcm pcm_of
@@ -50,7 +54,9 @@ module _ (width : ℕ) (slice : SliceContext) (picture : List CodedMacroblock) w
 
   own-inter : (bit kind : ℕ) → Gives (inter width slice picture bit kind) Own
   unfolding inter coded
-  own-inter bit kind = gives-bind _ Own _ _ (all-derived width slice picture bit kind) (λ d a. gives-bind _ Own _ _ (gives-any _) (λ pattern b. gives-bind _ Own _ _ (gives-any _) (λ levels c. gives-bind _ Own _ _ (gives-any _) (λ x e. gives-done Own _ (refl, a)))))
+  own-inter bit kind = gives-bind _ Own _ _ (all-derived width slice picture bit kind)
+      (λ d a. gives-bind _ Own _ _ (gives-any _)
+      (λ pattern b. gives-bind _ Own _ _ (gives-any _) (λ levels c. gives-bind _ Own _ _ (gives-any _) (λ x e. gives-done Own _ (refl, a)))))
 
   own-type : (t : SliceType) (bit kind : ℕ) → Gives (by_type t width slice picture bit kind) Own
   unfolding by_type
@@ -59,7 +65,8 @@ module _ (width : ℕ) (slice : SliceContext) (picture : List CodedMacroblock) w
 
   own-macroblock : Gives (macroblock width slice picture) (λ v. Own v.macroblock)
   unfolding macroblock
-  own-macroblock = gives-bind _ (λ v. Own v.macroblock) _ _ (gives-any _) (λ kind a. gives-bind Own _ _ _ (own-type slice.slice_type _ _) (λ m h. gives-done _ _ h))
+  own-macroblock = gives-bind _ (λ v. Own v.macroblock) _ _ (gives-any _)
+      (λ kind a. gives-bind Own _ _ _ (own-type slice.slice_type _ _) (λ m h. gives-done _ _ h))
 
   abbrev IsNext : CodedMacroblock → Type 0
   IsNext m = IsOfSlice width slice picture m
@@ -102,7 +109,11 @@ module _ (width : ℕ) (slice : SliceContext) (before : List CodedMacroblock) wh
   Are after = AreOfSlice width slice before after
 
   none-yet : Are before
-  none-yet = record { own = []; joined = sym (append-nil before); each = λ a m l e. absurd (let n = slice_get_past before a l in let s : None ≡ Some m = sym n ∙ e in cc) }
+  none-yet = record {
+    own = [];
+    joined = sym (append-nil before);
+    each = λ a m l e. absurd (let n = slice_get_past before a l in let s : None ≡ Some m = sym n ∙ e in cc);
+  }
 
   one-more : (picture : List CodedMacroblock) (m : CodedMacroblock) → Are picture → IsOfSlice width slice picture m → Are (picture ++ m ∷ [])
   one-more picture m h n = record {
@@ -145,43 +156,58 @@ module _ (fits : CodedMacroblock → Bool) (width : ℕ) (slice : SliceContext) 
   ready bit zero h = tt
   ready bit (suc more) h = h
 
-  gives-skip : (picture : List CodedMacroblock) (bit more : ℕ) → IsTrue (has_picture slice 0) → Slices picture → Gives (skip width slice picture bit more) GoesOn
+  gives-skip : (picture : List CodedMacroblock) (bit more : ℕ) → IsTrue (has_picture slice 0) → Slices picture →
+      Gives (skip width slice picture bit more) GoesOn
   unfolding skip
-  gives-skip picture bit more h s = gives-bind _ GoesOn _ _ (gives-any _) (λ x a. gives-done GoesOn _ (ready bit more h, one-more width slice before picture _ s (is-skipped width slice picture _ h)))
+  gives-skip picture bit more h s = gives-bind _ GoesOn _ _ (gives-any _)
+      (λ x a. gives-done GoesOn _ (ready bit more h, one-more width slice before picture _ s (is-skipped width slice picture _ h)))
 
   gives-unskipped : (left : ℕ) (picture : List CodedMacroblock) → Slices picture → Gives (unskipped fits width slice left picture) GoesOn
   unfolding unskipped
-  gives-unskipped left picture s = gives-bind _ GoesOn _ _ (gives-any _) (λ a x. gives-bind _ GoesOn _ _ (gives-any _) (λ b y. gives-bind _ GoesOn _ _ (gives-macroblock width slice picture) (λ m n. gives-bind _ GoesOn _ _ (gives-any _) (λ c z. gives-done GoesOn _ (tt, one-more width slice before picture _ s n)))))
+  gives-unskipped left picture s = gives-bind _ GoesOn _ _ (gives-any _)
+      (λ a x. gives-bind _ GoesOn _ _ (gives-any _)
+      (λ b y. gives-bind _ GoesOn _ _ (gives-macroblock width slice picture)
+      (λ m n. gives-bind _ GoesOn _ _ (gives-any _) (λ c z. gives-done GoesOn _ (tt, one-more width slice before picture _ s n)))))
 
-  gives-after : (left : ℕ) (picture : List CodedMacroblock) (bit n : ℕ) → IsTrue (n == 0 || has_picture slice 0) → Slices picture → Gives (after_run fits width slice left picture (Skipping bit n)) GoesOn
+  gives-after : (left : ℕ) (picture : List CodedMacroblock) (bit n : ℕ) → IsTrue (n == 0 || has_picture slice 0) → Slices picture →
+      Gives (after_run fits width slice left picture (Skipping bit n)) GoesOn
   unfolding after_run
   gives-after left picture bit zero h s = gives-unskipped left picture s
   gives-after left picture bit (suc k) h s = let z : (suc k == 0) ≡ false = grind (arith, nat_tests) in gives-skip picture bit k (rw z at h) s
 
   gives-run : (left : ℕ) (picture : List CodedMacroblock) → Slices picture → Gives (run_of_skips fits width slice left picture) GoesOn
   unfolding run_of_skips
-  gives-run left picture s = gives-bind _ GoesOn _ _ (gives-any _) (λ run a. gives-bind _ GoesOn _ _ (gives-any _) (λ x b. gives-bind _ GoesOn _ _ (gives-check _ _ _) (λ y h. gives-after left picture _ _ h s)))
+  gives-run left picture s = gives-bind _ GoesOn _ _ (gives-any _)
+      (λ run a. gives-bind _ GoesOn _ _ (gives-any _) (λ x b. gives-bind _ GoesOn _ _ (gives-check _ _ _) (λ y h. gives-after left picture _ _ h s)))
 
   gives-by : (t : SliceType) (left : ℕ) (picture : List CodedMacroblock) → Slices picture → Gives (by_slice_type t fits width slice left picture) GoesOn
   unfolding by_slice_type
   gives-by slice_type.I left picture s = gives-unskipped left picture s
   gives-by slice_type.P left picture s = gives-run left picture s
 
-  gives-next : (left : ℕ) (picture : List CodedMacroblock) (standing : Standing) → IsReady standing → Slices picture → Gives (next fits width slice left picture standing) GoesOn
+  gives-next : (left : ℕ) (picture : List CodedMacroblock) (standing : Standing) → IsReady standing → Slices picture →
+      Gives (next fits width slice left picture standing) GoesOn
   unfolding next
-  gives-next left picture Next h s = gives-bind _ GoesOn _ _ (gives-any _) (λ a x. gives-if GoesOn _ _ _ (gives-by slice.slice_type left picture s) (gives-done GoesOn None tt))
+  gives-next left picture Next h s = gives-bind _ GoesOn _ _ (gives-any _)
+      (λ a x. gives-if GoesOn _ _ _ (gives-by slice.slice_type left picture s) (gives-done GoesOn None tt))
   gives-next left picture (Skipping bit (suc k)) h s = gives-skip picture bit k h s
-  gives-next left picture (Skipping bit zero) h s = gives-bind _ GoesOn _ _ (gives-any _) (λ a x. gives-if GoesOn _ _ _ (gives-unskipped left picture s) (gives-done GoesOn None tt))
+  gives-next left picture (Skipping bit zero) h s =
+      gives-bind _ GoesOn _ _ (gives-any _) (λ a x. gives-if GoesOn _ _ _ (gives-unskipped left picture s) (gives-done GoesOn None tt))
 
-  gives-on : (picture : List CodedMacroblock) (rest : Standing → List CodedMacroblock → Grammar (List CodedMacroblock)) (x : Step) → Slices picture → GoesOn x → ((t : Standing) (p : List CodedMacroblock) → IsReady t → Slices p → Gives (rest t p) Slices) → Gives (go_on picture rest x) Slices
+  gives-on : (picture : List CodedMacroblock) (rest : Standing → List CodedMacroblock → Grammar (List CodedMacroblock)) (x : Step) → Slices picture →
+      GoesOn x → ((t : Standing) (p : List CodedMacroblock) → IsReady t → Slices p → Gives (rest t p) Slices) → Gives (go_on picture rest x) Slices
   gives-on picture rest None s h k = gives-done Slices picture s
   gives-on picture rest (Some x) s h k = k x.0 x.1 h.0 h.1
 
-  gives-macroblocks : (n : ℕ) (standing : Standing) (picture : List CodedMacroblock) → IsReady standing → Slices picture → Gives (macroblocks fits width slice n standing picture) Slices
+  gives-macroblocks : (n : ℕ) (standing : Standing) (picture : List CodedMacroblock) → IsReady standing → Slices picture →
+      Gives (macroblocks fits width slice n standing picture) Slices
   unfolding macroblocks
-  gives-macroblocks zero standing picture h s = gives-bind GoesOn Slices _ _ (gives-next 0 picture standing h s) (λ x g. gives-on picture _ x s g (λ t p r q. gives-done Slices p q))
-  gives-macroblocks (suc n) standing picture h s = gives-bind GoesOn Slices _ _ (gives-next (suc n) picture standing h s) (λ x g. gives-on picture _ x s g (λ t p r q. gives-macroblocks n t p r q))
+  gives-macroblocks zero standing picture h s =
+      gives-bind GoesOn Slices _ _ (gives-next 0 picture standing h s) (λ x g. gives-on picture _ x s g (λ t p r q. gives-done Slices p q))
+  gives-macroblocks (suc n) standing picture h s =
+      gives-bind GoesOn Slices _ _ (gives-next (suc n) picture standing h s) (λ x g. gives-on picture _ x s g (λ t p r q. gives-macroblocks n t p r q))
 
   pub of-slice : (size : ℕ) → Gives (slice_data fits width size slice before) Slices
   unfolding slice_data
-  of-slice size = gives-bind _ Slices _ _ (gives-any _) (λ a x. gives-bind _ Slices _ _ (gives-any _) (λ b y. gives-macroblocks _ Next before tt (none-yet width slice before)))
+  of-slice size = gives-bind _ Slices _ _ (gives-any _)
+      (λ a x. gives-bind _ Slices _ _ (gives-any _) (λ b y. gives-macroblocks _ Next before tt (none-yet width slice before)))

@@ -1,5 +1,6 @@
 -- What the grammar gives refers to what is there.
-use Rattle.std.proofs.Common.{◌≡◌, ⊎_elim, ℕ, zero, suc, ◌+◌, ◌<◌, ◌≤◌, ◌==◌, ◌||◌, not, nat_lt, Bool, true, false, IsTrue, List, [], ◌∷◌, ◌++◌, length, map, replicate, get_or, Option, Some, None, Result, Ok, Err, refl, arith, length-append, if◌then◌else◌}
+use Rattle.std.proofs.Common.{◌≡◌, ⊎_elim, ℕ, zero, suc, ◌+◌, ◌<◌, ◌≤◌, ◌==◌, ◌||◌, not, nat_lt, Bool, true, false, IsTrue, List, [], ◌∷◌, ◌++◌, length, map}
+use Rattle.std.proofs.Common.{replicate, get_or, Option, Some, None, Result, Ok, Err, refl, arith, length-append, if◌then◌else◌}
 use Rattle.std.specs.Option.{is_some, unwrap_or}
 use Rattle.std.specs.List.{AllByRecursion, range_with_len}
 use Rattle.std.proofs.lemmas.Bool.{cases_lt}
@@ -23,7 +24,8 @@ use Rattle.h264_vectors.specs.declared.slice.SliceContext.{SliceContext}
 use Rattle.h264_vectors.specs.declared.part.Part.{Part}
 use Rattle.h264_vectors.specs.Derived.{picture_of, has_picture, motion_of, in_part, is_inside, with_part, with_vector, derive, Derived, none_yet, sub_parts_of}
 use Rattle.h264_mbsyntax.specs.Intra.{fits_block, block_mode, block_modes, chroma_mode}
-use Rattle.h264_vectors.specs.Inter.{read_ref_idx, ref_index, part_motion, part_motions, one_part, two_parts, quarters, split_parts, motions_by, motions, is_inferred}
+use Rattle.h264_vectors.specs.Inter.{read_ref_idx, ref_index, part_motion, part_motions, one_part, two_parts, quarters, split_parts, motions_by, motions}
+use Rattle.h264_vectors.specs.Inter.{is_inferred}
 use Rattle.h264_mbsyntax.specs.Macroblock.{coded, pcm_of, intra4x4, intra16x16, pcm, intra, inter, by_type, macroblock}
 use Rattle.h264_mbsyntax.specs.declared.macroblock.Macroblock.{Macroblock}
 use Rattle.h264_mbsyntax.specs.Holds.{IsPlaced}
@@ -31,8 +33,14 @@ use Rattle.h264_mbsyntax.specs.Possible.{HaveSides, HasChromaSides, Refers, IsPo
 
 -- ---- a property of what was read
 
-met-by : {X A S : Type 0} (took : S → List Call → Type 0) (failures : S → ℕ) (R R' : X → A → Type 0) (P : A → Type 0) (g : Grammar A) (old new : Reader) (s s' : S) (r : Result X Stop) → Gives g P → ((x : X) (v : A) → R x v → P v → R' x v) → Meets (span took failures s s') R g old new r → Meets (span took failures s s') R' g old new r
-met-by took failures R R' P g old new s s' (Ok x) h k m = record { meets = (m.meets.0, k x m.meets.0 m.meets.1 (h.gives old.body old.at m.meets.0 new.at m.meets.2), m.meets.2, m.meets.3, m.meets.4); same = m.same }
+met-by : {X A S : Type 0} (took : S → List Call → Type 0) (failures : S → ℕ) (R R' : X → A → Type 0) (P : A → Type 0) (g : Grammar A) (old new : Reader)
+    (s s' : S) (r : Result X Stop) → Gives g P → ((x : X) (v : A) → R x v → P v → R' x v) → Meets (span took failures s s') R g old new r →
+    Meets (span took failures s s') R' g old new r
+met-by took failures R R' P g old new s s' (Ok x) h k m =
+    record {
+      meets = (m.meets.0, k x m.meets.0 m.meets.1 (h.gives old.body old.at m.meets.0 new.at m.meets.2), m.meets.2, m.meets.3, m.meets.4);
+      same = m.same;
+    }
 met-by took failures R R' P g old new s s' (Err (No bit rule)) h k m = record { meets = m.meets; same = m.same }
 met-by took failures R R' P g old new s s' (Err (Outside bit feature)) h k m = record { meets = m.meets; same = m.same }
 met-by took failures R R' P g old new s s' (Err Memory) h k m = record { meets = m.meets; same = m.same }
@@ -52,27 +60,40 @@ module _ (width : ℕ) (slice : SliceContext) (picture : List CodedMacroblock) w
 
   gives-mode : (predicted : Intra4x4PredMode) (s : Sides) → Gives (block_mode predicted s) (λ mode. IsTrue (fits_block mode s))
   unfolding block_mode
-  gives-mode predicted s = gives-bind _ _ _ _ (gives-any _) (λ flag f. gives-bind _ _ _ _ (gives-any _) (λ mode m. gives-bind _ _ _ _ (gives-check _ _ _) (λ x h. gives-done _ mode h)))
+  gives-mode predicted s = gives-bind _ _ _ _ (gives-any _)
+      (λ flag f. gives-bind _ _ _ _ (gives-any _) (λ mode m. gives-bind _ _ _ _ (gives-check _ _ _) (λ x h. gives-done _ mode h)))
 
-  sides-next : (modes : List Intra4x4PredMode) (mode : Intra4x4PredMode) → HaveSides width slice picture modes → IsTrue (fits_block mode (samples modes)) → HaveSides width slice picture (modes ++ mode ∷ [])
+  sides-next : (modes : List Intra4x4PredMode) (mode : Intra4x4PredMode) → HaveSides width slice picture modes → IsTrue (fits_block mode (samples modes)) →
+      HaveSides width slice picture (modes ++ mode ∷ [])
   sides-next modes mode all own b h =
       let l = length-append modes (mode ∷ []) in
       ⊎_elim
       (λ (q : b < length modes). rw (get_or_append_left modes (mode ∷ []) Vertical b q, take-append-le b modes (mode ∷ []) (omega arith)) (all b q))
-      (λ (q : length modes ≤ b). let e : b ≡ length modes = omega arith in rw (e, get_or-append_seam modes mode [] Vertical, take-append_seam modes (mode ∷ [])) own)
+      (λ (q : length modes ≤ b). let e : b ≡ length modes = omega arith in
+      rw (e, get_or-append_seam modes mode [] Vertical, take-append_seam modes (mode ∷ [])) own)
       (cases_lt b (length modes))
 
-  gives-modes : (n : ℕ) (modes : List Intra4x4PredMode) → HaveSides width slice picture modes → Gives (block_modes width picture slice.number slice.constrained_intra n modes) (λ all. (length all ≡ length modes + n) × HaveSides width slice picture all)
+  gives-modes : (n : ℕ) (modes : List Intra4x4PredMode) → HaveSides width slice picture modes →
+      Gives (block_modes width picture slice.number slice.constrained_intra n modes)
+      (λ all. (length all ≡ length modes + n) × HaveSides width slice picture all)
   unfolding block_modes
   gives-modes zero modes h = gives-done _ modes (omega arith, h)
-  gives-modes (suc n) modes h = gives-bind _ _ _ _ (gives-mode _ (samples modes)) (λ mode m. longer mode (gives-modes n (modes ++ mode ∷ []) (sides-next modes mode h m)))
+  gives-modes (suc n) modes h = gives-bind _ _ _ _ (gives-mode _ (samples modes))
+      (λ mode m. longer mode (gives-modes n (modes ++ mode ∷ []) (sides-next modes mode h m)))
     where
-      longer : (mode : Intra4x4PredMode) → Gives (block_modes width picture slice.number slice.constrained_intra n (modes ++ mode ∷ [])) (λ all. (length all ≡ length (modes ++ mode ∷ []) + n) × HaveSides width slice picture all) → Gives (block_modes width picture slice.number slice.constrained_intra n (modes ++ mode ∷ [])) (λ all. (length all ≡ length modes + suc n) × HaveSides width slice picture all)
-      longer mode g = record { gives = λ body i v j e. let r = g.gives body i v j e in let l = length-append modes (mode ∷ []) in let k = r.0 in (omega arith, r.1) }
+      longer : (mode : Intra4x4PredMode) → Gives (block_modes width picture slice.number slice.constrained_intra n (modes ++ mode ∷ []))
+          (λ all. (length all ≡ length (modes ++ mode ∷ []) + n) × HaveSides width slice picture all) →
+          Gives (block_modes width picture slice.number slice.constrained_intra n (modes ++ mode ∷ []))
+          (λ all. (length all ≡ length modes + suc n) × HaveSides width slice picture all)
+      longer mode g = record {
+        gives = λ body i v j e. let r = g.gives body i v j e in let l = length-append modes (mode ∷ []) in let k = r.0 in
+            (omega arith, r.1);
+      }
 
   gives-chroma : Gives (chroma_mode (macroblock_samples width picture slice.number slice.constrained_intra)) (HasChromaSides width slice picture)
   unfolding chroma_mode
-  gives-chroma = gives-bind _ _ _ _ (gives-any _) (λ e t. gives-bind _ _ _ _ (gives-any _) (λ x k. gives-bind _ _ _ _ (gives-check _ _ _) (λ y h. gives-done _ _ (record { sides = h }))))
+  gives-chroma = gives-bind _ _ _ _ (gives-any _)
+      (λ e t. gives-bind _ _ _ _ (gives-any _) (λ x k. gives-bind _ _ _ _ (gives-check _ _ _) (λ y h. gives-done _ _ (record { sides = h }))))
 
   -- ---- intra macroblocks
 
@@ -81,11 +102,14 @@ module _ (width : ℕ) (slice : SliceContext) (picture : List CodedMacroblock) w
 
   gives-intra4x4 : Gives (intra4x4 width slice picture) Possible
   unfolding intra4x4 coded
-  gives-intra4x4 = gives-bind _ _ _ _ (gives-modes 16 [] (λ b h. absurd (omega arith))) (λ modes m. gives-bind _ _ _ _ gives-chroma (λ chroma s. gives-bind _ _ _ _ (gives-any _) (λ pattern p. gives-bind _ _ _ _ (gives-any _) (λ c d. gives-done Possible _ (m.0, m.1, s)))))
+  gives-intra4x4 = gives-bind _ _ _ _ (gives-modes 16 [] (λ b h. absurd (omega arith)))
+      (λ modes m. gives-bind _ _ _ _ gives-chroma
+      (λ chroma s. gives-bind _ _ _ _ (gives-any _) (λ pattern p. gives-bind _ _ _ _ (gives-any _) (λ c d. gives-done Possible _ (m.0, m.1, s)))))
 
   gives-intra16x16 : (bit kind : ℕ) → Gives (intra16x16 width slice picture bit kind) Possible
   unfolding intra16x16 coded
-  gives-intra16x16 bit kind = gives-bind _ _ _ _ (gives-check _ _ _) (λ x h. gives-bind _ _ _ _ gives-chroma (λ chroma s. gives-bind _ _ _ _ (gives-any _) (λ c d. gives-done Possible _ (h, s))))
+  gives-intra16x16 bit kind = gives-bind _ _ _ _ (gives-check _ _ _)
+      (λ x h. gives-bind _ _ _ _ gives-chroma (λ chroma s. gives-bind _ _ _ _ (gives-any _) (λ c d. gives-done Possible _ (h, s))))
 
   gives-pcm : Gives (pcm slice picture) Possible
   unfolding pcm pcm_of
@@ -109,7 +133,8 @@ module _ (width : ℕ) (slice : SliceContext) (picture : List CodedMacroblock) w
   refers-pick true m old h o = h
   refers-pick false m old h o = o
 
-  refers-with : (motions : List (Option Motion)) (p : Part) (m : Motion) → Refers slice (Some m) → AllByRecursion (Refers slice) motions → AllByRecursion (Refers slice) (with_part motions p m)
+  refers-with : (motions : List (Option Motion)) (p : Part) (m : Motion) → Refers slice (Some m) → AllByRecursion (Refers slice) motions →
+      AllByRecursion (Refers slice) (with_part motions p m)
   unfolding with_part
   refers-with motions p m h a = go (range_with_len 0 16)
     where
@@ -117,13 +142,15 @@ module _ (width : ℕ) (slice : SliceContext) (picture : List CodedMacroblock) w
       go [] = tt
       go (n ∷ ns) = (refers-pick (is_inside p n) m (get_or motions n None) h (refers-at motions n a), go ns)
 
-  refers-derived : (d : Derived) (p : Part) (i : ℕ) (across down : _) → IsTrue (has_picture slice i) → Refer d → Refer (derive width slice picture d (record { place = p; ref_idx = i }) (record { across = across; down = down }))
+  refers-derived : (d : Derived) (p : Part) (i : ℕ) (across down : _) → IsTrue (has_picture slice i) → Refer d →
+      Refer (derive width slice picture d (record { place = p; ref_idx = i }) (record { across = across; down = down }))
   unfolding derive with_vector motion_of
   refers-derived d p i across down h a = refers-with d.motions p _ (named slice i (picture_of slice i) refl h) a
 
   gives-part : (p : Part) (i : ℕ) (d : Derived) → IsTrue (has_picture slice i) → Refer d → Gives (part_motion width slice picture p i d) Refer
   unfolding part_motion
-  gives-part p i d h a = gives-bind _ _ _ _ (gives-any _) (λ across x. gives-bind _ _ _ _ (gives-any _) (λ down y. gives-done Refer _ (refers-derived d p i across.value down.value h a)))
+  gives-part p i d h a = gives-bind _ _ _ _ (gives-any _)
+      (λ across x. gives-bind _ _ _ _ (gives-any _) (λ down y. gives-done Refer _ (refers-derived d p i across.value down.value h a)))
 
   gives-parts : (i : ℕ) (parts : List Part) (d : Derived) → IsTrue (has_picture slice i) → Refer d → Gives (part_motions width slice picture i parts d) Refer
   unfolding part_motions
@@ -133,7 +160,8 @@ module _ (width : ℕ) (slice : SliceContext) (picture : List CodedMacroblock) w
   gives-index : (inferred : Bool) → IsTrue (not inferred || has_picture slice 0) → Gives (ref_index slice inferred) (λ i. IsTrue (has_picture slice i))
   unfolding ref_index read_ref_idx
   gives-index true h = gives-done _ 0 h
-  gives-index false h = gives-bind _ _ _ _ (gives-any _) (λ e x. gives-bind _ _ _ _ (gives-any _) (λ t y. gives-bind _ _ _ _ (gives-check _ _ _) (λ u k. gives-done _ _ k)))
+  gives-index false h = gives-bind _ _ _ _ (gives-any _)
+      (λ e x. gives-bind _ _ _ _ (gives-any _) (λ t y. gives-bind _ _ _ _ (gives-check _ _ _) (λ u k. gives-done _ _ k)))
 
   all-none : (n : ℕ) → AllByRecursion (Refers slice) (replicate n None)
   all-none zero = tt
@@ -148,20 +176,31 @@ module _ (width : ℕ) (slice : SliceContext) (picture : List CodedMacroblock) w
 
   gives-two : (inferred : Bool) (p q : Part) → IsTrue (not inferred || has_picture slice 0) → Gives (two_parts width slice picture inferred p q) Refer
   unfolding two_parts
-  gives-two inferred p q h = gives-bind _ _ _ _ (gives-index inferred h) (λ i k. gives-bind _ _ _ _ (gives-index inferred h) (λ j l. gives-bind Refer Refer _ _ (gives-part p i none_yet k none-refers) (λ d a. gives-part q j d l a)))
+  gives-two inferred p q h = gives-bind _ _ _ _ (gives-index inferred h)
+      (λ i k. gives-bind _ _ _ _ (gives-index inferred h)
+      (λ j l. gives-bind Refer Refer _ _ (gives-part p i none_yet k none-refers) (λ d a. gives-part q j d l a)))
 
-  gives-quarters : (t0 t1 t2 t3 i0 i1 i2 i3 : ℕ) → IsTrue (has_picture slice i0) → IsTrue (has_picture slice i1) → IsTrue (has_picture slice i2) → IsTrue (has_picture slice i3) → Gives (quarters width slice picture (t0 ∷ t1 ∷ t2 ∷ t3 ∷ []) (i0 ∷ i1 ∷ i2 ∷ i3 ∷ [])) Refer
+  gives-quarters : (t0 t1 t2 t3 i0 i1 i2 i3 : ℕ) → IsTrue (has_picture slice i0) → IsTrue (has_picture slice i1) → IsTrue (has_picture slice i2) →
+      IsTrue (has_picture slice i3) → Gives (quarters width slice picture (t0 ∷ t1 ∷ t2 ∷ t3 ∷ []) (i0 ∷ i1 ∷ i2 ∷ i3 ∷ [])) Refer
   unfolding quarters
-  gives-quarters t0 t1 t2 t3 i0 i1 i2 i3 h0 h1 h2 h3 = gives-bind Refer Refer _ _ (gives-parts i0 (sub_parts_of 0 0 t0) none_yet h0 none-refers) (λ d0 a0. gives-bind Refer Refer _ _ (gives-parts i1 (sub_parts_of 2 0 t1) d0 h1 a0) (λ d1 a1. gives-bind Refer Refer _ _ (gives-parts i2 (sub_parts_of 0 2 t2) d1 h2 a1) (λ d2 a2. gives-parts i3 (sub_parts_of 2 2 t3) d2 h3 a2)))
+  gives-quarters t0 t1 t2 t3 i0 i1 i2 i3 h0 h1 h2 h3 =
+      gives-bind Refer Refer _ _ (gives-parts i0 (sub_parts_of 0 0 t0) none_yet h0 none-refers)
+      (λ d0 a0. gives-bind Refer Refer _ _ (gives-parts i1 (sub_parts_of 2 0 t1) d0 h1 a0)
+      (λ d1 a1. gives-bind Refer Refer _ _ (gives-parts i2 (sub_parts_of 0 2 t2) d1 h2 a1) (λ d2 a2. gives-parts i3 (sub_parts_of 2 2 t3) d2 h3 a2)))
 
   gives-split : (inferred : Bool) → IsTrue (not inferred || has_picture slice 0) → Gives (split_parts width slice picture inferred) Refer
   unfolding split_parts
-  gives-split inferred h = gives-bind _ _ _ _ (gives-any _) (λ t0 x0. gives-bind _ _ _ _ (gives-any _) (λ t1 x1. gives-bind _ _ _ _ (gives-any _) (λ t2 x2. gives-bind _ _ _ _ (gives-any _) (λ t3 x3.
-      gives-bind _ _ _ _ (gives-index inferred h) (λ i0 k0. gives-bind _ _ _ _ (gives-index inferred h) (λ i1 k1. gives-bind _ _ _ _ (gives-index inferred h) (λ i2 k2. gives-bind _ _ _ _ (gives-index inferred h) (λ i3 k3. gives-quarters t0 t1 t2 t3 i0 i1 i2 i3 k0 k1 k2 k3))))))))
+  gives-split inferred h = gives-bind _ _ _ _ (gives-any _)
+      (λ t0 x0. gives-bind _ _ _ _ (gives-any _) (λ t1 x1. gives-bind _ _ _ _ (gives-any _) (λ t2 x2. gives-bind _ _ _ _ (gives-any _) (λ t3 x3.
+      gives-bind _ _ _ _ (gives-index inferred h)
+      (λ i0 k0. gives-bind _ _ _ _ (gives-index inferred h)
+      (λ i1 k1. gives-bind _ _ _ _ (gives-index inferred h)
+      (λ i2 k2. gives-bind _ _ _ _ (gives-index inferred h) (λ i3 k3. gives-quarters t0 t1 t2 t3 i0 i1 i2 i3 k0 k1 k2 k3))))))))
 
   gives-motions-by : (inferred : Bool) (kind : ℕ) → IsTrue (not inferred || has_picture slice 0) → Gives (motions_by width slice picture inferred kind) Refer
   unfolding motions_by
-  gives-motions-by inferred kind h = gives-if Refer (kind == 0) _ _ (gives-one inferred _ h) (gives-if Refer (kind == 1) _ _ (gives-two inferred _ _ h) (gives-if Refer (kind == 2) _ _ (gives-two inferred _ _ h) (gives-split inferred h)))
+  gives-motions-by inferred kind h = gives-if Refer (kind == 0) _ _ (gives-one inferred _ h)
+      (gives-if Refer (kind == 1) _ _ (gives-two inferred _ _ h) (gives-if Refer (kind == 2) _ _ (gives-two inferred _ _ h) (gives-split inferred h)))
 
   gives-motions : (bit kind : ℕ) → Gives (motions width slice picture bit kind) Refer
   unfolding motions
@@ -169,7 +208,9 @@ module _ (width : ℕ) (slice : SliceContext) (picture : List CodedMacroblock) w
 
   gives-inter : (bit kind : ℕ) → Gives (inter width slice picture bit kind) Possible
   unfolding inter coded
-  gives-inter bit kind = gives-bind _ _ _ _ (gives-motions bit kind) (λ d a. gives-bind _ _ _ _ (gives-any _) (λ pattern p. gives-bind _ _ _ _ (gives-any _) (λ c x. gives-bind _ _ _ _ (gives-any _) (λ t y. gives-done Possible _ a))))
+  gives-inter bit kind = gives-bind _ _ _ _ (gives-motions bit kind)
+      (λ d a. gives-bind _ _ _ _ (gives-any _)
+      (λ pattern p. gives-bind _ _ _ _ (gives-any _) (λ c x. gives-bind _ _ _ _ (gives-any _) (λ t y. gives-done Possible _ a))))
 
   gives-type : (t : SliceType) (bit kind : ℕ) → Gives (by_type t width slice picture bit kind) Possible
   unfolding by_type
@@ -180,5 +221,10 @@ module _ (width : ℕ) (slice : SliceContext) (picture : List CodedMacroblock) w
   unfolding macroblock
   possible = gives-bind _ _ _ _ (gives-any _) (λ kind k. gives-bind Possible _ _ _ (gives-type slice.slice_type _ _) (λ m h. gives-done _ _ h))
 
-pub met-read : {S : Type 0} {took : S → List Call → Type 0} {failures : S → ℕ} {old new : Reader} {s s' : S} {r : Result ℕ Stop} (width : ℕ) (slice : SliceContext) (picture : List CodedMacroblock) (mb : Macroblock) → Meets (span took failures s s') (IsPlaced mb) (macroblock width slice picture) old new r → Meets (span took failures s s') (IsRead width slice picture mb) (macroblock width slice picture) old new r
-met-read {took = took} {failures = failures} {old = old} {new = new} {s = s} {s' = s'} {r = r} width slice picture mb m = met-by took failures (IsPlaced mb) (IsRead width slice picture mb) _ (macroblock width slice picture) old new s s' r (possible width slice picture) (λ x v a p. record { placed = a.0; holds = a.1; possible = p }) m
+pub met-read : {S : Type 0} {took : S → List Call → Type 0} {failures : S → ℕ} {old new : Reader} {s s' : S} {r : Result ℕ Stop} (width : ℕ)
+    (slice : SliceContext) (picture : List CodedMacroblock) (mb : Macroblock) →
+    Meets (span took failures s s') (IsPlaced mb) (macroblock width slice picture) old new r →
+    Meets (span took failures s s') (IsRead width slice picture mb) (macroblock width slice picture) old new r
+met-read {took = took} {failures = failures} {old = old} {new = new} {s = s} {s' = s'} {r = r} width slice picture mb m =
+    met-by took failures (IsPlaced mb) (IsRead width slice picture mb) _ (macroblock width slice picture) old new s s' r (possible width slice picture)
+    (λ x v a p. record { placed = a.0; holds = a.1; possible = p }) m

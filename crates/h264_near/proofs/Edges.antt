@@ -11,28 +11,32 @@ use Rattle.h264_near.specs.Along.{edge_total, edge_chroma, edge_mode, edge_motio
 use Rattle.h264_near.specs.Keeps.{AreContexts, Borders, IsEdge, Lower, Right}
 
 module _ (luma : ℕ → ℕ) (chroma : ℕ → ℕ → ℕ) where
-  pub total-is : (slice x y k : ℕ) (edge : Option Edge) (m : Option CodedMacroblock) → k < 4 → luma k ≡ number_of x y → IsEdge (Borders luma chroma) edge m → edge_total slice k edge ≡ option_and_then (total_part slice x y) m
+  pub total-is : (slice x y k : ℕ) (edge : Option Edge) (m : Option CodedMacroblock) → k < 4 → luma k ≡ number_of x y → IsEdge (Borders luma chroma) edge m →
+      edge_total slice k edge ≡ option_and_then (total_part slice x y) m
   unfolding total_part
   total-is slice x y k None None h e i = refl
   total-is slice x y k None (Some m) h e i = absurd i
   total-is slice x y k (Some edge) None h e i = absurd i
   total-is slice x y k (Some edge) (Some m) h e i = rw (i.slice, sym e, i.totals k h) refl
 
-  pub chroma-is : (slice c x y k : ℕ) (edge : Option Edge) (m : Option CodedMacroblock) → c < 2 → k < 2 → chroma c k ≡ chroma_number_of c x y → IsEdge (Borders luma chroma) edge m → edge_chroma slice c k edge ≡ option_and_then (chroma_part slice c x y) m
+  pub chroma-is : (slice c x y k : ℕ) (edge : Option Edge) (m : Option CodedMacroblock) → c < 2 → k < 2 → chroma c k ≡ chroma_number_of c x y →
+      IsEdge (Borders luma chroma) edge m → edge_chroma slice c k edge ≡ option_and_then (chroma_part slice c x y) m
   unfolding chroma_part
   chroma-is slice c x y k None None g h e i = refl
   chroma-is slice c x y k None (Some m) g h e i = absurd i
   chroma-is slice c x y k (Some edge) None g h e i = absurd i
   chroma-is slice c x y k (Some edge) (Some m) g h e i = rw (i.slice, sym e, i.chroma_totals c k g h) refl
 
-  pub mode-is : (slice : ℕ) (constrained : Bool) (x y k : ℕ) (edge : Option Edge) (m : Option CodedMacroblock) → k < 4 → luma k ≡ number_of x y → IsEdge (Borders luma chroma) edge m → edge_mode slice constrained k edge ≡ option_and_then (mode_part slice constrained x y) m
+  pub mode-is : (slice : ℕ) (constrained : Bool) (x y k : ℕ) (edge : Option Edge) (m : Option CodedMacroblock) → k < 4 → luma k ≡ number_of x y →
+      IsEdge (Borders luma chroma) edge m → edge_mode slice constrained k edge ≡ option_and_then (mode_part slice constrained x y) m
   unfolding mode_part
   mode-is slice constrained x y k None None h e i = refl
   mode-is slice constrained x y k None (Some m) h e i = absurd i
   mode-is slice constrained x y k (Some edge) None h e i = absurd i
   mode-is slice constrained x y k (Some edge) (Some m) h e i = rw (i.slice, i.intra, sym e, i.modes k h) refl
 
-  pub motion-is : (slice x y k : ℕ) (edge : Option Edge) (m : Option CodedMacroblock) → k < 4 → luma k ≡ number_of x y → IsEdge (Borders luma chroma) edge m → edge_motion slice k edge ≡ option_and_then (motion_part slice x y) m
+  pub motion-is : (slice x y k : ℕ) (edge : Option Edge) (m : Option CodedMacroblock) → k < 4 → luma k ≡ number_of x y → IsEdge (Borders luma chroma) edge m →
+      edge_motion slice k edge ≡ option_and_then (motion_part slice x y) m
   unfolding motion_part
   motion-is slice x y k None None h e i = refl
   motion-is slice x y k None (Some m) h e i = absurd i
@@ -94,7 +98,8 @@ module _ (c : Contexts) (m : CodedMacroblock) (s : AreContexts c m) (all : lengt
       (by-four (λ k. number_of k 3 < 16) (lit< tt) (lit< tt) (lit< tt) (lit< tt))
       (by-two-two (λ c k. chroma_number_of c k 1 < 8) (lit< tt) (lit< tt) (lit< tt) (lit< tt)) es ei eq
       (by-four (λ k. get_or e.totals k 0 ≡ get_or c.totals (number_of k 3) 0) (rw et refl) (rw et refl) (rw et refl) (rw et refl))
-      (by-two-two (λ b k. get_or e.chroma (b * 2 + k) 0 ≡ get_or c.chroma_totals (chroma_number_of b k 1) 0) (rw eb refl) (rw eb refl) (rw eb refl) (rw eb refl))
+      (by-two-two (λ b k. get_or e.chroma (b * 2 + k) 0 ≡ get_or c.chroma_totals (chroma_number_of b k 1) 0) (rw eb refl) (rw eb refl) (rw eb refl)
+      (rw eb refl))
       (by-four (λ k. get_or e.modes k Vertical ≡ get_or c.modes (number_of k 3) Vertical) (rw em refl) (rw em refl) (rw em refl) (rw em refl))
       (by-four (λ k. get_or e.motions k None ≡ get_or c.motions (number_of k 3) None) (rw ev refl) (rw ev refl) (rw ev refl) (rw ev refl))
 
@@ -109,12 +114,14 @@ module _ (c : Contexts) (m : CodedMacroblock) (s : AreContexts c m) (all : lengt
       (by-four (λ k. number_of 3 k < 16) (lit< tt) (lit< tt) (lit< tt) (lit< tt))
       (by-two-two (λ c k. chroma_number_of c 1 k < 8) (lit< tt) (lit< tt) (lit< tt) (lit< tt)) es ei eq
       (by-four (λ k. get_or e.totals k 0 ≡ get_or c.totals (number_of 3 k) 0) (rw et refl) (rw et refl) (rw et refl) (rw et refl))
-      (by-two-two (λ b k. get_or e.chroma (b * 2 + k) 0 ≡ get_or c.chroma_totals (chroma_number_of b 1 k) 0) (rw eb refl) (rw eb refl) (rw eb refl) (rw eb refl))
+      (by-two-two (λ b k. get_or e.chroma (b * 2 + k) 0 ≡ get_or c.chroma_totals (chroma_number_of b 1 k) 0) (rw eb refl) (rw eb refl) (rw eb refl)
+      (rw eb refl))
       (by-four (λ k. get_or e.modes k Vertical ≡ get_or c.modes (number_of 3 k) Vertical) (rw em refl) (rw em refl) (rw em refl) (rw em refl))
       (by-four (λ k. get_or e.motions k None ≡ get_or c.motions (number_of 3 k) None) (rw ev refl) (rw ev refl) (rw ev refl) (rw ev refl))
 
 -- an edge where there is a macroblock
-pub edge-there : (borders : Edge → CodedMacroblock → Type 0) (o : Option Edge) (m : CodedMacroblock) → IsEdge borders o (Some m) → (e : Edge) × (o ≡ Some e) × borders e m
+pub edge-there : (borders : Edge → CodedMacroblock → Type 0) (o : Option Edge) (m : CodedMacroblock) → IsEdge borders o (Some m) → (e : Edge) × (o ≡ Some e) ×
+    borders e m
 edge-there borders None m i = absurd i
 edge-there borders (Some e) m i = (e, refl, i)
 

@@ -42,13 +42,15 @@ agree-earlier n w c r d s u v k l h agree = record {
 
 -- ---- the equations of one macroblock, over samples that agree with others up to it
 
-pub made-carries : (k : Setting) (c r : ℕ) (m : Coded) (u v : Component → ℕ → ℕ → ℕ) → c < k.across → IsWithin m.available k.across c r → IsPossible m.prediction m.available →
+pub made-carries : (k : Setting) (c r : ℕ) (m : Coded) (u v : Component → ℕ → ℕ → ℕ) → c < k.across → IsWithin m.available k.across c r →
+    IsPossible m.prediction m.available →
     ((p : Component) → Agree (side p) k.across (c + 1) r (u p) (v p)) → IsMade k c r m u → IsMade k c r m v
 made-carries k c r m u v inside within possible agree mu = record {
   each = λ p x y i j.
       let n = side p in
       let wide = mul-le (side p) (c + 1) (side p) k.across (omega arith) (omega arith) in
-      let before : Agree (side p) k.across c r (u p) (v p) = record { each = λ a b q z. (agree p).each a b q (⊎_elim (λ l. inl l) (λ l. inr (l.0, omega (arith, l.1))) z) } in
+      let before : Agree (side p) k.across c r (u p) (v p) =
+      record { each = λ a b q z. (agree p).each a b q (⊎_elim (λ l. inl l) (λ l. inr (l.0, omega (arith, l.1))) z) } in
       sym ((agree p).each (side p * c + x) (side p * r + y) (omega arith) (inr (omega arith, omega arith)))
       ∙ mu.each p x y i j
       ∙ made_by_same m.prediction k c r m p (window (side p) (u p) c r) (window (side p) (v p) c r) x y i j possible
@@ -59,9 +61,11 @@ made-carries k c r m u v inside within possible agree mu = record {
 -- ---- the filter depends on the edges of the macroblocks so far
 
 pub record Same (w n : ℕ) (chroma : Bool) (e f : ℕ → PlaneEdges) (s : ℕ → ℕ → ℕ) (c r : ℕ) : Type 0 where
-  pub each : ((a : ℕ) → a < r * w + c → e a ≡ f a) → Agree n w c r (filtered_by (r * w + c) (unfiltered w n chroma e s)) (filtered_by (r * w + c) (unfiltered w n chroma f s))
+  pub each : ((a : ℕ) → a < r * w + c → e a ≡ f a) →
+      Agree n w c r (filtered_by (r * w + c) (unfiltered w n chroma e s)) (filtered_by (r * w + c) (unfiltered w n chroma f s))
 
-pub same-edges : (w h n : ℕ) (chroma : Bool) (e f : ℕ → PlaneEdges) (s : ℕ → ℕ → ℕ) → n ≡ lines_of chroma → 4 ≤ n → Fits w h e → Fits w h f → (c r : ℕ) → c ≤ w → r < h → Same w n chroma e f s c r
+pub same-edges : (w h n : ℕ) (chroma : Bool) (e f : ℕ → PlaneEdges) (s : ℕ → ℕ → ℕ) → n ≡ lines_of chroma → 4 ≤ n → Fits w h e → Fits w h f →
+    (c r : ℕ) → c ≤ w → r < h → Same w n chroma e f s c r
 same-edges w h n chroma e f s en four fe ff c r i j =
     raster (Same w n chroma e f s) w h
     (record { each = λ q. record { each = λ x y k b. first_macroblock w n chroma e s x y ∙ sym (first_macroblock w n chroma f s x y) } })
@@ -72,12 +76,15 @@ same-edges w h n chroma e f s en four fe ff c r i j =
           record {
             each = λ x y i b. ⊎_elim
                 (λ z. before.each x y i z)
-                (λ (a, (a', (b', b''))). (fresh w h n chroma e s en four fe c r (omega arith) m).each x y (b', inr a) ∙ sym ((fresh w h n chroma f s en four ff c r (omega arith) m).each x y (b', inr a)))
+                (λ (a, (a', (b', b''))). (fresh w h n chroma e s en four fe c r (omega arith) m).each x y (b', inr a) ∙
+                sym ((fresh w h n chroma f s en four ff c r (omega arith) m).each x y (b', inr a)))
                 (or_in n c r x y b);
           } in
-          local_step w n chroma (e (r * w + c)) (filtered_by (r * w + c) (unfiltered w n chroma e s)) (filtered_by (r * w + c) (unfiltered w n chroma f s)) _ _ c r en four k (fe.each c r k m) joined
+          local_step w n chroma (e (r * w + c)) (filtered_by (r * w + c) (unfiltered w n chroma e s)) (filtered_by (r * w + c) (unfiltered w n chroma f s)) _
+          _ c r en four k (fe.each c r k m) joined
           (λ x y. next_macroblock w n chroma e s c r k x y)
-          (λ x y. next_macroblock w n chroma f s c r k x y ∙ ap (λ es. edges_done n chroma es c r (filtered_by (r * w + c) (unfiltered w n chroma f s)) x y) (sym (q (r * w + c) (omega arith))));
+          (λ x y. next_macroblock w n chroma f s c r k x y ∙
+          ap (λ es. edges_done n chroma es c r (filtered_by (r * w + c) (unfiltered w n chroma f s)) x y) (sym (q (r * w + c) (omega arith))));
     })
     (λ r k d. record {
       each = λ q.

@@ -16,13 +16,15 @@ abbrev slow : LevelRow → Bool
 slow r = nat_le r.limits.max_vector 512
 
 -- vectors are bounded in each row
-bounded : (p : LevelRow → Bool) (rows : List LevelRow) → list_all slow rows ≡ true → IfSome (option_map (λ (r : LevelRow). r.limits) (find p rows)) (λ (l : Limits). l.max_vector ≤ 512)
+bounded : (p : LevelRow → Bool) (rows : List LevelRow) → list_all slow rows ≡ true →
+    IfSome (option_map (λ (r : LevelRow). r.limits) (find p rows)) (λ (l : Limits). l.max_vector ≤ 512)
 bounded p [] a = tt
 bounded p (r ∷ rows) a =
     let b = both (slow r) (list_all slow rows) a in
     go (p r) refl b.0 (bounded p rows b.1)
   where
-    go : (t : Bool) → p r ≡ t → slow r ≡ true → IfSome (option_map (λ (r : LevelRow). r.limits) (find p rows)) (λ (l : Limits). l.max_vector ≤ 512) → IfSome (option_map (λ (r : LevelRow). r.limits) (find p (r ∷ rows))) (λ (l : Limits). l.max_vector ≤ 512)
+    go : (t : Bool) → p r ≡ t → slow r ≡ true → IfSome (option_map (λ (r : LevelRow). r.limits) (find p rows)) (λ (l : Limits). l.max_vector ≤ 512) →
+        IfSome (option_map (λ (r : LevelRow). r.limits) (find p (r ∷ rows))) (λ (l : Limits). l.max_vector ≤ 512)
     go true e l f = rw e (leb-true r.limits.max_vector 512 l)
     go false e l f = rw e f
 

@@ -1,5 +1,6 @@
 -- The samples of a picture in the making.
-use Rattle.std.proofs.Common.{◌≡◌, ℕ, ◌+◌, ◌*◌, ◌/◌, ◌<◌, Bool, true, false, IsTrue, IsOk, IfOk, Result, Ok, Err, List, [], length, get_or, Option, Some, None, refl, sym, ap, ◌∙◌, subst, arith, ℤ}
+use Rattle.std.proofs.Common.{◌≡◌, ℕ, ◌+◌, ◌*◌, ◌/◌, ◌<◌, Bool, true, false, IsTrue, IsOk, IfOk, Result, Ok, Err, List, [], length, get_or, Option, Some}
+use Rattle.std.proofs.Common.{None, refl, sym, ap, ◌∙◌, subst, arith, ℤ}
 use Rattle.std.proofs.lemmas.Bool.{false≢true}
 use Rattle.std.proofs.Math.Nat.{mul_comm}
 use Rattle.h264_plane.specs.Frames.{frame_at, IsFrame}
@@ -59,7 +60,8 @@ shown s n h = record {
 
 pub are-shown : (s : Sequence) (ps : List ℕ) → ArePlaces s.frames ps → (m : Prediction) → PointsInto ps m → AreShown (setting_of s) s.frames.pool m
 are-shown s ps places (Intra modes) h = tt
-are-shown s ps places (Inter motion) h = λ n i. let p = h n i in subst (IsShown (setting_of s) s.frames.pool) (sym p.2) (shown s (get_or ps p.0 0) (places.each p.0 p.1))
+are-shown s ps places (Inter motion) h = λ n i. let p = h n i in
+    subst (IsShown (setting_of s) s.frames.pool) (sym p.2) (shown s (get_or ps p.0 0) (places.each p.0 p.1))
 are-shown s ps places (Pcm bytes) h = tt
 
 -- nothing is decoded
@@ -67,7 +69,8 @@ pub nothing-made : (making : Option Making) (s : Sequence) → HasSamples making
 nothing-made None s = tt
 nothing-made (Some making) s = held-none (setting_of s) making.place making.slices s.picture.lines s.frames.frame s.sound.wide.0 s.sound.lines (own-size s)
 
-pub begun-holds : (width size : ℕ) (old new : Sequence) → ServesIn width size old → Keeps (width_of old.picture.near) [] new.picture.near → new.across ≡ old.across → new.size ≡ old.size → new.picture.next ≡ 0 → HoldsIn width size [] new
+pub begun-holds : (width size : ℕ) (old new : Sequence) → ServesIn width size old → Keeps (width_of old.picture.near) [] new.picture.near →
+    new.across ≡ old.across → new.size ≡ old.size → new.picture.next ≡ 0 → HoldsIn width size [] new
 begun-holds width size old new v k a s n = record {
   keeps = subst (λ w. Keeps w [] new.picture.near) v.row k;
   columns = a ∙ v.columns;
@@ -77,22 +80,31 @@ begun-holds width size old new v k a s n = record {
 }
 
 -- what is given by the slice's parameters
-pub given-by : (across width : ℕ) (picture : List CodedMacroblock) (making : Making) (slice : Slice) (m : CodedMacroblock) (g : Coded) → across ≡ width → MakesSlice making slice → m.slice ≡ slice.context.number →
-    g ≡ given width picture making.place (slice_settings (weights_by slice.weights) slice.context.constrained_intra slice.context.chroma_qp_index_offset) m → g ≡ given_by across picture making.place (making.slices m.slice) m
+pub given-by : (across width : ℕ) (picture : List CodedMacroblock) (making : Making) (slice : Slice) (m : CodedMacroblock) (g : Coded) → across ≡ width →
+    MakesSlice making slice → m.slice ≡ slice.context.number →
+    g ≡ given width picture making.place (slice_settings (weights_by slice.weights) slice.context.constrained_intra slice.context.chroma_qp_index_offset) m →
+    g ≡ given_by across picture making.place (making.slices m.slice) m
 given-by across width picture making slice m g w h e is =
-    let parameters : making.slices m.slice ≡ record { constrained_intra = slice.context.constrained_intra; filter = slice.filter; weights = weights_by slice.weights } = ap making.slices e ∙ h.parameters in
+    let parameters : making.slices m.slice ≡
+    record { constrained_intra = slice.context.constrained_intra; filter = slice.filter; weights = weights_by slice.weights } = ap making.slices e ∙
+    h.parameters in
     rw (parameters, h.offset, w) is
 
-pub filter-by : (making : Making) (slice : Slice) (m : CodedMacroblock) → MakesSlice making slice → m.slice ≡ slice.context.number → (making.slices m.slice).filter ≡ slice.filter
+pub filter-by : (making : Making) (slice : Slice) (m : CodedMacroblock) → MakesSlice making slice → m.slice ≡ slice.context.number →
+    (making.slices m.slice).filter ≡ slice.filter
 filter-by making slice m h e = ap (λ (p : Parameters). p.filter) (ap making.slices e ∙ h.parameters)
 
 -- its modes refer to sides that there are
-pub possible : (width : ℕ) (slice : SliceContext) (picture : List CodedMacroblock) (place : ℕ → ℕ) (weights : List (Option Weights)) (offset : ℤ) (m : CodedMacroblock) (c r : ℕ) (g : Coded) → length picture ≡ r * width + c → c < width → m.slice ≡ slice.number → read.IsPossible width slice picture m.prediction →
+pub possible : (width : ℕ) (slice : SliceContext) (picture : List CodedMacroblock) (place : ℕ → ℕ) (weights : List (Option Weights)) (offset : ℤ)
+    (m : CodedMacroblock) (c r : ℕ) (g : Coded) → length picture ≡ r * width + c → c < width → m.slice ≡ slice.number →
+    read.IsPossible width slice picture m.prediction →
     g ≡ given width picture place (slice_settings weights slice.constrained_intra offset) m → IsPossible g.prediction g.available
-possible width slice picture place weights offset m c r g n i e h is = subst (λ (x : Coded). IsPossible x.prediction x.available) (sym is) (given-allowed width slice picture place weights offset m c r n i e h).possible
+possible width slice picture place weights offset m c r g n i e h is =
+    subst (λ (x : Coded). IsPossible x.prediction x.available) (sym is) (given-allowed width slice picture place weights offset m c r n i e h).possible
 
 -- a whole picture is decoded
-pub whole-made : (width size : ℕ) (making : Making) (picture : List CodedMacroblock) (s : Sequence) (f : Option Frame) → HoldsMade width size (Some making) picture s → length picture ≡ size → f ≡ Some s.frames.frame → IsMadeOf (setting_of s) making picture f
+pub whole-made : (width size : ℕ) (making : Making) (picture : List CodedMacroblock) (s : Sequence) (f : Option Frame) →
+    HoldsMade width size (Some making) picture s → length picture ≡ size → f ≡ Some s.frames.frame → IsMadeOf (setting_of s) making picture f
 whole-made width size making picture s f h n e =
     let count : length picture ≡ s.down * s.across = n ∙ sym h.holds.macroblocks ∙ s.sound.size ∙ mul_comm s.across s.down in
     rw e (held-whole (setting_of s) making.place making.slices s.picture.lines s.frames.frame picture s.sound.wide.0 count h.samples)

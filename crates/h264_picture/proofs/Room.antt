@@ -45,13 +45,17 @@ resized-frame w h f g e s = record {
 }
 
 -- the frame that was moved out is written
-resized : (w h : ℕ) (f g : Frames) → f.place < length f.pool → ((p : Component) → IsSized (plane_of p g.frame) (plane_of p f.frame).width (plane_of p f.frame).height) → g.pool ≡ f.pool → g.place ≡ f.place → AreFrames w h f → AreFrames w h g
+resized : (w h : ℕ) (f g : Frames) → f.place < length f.pool →
+    ((p : Component) → IsSized (plane_of p g.frame) (plane_of p f.frame).width (plane_of p f.frame).height) → g.pool ≡ f.pool → g.place ≡ f.place →
+    AreFrames w h f → AreFrames w h g
 resized w h f g i e p q a = record { each = λ k j. by k (rw p at j) (k == f.place) refl }
   where
     by : (k : ℕ) → k < length f.pool → (t : Bool) → (k == f.place) ≡ t → IsFrame (frame_within g k) w h
-    by k j true z = let own = resized-frame w h f.frame g.frame e (own-frame w h f a i) in subst (λ (t : Bool). IsFrame (if t then g.frame else frame_at g.pool k) w h) (sym (ap (λ n. k == n) q ∙ z)) own
+    by k j true z = let own = resized-frame w h f.frame g.frame e (own-frame w h f a i) in
+        subst (λ (t : Bool). IsFrame (if t then g.frame else frame_at g.pool k) w h) (sym (ap (λ n. k == n) q ∙ z)) own
     by k j false z = let other = pool-frame w h f k a (record { inside = j; other = λ x. eqb-false k f.place z x }) in
-        subst (λ (t : Bool). IsFrame (if t then g.frame else frame_at g.pool k) w h) (sym (ap (λ n. k == n) q ∙ z)) (subst (λ (xs : List Frame). IsFrame (frame_at xs k) w h) (sym p) other)
+        subst (λ (t : Bool). IsFrame (if t then g.frame else frame_at g.pool k) w h) (sym (ap (λ n. k == n) q ∙ z))
+        (subst (λ (xs : List Frame). IsFrame (frame_at xs k) w h) (sym p) other)
 
 -- a macroblock at this column and row lies in a frame
 pub record HasOwn (c r : ℕ) (f : Frame) : Type 0 where
@@ -124,7 +128,8 @@ module _ (across down count : ℕ) (picture : Picture) (f : Frames) (s : IsSound
   more-lines h = let n = s.lines Y in omega arith
 
   -- lines and a frame of the same size, in their places
-  pub made : (l' : Lines) (f' : Frames) → ((p : Component) → vec_len (store_of p l').above ≡ vec_len (store_of p l).above) → f.place < length f.pool → ((p : Component) → IsSized (plane_of p f'.frame) (plane_of p f.frame).width (plane_of p f.frame).height) →
+  pub made : (l' : Lines) (f' : Frames) → ((p : Component) → vec_len (store_of p l').above ≡ vec_len (store_of p l).above) → f.place < length f.pool →
+      ((p : Component) → IsSized (plane_of p f'.frame) (plane_of p f.frame).width (plane_of p f.frame).height) →
       f'.pool ≡ f.pool → f'.place ≡ f.place → IsSound across down count (record picture { lines = l' }) f'
   made l' f' h i g p q = record {
     wide = s.wide;

@@ -30,7 +30,8 @@ all-refer : (slice : SliceContext) (m : Option Motion) (n : ℕ) → Refers slic
 all-refer slice m zero h = tt
 all-refer slice m (suc n) h = (h, all-refer slice m n h)
 
-pub skipped-possible : (width : ℕ) (slice : SliceContext) (picture : List CodedMacroblock) (v : Vector) → has_picture slice 0 ≡ true → IsPossible width slice picture (skipped_of slice picture v).prediction
+pub skipped-possible : (width : ℕ) (slice : SliceContext) (picture : List CodedMacroblock) (v : Vector) → has_picture slice 0 ≡ true →
+    IsPossible width slice picture (skipped_of slice picture v).prediction
 unfolding skipped_of coded
 skipped-possible width slice picture v h = all-refer slice (Some (motion_of slice 0 v)) 16 (refers slice v h)
 

@@ -18,7 +18,10 @@ use Rattle.h264_picture.specs.Lent.{AreFrames}
 use Rattle.h264_picture.specs.Sound.{ArePlaces, IsSound}
 
 pub same-places : (old new : Frames) (ps : List ℕ) → length new.pool ≡ length old.pool → new.place ≡ old.place → ArePlaces old ps → ArePlaces new ps
-same-places old new ps n p a = record { each = λ k i. let h = a.each k i in record { inside = (let x = h.inside in omega arith); other = λ e. h.other (e ∙ p) } }
+same-places old new ps n p a = record {
+  each = λ k i. let h = a.each k i in
+      record { inside = (let x = h.inside in omega arith); other = λ e. h.other (e ∙ p) };
+}
 
 -- other frames, of the same size and at the same places
 pub same-frames : (across down count : ℕ) (p : Picture) (old new : Frames) → AreFrames (16 * across) (16 * down) new → length new.pool ≡ length old.pool →
@@ -53,7 +56,8 @@ begun across down count p near old new a n s = record {
 }
 
 -- a sequence of which no picture is begun
-pub fresh : (w h : ℕ) (n : Near) (l : Lines) (f : Frames) → ((0 < w) × (w ≤ 543)) → ((0 < h) × (h ≤ 543)) → ((p : Component) → vec_len (store_of p l).above ≡ side p * w) → AreFrames (16 * w) (16 * h) f → 1 < length f.pool →
+pub fresh : (w h : ℕ) (n : Near) (l : Lines) (f : Frames) → ((0 < w) × (w ≤ 543)) → ((0 < h) × (h ≤ 543)) →
+    ((p : Component) → vec_len (store_of p l).above ≡ side p * w) → AreFrames (16 * w) (16 * h) f → 1 < length f.pool →
     IsSound w h (w * h) (record { near = n; lines = l; next = 0; position = first }) f
 fresh w h near l f wide tall lines a n = record {
   wide = wide;
@@ -70,7 +74,8 @@ fresh w h near l f wide tall lines a n = record {
 pub sized : (s : FrameSize) → is_frame_size s ≡ true → ((0 < s.width) × (s.width ≤ 543)) × ((0 < s.height) × (s.height ≤ 543))
 sized s h = ((grind (arith, nat_tests), grind (arith, nat_tests)), (grind (arith, nat_tests), grind (arith, nat_tests)))
 
-pub lined : (l : Lines) (w : ℕ) → vec_len l.y.above ≡ 16 * w → vec_len l.cb.above ≡ 8 * w → vec_len l.cr.above ≡ 8 * w → (p : Component) → vec_len (store_of p l).above ≡ side p * w
+pub lined : (l : Lines) (w : ℕ) → vec_len l.y.above ≡ 16 * w → vec_len l.cb.above ≡ 8 * w → vec_len l.cr.above ≡ 8 * w →
+    (p : Component) → vec_len (store_of p l).above ≡ side p * w
 lined l w y cb cr Y = y
 lined l w y cb cr Cb = cb
 lined l w y cb cr Cr = cr

@@ -1,5 +1,6 @@
 -- What the work holds after one macroblock more.
-use Rattle.std.proofs.Common.{Bool, true, false, ◌==◌, Option, nat_lt, if◌then◌else◌, Result, Ok, Err, IsErrOf, ◌≡◌, ℕ, ◌+◌, ◌-◌, ◌<◌, ◌≤◌, List, [], ◌∷◌, ◌++◌, length, Some, None, refl, sym, ◌∙◌, arith, length-append, subst}
+use Rattle.std.proofs.Common.{Bool, true, false, ◌==◌, Option, nat_lt, if◌then◌else◌, Result, Ok, Err, IsErrOf, ◌≡◌, ℕ, ◌+◌, ◌-◌, ◌<◌, ◌≤◌, List, [], ◌∷◌}
+use Rattle.std.proofs.Common.{◌++◌, length, Some, None, refl, sym, ◌∙◌, arith, length-append, subst}
 use Rattle.std.specs.List.{slice_get}
 use Rattle.h264_near.specs.Coded.{CodedMacroblock}
 use Rattle.h264_near.specs.declared.motion.Vector.{Vector}
@@ -28,7 +29,8 @@ use Rattle.h264_picture.specs.Sound.{IsPlace}
 use Rattle.h264_picture.specs.declared.samples.SliceSamples.{SliceSamples}
 use Rattle.h264_picture.specs.declared.slice.Slice.{Slice}
 
-past-next : (slice : SliceContext) (picture : List CodedMacroblock) (m : CodedMacroblock) → m.slice ≡ slice.number → slice.number ≤ length picture → IsPast (picture ++ m ∷ [])
+past-next : (slice : SliceContext) (picture : List CodedMacroblock) (m : CodedMacroblock) → m.slice ≡ slice.number → slice.number ≤ length picture →
+    IsPast (picture ++ m ∷ [])
 past-next slice picture m e f x g =
     let l = length-append picture (m ∷ []) in
     let last : slice_get (picture ++ m ∷ []) (length (picture ++ m ∷ []) - 1) ≡ Some m = seam picture m [] _ (omega arith) in
@@ -36,11 +38,20 @@ past-next slice picture m e f x g =
     rw same (omega arith)
 
 -- one macroblock more
-pub kept-on : (width size : ℕ) (making : Option Making) (slice : Slice) (picture : List CodedMacroblock) (m : CodedMacroblock) (old new : Sequence) → HoldsIn width size picture old → new.across ≡ old.across → slice.context.number ≤ length picture → Keeps width (picture ++ m ∷ []) new.picture.near → m.qp ≡ new.mb.qp → m.slice ≡ slice.context.number → new.size ≡ old.size → new.picture.next ≡ old.picture.next + 1 → HasSamples making (picture ++ m ∷ []) new → MakesIn making slice → Reads width size making slice (picture ++ m ∷ []) new
+pub kept-on : (width size : ℕ) (making : Option Making) (slice : Slice) (picture : List CodedMacroblock) (m : CodedMacroblock) (old new : Sequence) →
+    HoldsIn width size picture old → new.across ≡ old.across → slice.context.number ≤ length picture → Keeps width (picture ++ m ∷ []) new.picture.near →
+    m.qp ≡ new.mb.qp → m.slice ≡ slice.context.number → new.size ≡ old.size → new.picture.next ≡ old.picture.next + 1 →
+    HasSamples making (picture ++ m ∷ []) new → MakesIn making slice → Reads width size making slice (picture ++ m ∷ []) new
 kept-on width size making slice picture m old new h w f k q e s n has makes =
     let l = length-append picture (m ∷ []) in
     record {
-      holds = record { keeps = k; columns = w ∙ h.columns; macroblocks = s ∙ h.macroblocks; next = (let x = h.next in omega arith); past = past-next slice.context picture m e f };
+      holds = record {
+        keeps = k;
+        columns = w ∙ h.columns;
+        macroblocks = s ∙ h.macroblocks;
+        next = (let x = h.next in omega arith);
+        past = past-next slice.context picture m e f;
+      };
       first = omega arith;
       predicted = sym q ∙ predicted-next slice.context picture m e;
       samples = has;
@@ -48,8 +59,10 @@ kept-on width size making slice picture m old new h w f k q e s n has makes =
     }
 
 -- another macroblock in its place changes nothing of that
-pub moved : (width size : ℕ) (picture : List CodedMacroblock) (old new : Sequence) → HoldsIn width size picture old → new.picture.near ≡ old.picture.near → new.across ≡ old.across → new.size ≡ old.size → new.picture.next ≡ old.picture.next → HoldsIn width size picture new
-moved width size picture old new h a w b c = record { keeps = subst (Keeps width picture) (sym a) h.keeps; columns = w ∙ h.columns; macroblocks = b ∙ h.macroblocks; next = c ∙ h.next; past = h.past }
+pub moved : (width size : ℕ) (picture : List CodedMacroblock) (old new : Sequence) → HoldsIn width size picture old → new.picture.near ≡ old.picture.near →
+    new.across ≡ old.across → new.size ≡ old.size → new.picture.next ≡ old.picture.next → HoldsIn width size picture new
+moved width size picture old new h a w b c =
+    record { keeps = subst (Keeps width picture) (sym a) h.keeps; columns = w ∙ h.columns; macroblocks = b ∙ h.macroblocks; next = c ∙ h.next; past = h.past }
 
 pub skipped-slice : (slice : SliceContext) (picture : List CodedMacroblock) (v : Vector) → (skipped_of slice picture v).slice ≡ slice.number
 unfolding skipped_of coded
@@ -63,7 +76,8 @@ pub qp-first : (slice : SliceContext) (picture : List CodedMacroblock) → slice
 unfolding predicted_qp
 qp-first slice picture n p = go (nat_lt 0 (length picture)) (slice_get picture (length picture - 1)) refl
   where
-    other : (m : CodedMacroblock) (t : Bool) → (m.slice == slice.number) ≡ t → m.slice < length picture → slice.qp ≡ (if m.slice == slice.number then m.qp else slice.qp)
+    other : (m : CodedMacroblock) (t : Bool) → (m.slice == slice.number) ≡ t → m.slice < length picture →
+        slice.qp ≡ (if m.slice == slice.number then m.qp else slice.qp)
     other m true e l = absurd (let x = eqb-true m.slice slice.number e in omega arith)
     other m false e l = rw e refl
 
@@ -72,7 +86,8 @@ qp-first slice picture n p = go (nat_lt 0 (length picture)) (slice_get picture (
     go true None e = refl
     go true (Some m) e = other m (m.slice == slice.number) refl (p m e)
 
-none : {X A S : Type 0} (took : S → List Call → Type 0) (failures : S → ℕ) (R : X → A → Type 0) (g : Grammar A) (old new : Reader) (s s' : S) (r : Result X Stop) → Answers (span took failures s s') R g old new r → IsErrOf r Memory → ⊥
+none : {X A S : Type 0} (took : S → List Call → Type 0) (failures : S → ℕ) (R : X → A → Type 0) (g : Grammar A) (old new : Reader) (s s' : S)
+    (r : Result X Stop) → Answers (span took failures s s') R g old new r → IsErrOf r Memory → ⊥
 none took failures R g old new s s' (Ok x) a e = absurd (cc)
 none took failures R g old new s s' (Err (No bit rule)) a e = absurd (cc)
 none took failures R g old new s s' (Err (Outside bit feature)) a e = absurd (cc)
@@ -81,11 +96,16 @@ none took failures R g old new s s' (Err Read) a e = a
 none took failures R g old new s s' (Err Write) a e = absurd (cc)
 
 -- an answer is no want of memory
-pub no-memory : {X A S : Type 0} {took : S → List Call → Type 0} {failures : S → ℕ} {R : X → A → Type 0} {g : Grammar A} {old new : Reader} {s s' : S} {r : Result X Stop} → Meets (span took failures s s') R g old new r → IsErrOf r Memory → ⊥
-no-memory {took = took} {failures = failures} {R = R} {g = g} {old = old} {new = new} {s = s} {s' = s'} {r = r} m e = none took failures R g old new s s' r (answers m) e
+pub no-memory : {X A S : Type 0} {took : S → List Call → Type 0} {failures : S → ℕ} {R : X → A → Type 0} {g : Grammar A} {old new : Reader} {s s' : S}
+    {r : Result X Stop} → Meets (span took failures s s') R g old new r → IsErrOf r Memory → ⊥
+no-memory {took = took} {failures = failures} {R = R} {g = g} {old = old} {new = new} {s = s} {s' = s'} {r = r} m e =
+    none took failures R g old new s s' r (answers m) e
 
 -- so many macroblocks are left
-pub left-is : {X S : Type 0} {took : S → List Call → Type 0} {failures : S → ℕ} {R : X → List CodedMacroblock → Type 0} {old new : Reader} {s s' : S} {r : Result X Stop} (a b : ℕ) (fits : CodedMacroblock → Bool) (width : ℕ) (slice : SliceContext) (standing : Standing) (picture : List CodedMacroblock) → a ≡ b → Meets (span took failures s s') R (macroblocks fits width slice b standing picture) old new r → Meets (span took failures s s') R (macroblocks fits width slice a standing picture) old new r
+pub left-is : {X S : Type 0} {took : S → List Call → Type 0} {failures : S → ℕ} {R : X → List CodedMacroblock → Type 0} {old new : Reader} {s s' : S}
+    {r : Result X Stop} (a b : ℕ) (fits : CodedMacroblock → Bool) (width : ℕ) (slice : SliceContext) (standing : Standing) (picture : List CodedMacroblock) →
+    a ≡ b → Meets (span took failures s s') R (macroblocks fits width slice b standing picture) old new r →
+    Meets (span took failures s s') R (macroblocks fits width slice a standing picture) old new r
 left-is a b fits width slice standing picture e m = rw e m
 
 -- the frames stand where they stood
@@ -93,16 +113,25 @@ pub same-place : (s : Sequence) → KeepsPlace s s
 same-place s = record { across = refl; down = refl; pool = refl; place = refl; begun = refl }
 
 pub both-places : (a b c : Sequence) → KeepsPlace a b → KeepsPlace b c → KeepsPlace a c
-both-places a b c h k = record { across = k.across ∙ h.across; down = k.down ∙ h.down; pool = k.pool ∙ h.pool; place = k.place ∙ h.place; begun = k.begun ∙ h.begun }
+both-places a b c h k = record {
+  across = k.across ∙ h.across;
+  down = k.down ∙ h.down;
+  pool = k.pool ∙ h.pool;
+  place = k.place ∙ h.place;
+  begun = k.begun ∙
+      h.begun;
+}
 
 -- the samples are those of the lines and the frames
-pub same-samples : (making : Option Making) (picture : List CodedMacroblock) (old new : Sequence) → new.across ≡ old.across → new.down ≡ old.down → new.picture.lines ≡ old.picture.lines → new.frames ≡ old.frames → HasSamples making picture old → HasSamples making picture new
+pub same-samples : (making : Option Making) (picture : List CodedMacroblock) (old new : Sequence) → new.across ≡ old.across → new.down ≡ old.down →
+    new.picture.lines ≡ old.picture.lines → new.frames ≡ old.frames → HasSamples making picture old → HasSamples making picture new
 same-samples None picture old new a d l f h = tt
 same-samples (Some making) picture old new a d l f h = rw (a, d, l, f) h
 
 -- a slice begins, with the places of its reference pictures among the frames
 pub makes-with : (making : Option Making) (slice : Slice) (samples : SliceSamples) (base : ℕ) (old : Sequence) →
-    ((n : ℕ) → n < 16 → base ≤ get_or samples.places n 0 → IsPlace old.frames (get_or samples.places n 0 - base) → get_or slice.places n 0 ≡ get_or samples.places n 0 - base) → slice.filter ≡ samples.filter → slice.weights ≡ samples.weights →
+    ((n : ℕ) → n < 16 → base ≤ get_or samples.places n 0 → IsPlace old.frames (get_or samples.places n 0 - base) →
+    get_or slice.places n 0 ≡ get_or samples.places n 0 - base) → slice.filter ≡ samples.filter → slice.weights ≡ samples.weights →
     MakesWith making slice.context samples base old → MakesIn making slice
 makes-with None slice samples base old values f w h = tt
 makes-with (Some making) slice samples base old values f w h = record {
@@ -116,7 +145,9 @@ makes-with (Some making) slice samples base old values f w h = record {
   };
 }
 
-weaker-by : {X A S : Type 0} (took : S → List Call → Type 0) (failures : S → ℕ) (R R' : X → A → Type 0) (g : Grammar A) (body : Body) (i j : ℕ) (s s' : S) (r : Result X Stop) → ((x : X) (v : A) → R x v → R' x v) → MeetsBy (span took failures s s') R g (record { body = body; at = i }) j r → MeetsBy (span took failures s s') R' g (record { body = body; at = i }) j r
+weaker-by : {X A S : Type 0} (took : S → List Call → Type 0) (failures : S → ℕ) (R R' : X → A → Type 0) (g : Grammar A) (body : Body) (i j : ℕ) (s s' : S)
+    (r : Result X Stop) → ((x : X) (v : A) → R x v → R' x v) → MeetsBy (span took failures s s') R g (record { body = body; at = i }) j r →
+    MeetsBy (span took failures s s') R' g (record { body = body; at = i }) j r
 weaker-by took failures R R' g body i j s s' (Ok x) f m = (m.0, f x m.0 m.1, m.2, m.3, m.4)
 weaker-by took failures R R' g body i j s s' (Err (No bit rule)) f m = m
 weaker-by took failures R R' g body i j s s' (Err (Outside bit feature)) f m = m
@@ -125,8 +156,10 @@ weaker-by took failures R R' g body i j s s' (Err Read) f m = m
 weaker-by took failures R R' g body i j s s' (Err Write) f m = m
 
 -- what is said of the value may be less
-pub weaker : {X A S : Type 0} {took : S → List Call → Type 0} {failures : S → ℕ} {R R' : X → A → Type 0} {g : Grammar A} {old new : Reader} {s s' : S} {r : Result X Stop} → ((x : X) (v : A) → R x v → R' x v) → Meets (span took failures s s') R g old new r → Meets (span took failures s s') R' g old new r
-weaker {took = took} {failures = failures} {R = R} {R' = R'} {g = g} {old = old} {new = new} {s = s} {s' = s'} {r = r} f m = record { meets = weaker-by took failures R R' g old.body old.at new.at s s' r f m.meets; same = m.same }
+pub weaker : {X A S : Type 0} {took : S → List Call → Type 0} {failures : S → ℕ} {R R' : X → A → Type 0} {g : Grammar A} {old new : Reader} {s s' : S}
+    {r : Result X Stop} → ((x : X) (v : A) → R x v → R' x v) → Meets (span took failures s s') R g old new r → Meets (span took failures s s') R' g old new r
+weaker {took = took} {failures = failures} {R = R} {R' = R'} {g = g} {old = old} {new = new} {s = s} {s' = s'} {r = r} f m =
+    record { meets = weaker-by took failures R R' g old.body old.at new.at s s' r f m.meets; same = m.same }
 
 -- ---- macroblocks that are left
 

@@ -1,5 +1,6 @@
 -- The frames of two sequences take turns at the places.
-use Rattle.std.proofs.Common.{◌≡◌, ◌≢◌, ℕ, ◌+◌, ◌-◌, ◌%◌, ◌<◌, ◌≤◌, Bool, true, false, ◌&&◌, Option, Some, None, length, refl, ap, sym, ◌∙◌, arith, if◌then◌else◌, ◌⊎◌, inl, inr}
+use Rattle.std.proofs.Common.{◌≡◌, ◌≢◌, ℕ, ◌+◌, ◌-◌, ◌%◌, ◌<◌, ◌≤◌, Bool, true, false, ◌&&◌, Option, Some, None, length, refl, ap, sym, ◌∙◌, arith}
+use Rattle.std.proofs.Common.{if◌then◌else◌, ◌⊎◌, inl, inr}
 use Rattle.std.specs.Prelude.{nat_lt}
 use Rattle.std.specs.Option.{option_map}
 use Rattle.std.proofs.lemmas.Bool.Decides.{nat_tests}
@@ -32,18 +33,21 @@ apart base p (inl z) e = let l : p < 17 = grind (arith, nat_tests) in grind (ari
 apart base p (inr z) e = let l : 17 ≤ p = grind (arith, nat_tests) in grind (arith, nat_tests)
 
 -- the frames of the active sequence become the older ones
-pub turned : (base : ℕ) (active new : Option Frames) (p : ℕ) → base ≤ 17 → base % 17 ≡ 0 → lent_of base active None p ≢ None → lent_of (17 - base) new active p ≡ lent_of base active None p
+pub turned : (base : ℕ) (active new : Option Frames) (p : ℕ) → base ≤ 17 → base % 17 ≡ 0 → lent_of base active None p ≢ None →
+    lent_of (17 - base) new active p ≡ lent_of base active None p
 turned base active new p low turn some = by (is_active_place base p) refl
   where
     by : (t : Bool) → is_active_place base p ≡ t → lent_of (17 - base) new active p ≡ lent_of base active None p
     by true e =
         let o : is_active_place (17 - base) p ≡ false = apart base p (turns base low turn) e in
         let b : 17 - (17 - base) ≡ base = omega arith in
-        ap (λ t. if t then lent_in new (p - (17 - base)) else lent_in active (p - (17 - (17 - base)))) o ∙ ap (λ n. lent_in active (p - n)) b ∙ sym (ap (λ t. if t then lent_in active (p - base) else None) e)
+        ap (λ t. if t then lent_in new (p - (17 - base)) else lent_in active (p - (17 - (17 - base)))) o ∙ ap (λ n. lent_in active (p - n)) b ∙
+        sym (ap (λ t. if t then lent_in active (p - base) else None) e)
     by false e = absurd (some (ap (λ t. if t then lent_in active (p - base) else None) e))
 
 -- and stand at none of the places of the next one
-pub older-place : (base : ℕ) (active : Option Frames) (p : ℕ) → base ≤ 17 → base % 17 ≡ 0 → lent_of base active None p ≢ None → is_active_place (17 - base) p ≡ false
+pub older-place : (base : ℕ) (active : Option Frames) (p : ℕ) → base ≤ 17 → base % 17 ≡ 0 → lent_of base active None p ≢ None →
+    is_active_place (17 - base) p ≡ false
 older-place base active p low turn some = by (is_active_place base p) refl
   where
     by : (t : Bool) → is_active_place base p ≡ t → is_active_place (17 - base) p ≡ false
@@ -64,27 +68,37 @@ pick true false b x y f h e = cc
 pick false u b x y f h e = cc
 
 -- what is lent beside the frame that is written stands in the pool
-pub lent-beside : (base n : ℕ) (g : Frames) (older : Option Frames) (f : Frame) → n < 17 → g.begun ≡ true → lent_of base (Some g) older (base + n) ≡ Some f → frame_at g.pool n ≡ f
-lent-beside base n g older f i b h = pick (nat_lt n (length g.pool)) (n == g.place) g.begun g.frame (frame_at g.pool n) f (sym (lent-begun base (base + n) n g older refl i) ∙ h) b
+pub lent-beside : (base n : ℕ) (g : Frames) (older : Option Frames) (f : Frame) → n < 17 → g.begun ≡ true → lent_of base (Some g) older (base + n) ≡ Some f →
+    frame_at g.pool n ≡ f
+lent-beside base n g older f i b h = pick (nat_lt n (length g.pool)) (n == g.place) g.begun g.frame (frame_at g.pool n) f
+    (sym (lent-begun base (base + n) n g older refl i) ∙ h) b
 
-pub lent-references : (base place n : ℕ) (o : Option Sequence) (older : Option Frames) (f : Frame) → IsActive (λ (s : Sequence). (s.frames.begun ≡ true) × (base + s.frames.place ≡ place)) o → n < 17 →
-    lent_of base (option_map (λ (s : Sequence). s.frames) o) older (base + n) ≡ Some f → IsActive (λ (s : Sequence). (p : Component) (x y : ℕ) → (setting_of s).reference n p x y ≡ at (plane_of p f) x y) o
+pub lent-references : (base place n : ℕ) (o : Option Sequence) (older : Option Frames) (f : Frame) →
+    IsActive (λ (s : Sequence). (s.frames.begun ≡ true) × (base + s.frames.place ≡ place)) o → n < 17 →
+    lent_of base (option_map (λ (s : Sequence). s.frames) o) older (base + n) ≡ Some f →
+    IsActive (λ (s : Sequence). (p : Component) (x y : ℕ) → (setting_of s).reference n p x y ≡ at (plane_of p f) x y) o
 lent-references base place n None older f h i e = absurd h
 lent-references base place n (Some s) older f h i e = λ p x y. ap (λ (g : Frame). at (plane_of p g) x y) (lent-beside base n s.frames older f i h.0 e)
 
 -- what was lent stays lent, of the older sequence and where the frames of the active one keep it
-pub lent-kept : (base : ℕ) (old new : Frames) (older : Option Frames) → KeepsLent old new → (p : ℕ) → lent_of base (Some old) older p ≢ None → lent_of base (Some new) older p ≡ lent_of base (Some old) older p
+pub lent-kept : (base : ℕ) (old new : Frames) (older : Option Frames) → KeepsLent old new → (p : ℕ) → lent_of base (Some old) older p ≢ None →
+    lent_of base (Some new) older p ≡ lent_of base (Some old) older p
 lent-kept base old new older kept p = by (is_active_place base p)
   where
-    by : (t : Bool) → (if t then lent_within old (p - base) else lent_in older (p - (17 - base))) ≢ None → (if t then lent_within new (p - base) else lent_in older (p - (17 - base))) ≡ (if t then lent_within old (p - base) else lent_in older (p - (17 - base)))
+    by : (t : Bool) → (if t then lent_within old (p - base) else lent_in older (p - (17 - base))) ≢ None →
+        (if t then lent_within new (p - base) else lent_in older (p - (17 - base))) ≡
+        (if t then lent_within old (p - base) else lent_in older (p - (17 - base)))
     by true some = kept (p - base) some
     by false some = refl
 
 -- and where they keep all but one
-pub lent-others : (base : ℕ) (old new : Frames) (older : Option Frames) (place : ℕ) → base ≤ place → ((k : ℕ) → k ≢ place - base → lent_within old k ≢ None → lent_within new k ≡ lent_within old k) →
+pub lent-others : (base : ℕ) (old new : Frames) (older : Option Frames) (place : ℕ) → base ≤ place →
+    ((k : ℕ) → k ≢ place - base → lent_within old k ≢ None → lent_within new k ≡ lent_within old k) →
     (p : ℕ) → p ≢ place → lent_of base (Some old) older p ≢ None → lent_of base (Some new) older p ≡ lent_of base (Some old) older p
 lent-others base old new older place low kept p other = by (is_active_place base p) refl
   where
-    by : (t : Bool) → is_active_place base p ≡ t → (if t then lent_within old (p - base) else lent_in older (p - (17 - base))) ≢ None → (if t then lent_within new (p - base) else lent_in older (p - (17 - base))) ≡ (if t then lent_within old (p - base) else lent_in older (p - (17 - base)))
+    by : (t : Bool) → is_active_place base p ≡ t → (if t then lent_within old (p - base) else lent_in older (p - (17 - base))) ≢ None →
+        (if t then lent_within new (p - base) else lent_in older (p - (17 - base))) ≡
+        (if t then lent_within old (p - base) else lent_in older (p - (17 - base)))
     by true e some = let l : base ≤ p = grind (arith, nat_tests) in kept (p - base) (λ same. other (omega arith)) some
     by false e some = refl

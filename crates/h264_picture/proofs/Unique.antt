@@ -18,23 +18,29 @@ use Rattle.h264_picture.specs.Decoded.{Parameters, macroblock_at, edges_at, IsDe
 use Rattle.h264_picture.proofs.Prefix.{within-at, fits}
 
 pub one_decoded : (k : Setting) (place : ℕ → ℕ) (slices : ℕ → Parameters) (picture : List CodedMacroblock) (f g : Component → ℕ → ℕ → ℕ) →
-    ((c r : ℕ) → c < k.across → r < k.down → IsPossible (macroblock_at slices place k.across picture (r * k.across + c)).prediction (macroblock_at slices place k.across picture (r * k.across + c)).available) →
-    IsDecoded k place slices picture f → IsDecoded k place slices picture g → (p : Component) (x y : ℕ) → x < side p * k.across → y < side p * k.down → f p x y ≡ g p x y
+    ((c r : ℕ) → c < k.across → r < k.down →
+    IsPossible (macroblock_at slices place k.across picture (r * k.across + c)).prediction
+    (macroblock_at slices place k.across picture (r * k.across + c)).available) →
+    IsDecoded k place slices picture f → IsDecoded k place slices picture g → (p : Component) (x y : ℕ) → x < side p * k.across → y < side p * k.down →
+    f p x y ≡ g p x y
 one_decoded k place slices picture f g possible a b p x y i j =
     let same = unique k (macroblock_at slices place k.across picture) a.u b.u
     (λ c r d e. record {
-      within = within-at k slices place picture c r d (let m = mul-le (r + 1) k.across k.down k.across (omega arith) (omega arith) in let w = a.whole in omega arith);
+      within = within-at k slices place picture c r d
+          (let m = mul-le (r + 1) k.across k.down k.across (omega arith) (omega arith) in let w = a.whole in omega arith);
       possible = possible c r d e;
     }) a.constructed b.constructed p in
     let e = k.down - 1 in
-    let some : 0 < k.down = ⊎_elim (λ (q : 0 < k.down). q) (λ (q : k.down ≤ 0). let z : k.down ≡ 0 = omega arith in let n = ap (λ d. side p * d) z in absurd (omega arith)) (cases_lt 0 k.down) in
+    let some : 0 < k.down = ⊎_elim (λ (q : 0 < k.down). q)
+    (λ (q : k.down ≤ 0). let z : k.down ≡ 0 = omega arith in let n = ap (λ d. side p * d) z in absurd (omega arith)) (cases_lt 0 k.down) in
     let is : k.down ≡ e + 1 = omega arith in
     let tall : side p * k.down ≡ side p * e + side p = ap (λ d. side p * d) is ∙ (omega arith) in
     let count : k.down * k.across ≡ e * k.across + k.across = ap (λ d. d * k.across) is ∙ (omega arith) in
     let before : Agree (side p) k.across k.across e (a.u p) (b.u p) = record {
       each = λ u v l z. same u v l (⊎_elim (λ (q : v < side p * e). omega arith) (λ q. omega (arith, q.0)) z);
     } in
-    let done = (local k.across k.down (side p) (is_chroma p) (edges_at slices k.across picture p) (a.u p) (b.u p) (side_lines p) (side_least p) (fits k slices picture p) k.across e (omega arith) (omega arith)).each before in
+    let done = (local k.across k.down (side p) (is_chroma p) (edges_at slices k.across picture p) (a.u p) (b.u p) (side_lines p) (side_least p)
+    (fits k slices picture p) k.across e (omega arith) (omega arith)).each before in
     a.filtered p x y i j
     ∙ ap (λ n. filtered_by n (unfiltered k.across (side p) (is_chroma p) (edges_at slices k.across picture p) (a.u p)) x y) count
     ∙ done.each x y i (inr (omega arith, i))
@@ -42,7 +48,9 @@ one_decoded k place slices picture f g possible a b p x y i j =
     ∙ sym (b.filtered p x y i j)
 
 pub some_decoded : (k : Setting) (place : ℕ → ℕ) (slices : ℕ → Parameters) (picture : List CodedMacroblock) → length picture ≡ k.down * k.across →
-    ((c r : ℕ) → c < k.across → r < k.down → IsPossible (macroblock_at slices place k.across picture (r * k.across + c)).prediction (macroblock_at slices place k.across picture (r * k.across + c)).available) →
+    ((c r : ℕ) → c < k.across → r < k.down →
+    IsPossible (macroblock_at slices place k.across picture (r * k.across + c)).prediction
+    (macroblock_at slices place k.across picture (r * k.across + c)).available) →
     (final : Component → ℕ → ℕ → ℕ) × IsDecoded k place slices picture final
 some_decoded k place slices picture whole possible =
     let s = some_picture k (macroblock_at slices place k.across picture)

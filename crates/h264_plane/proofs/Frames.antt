@@ -14,7 +14,8 @@ frames_push xs f n w h e each last = below_more _ _
     (rw (get_or_push xs f no_frame n e) last)
 
 -- the same of frames that are blank
-pub blank_push : (xs : List Frame) (f : Frame) (n : ℕ) → length xs ≡ n → ((k : ℕ) → k < n → (c : Component) → IsBlank (plane_of c (frame_at xs k))) → ((c : Component) → IsBlank (plane_of c f)) →
+pub blank_push : (xs : List Frame) (f : Frame) (n : ℕ) → length xs ≡ n → ((k : ℕ) → k < n → (c : Component) → IsBlank (plane_of c (frame_at xs k))) →
+    ((c : Component) → IsBlank (plane_of c f)) →
     (k : ℕ) → k < n + 1 → (c : Component) → IsBlank (plane_of c (frame_at (xs ++ f ∷ []) k))
 blank_push xs f n e each last = below_more _ _
     (λ k p c. let inside : k < length xs = omega arith in rw get_or_append_left (each k p c))

@@ -1,7 +1,9 @@
 -- Vectors of n numbers of width w without signs, at lane k.
-use Rattle.std.proofs.Common.{◌≡◌, ℕ, nat_eq, inl, inr, ◌+◌, ◌-◌, ◌*◌, ◌%◌, ◌/◌, ◌^◌, ◌<◌, ◌≤◌, Bool, false, not, cond, ◌++◌, ◌∷◌, [], List, map, length, get_or, replicate, sym, ap, ◌∙◌, arith, min, max, ltb, T, Fits}
+use Rattle.std.proofs.Common.{◌≡◌, ℕ, nat_eq, inl, inr, ◌+◌, ◌-◌, ◌*◌, ◌%◌, ◌/◌, ◌^◌, ◌<◌, ◌≤◌, Bool, false, not, cond, ◌++◌, ◌∷◌, [], List, map, length}
+use Rattle.std.proofs.Common.{get_or, replicate, sym, ap, ◌∙◌, arith, min, max, ltb, T, Fits}
 use Rattle.std.proofs.Math.Nat.{mod-eq_of_lt}
-use Rattle.std.proofs.lemmas.Simd.{bit_mask_l, bitmask_splat, get_or-zip2, get_or-replicate, length-zip2, length-replicate, tops_compared, get_or-sel_l, Each1-get_or, length-sel_l, pick_l_left, pick_l_whole}
+use Rattle.std.proofs.lemmas.Simd.{bit_mask_l, bitmask_splat, get_or-zip2, get_or-replicate, length-zip2, length-replicate, tops_compared, get_or-sel_l}
+use Rattle.std.proofs.lemmas.Simd.{Each1-get_or, length-sel_l, pick_l_left, pick_l_whole}
 use Rattle.std.proofs.lemmas.Nat.{mod-mul-add}
 use Rattle.std.proofs.lemmas.Grind.{common_steps}
 use Rattle.std.proofs.lemmas.Bool.{cases_lt, cases_Bool}

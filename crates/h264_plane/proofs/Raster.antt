@@ -14,13 +14,15 @@ along P w r step start zero p = start
 along P w r step start (suc c) p = rw (← add-one) (step c (omega arith) (along P w r step start c (omega arith)))
 
 -- over the macroblocks before each row, of a picture of w by h
-pub rows : (P : ℕ → ℕ → Type 0) (w h : ℕ) → P 0 0 → ((c r : ℕ) → c < w → r < h → P c r → P (c + 1) r) → ((r : ℕ) → r < h → P w r → P 0 (r + 1)) → (r : ℕ) → r ≤ h → P 0 r
+pub rows : (P : ℕ → ℕ → Type 0) (w h : ℕ) → P 0 0 → ((c r : ℕ) → c < w → r < h → P c r → P (c + 1) r) → ((r : ℕ) → r < h → P w r → P 0 (r + 1)) →
+    (r : ℕ) → r ≤ h → P 0 r
 rows P w h start step wrap zero p = start
 rows P w h start step wrap (suc r) p =
     rw (← add-one) (wrap r (omega arith) (along P w r (λ c q. step c r q (omega arith)) (rows P w h start step wrap r (omega arith)) w (omega arith)))
 
 -- over the macroblocks before each one
-pub raster : (P : ℕ → ℕ → Type 0) (w h : ℕ) → P 0 0 → ((c r : ℕ) → c < w → r < h → P c r → P (c + 1) r) → ((r : ℕ) → r < h → P w r → P 0 (r + 1)) → (c r : ℕ) → c ≤ w → r < h → P c r
+pub raster : (P : ℕ → ℕ → Type 0) (w h : ℕ) → P 0 0 → ((c r : ℕ) → c < w → r < h → P c r → P (c + 1) r) → ((r : ℕ) → r < h → P w r → P 0 (r + 1)) →
+    (c r : ℕ) → c ≤ w → r < h → P c r
 raster P w h start step wrap c r p q = along P w r (λ d i. step d r i q) (rows P w h start step wrap r (omega arith)) c p
 
 -- What holds at column c and row r of macroblock n holds at those of the next: at the end of a row that is the next row's first.

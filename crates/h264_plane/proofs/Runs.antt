@@ -53,7 +53,8 @@ run_is w h x y xs ys run e p q same =
           (λ right. ⊎_elim
           (λ inside.
           let place : y * w + u ≡ y * w + x + (u - x) = omega arith in
-          rw place (put_in (y * w + x) (length run) (u - x) xs ys (omega arith) (omega arith)) ∙ ap (λ (l : List ℕ). get_or l (u - x) 0) same ∙ sym (run_inside x y run s u right inside))
+          rw place (put_in (y * w + x) (length run) (u - x) xs ys (omega arith) (omega arith)) ∙ ap (λ (l : List ℕ). get_or l (u - x) 0) same ∙
+          sym (run_inside x y run s u right inside))
           (λ beyond. put_above _ _ _ xs ys (omega arith) (omega arith) count ∙ sym (run_outside x y run s u y (inr (inr beyond))))
           (cases_lt u (x + length run)))
           (cases_lt u x)))
@@ -77,10 +78,12 @@ chunk_whole n xs e = rw (sym e) (take-length xs)
 -- the same for a vector that was written through a slice
 pub run_put : (w h x y : ℕ) (v : Vec ℕ) (xs ys run : List ℕ) (k : ℕ) → vec_len v ≡ h * w → x + length run ≤ w → y < h →
     xs ≡ v.items → k ≡ length run → ys ≡ run →
-    ShowsSamples (record { width = w; height = h; list = v.items }) (record { width = w; height = h; list = (with_items v (put_mid (y * w + x) k xs ys)).items })
+    ShowsSamples (record { width = w; height = h; list = v.items })
+    (record { width = w; height = h; list = (with_items v (put_mid (y * w + x) k xs ys)).items })
     (with_run x y run (at (record { width = w; height = h; list = v.items })))
 run_put w h x y v xs ys run k e p q same count copied =
     let whole : length v.items ≡ h * w = omega (arith, v.ok) in
     let fits : y * w + x + length run ≤ length v.items = omega (arith, row_before w y h q) in
-    let size : length (put_mid (y * w + x) k xs ys) ≡ v.len = length_put (y * w + x) k xs ys v.len (omega (arith, ap length same, v.ok)) (omega (arith, ap length copied)) (omega (arith, v.ok)) in
+    let size : length (put_mid (y * w + x) k xs ys) ≡ v.len =
+    length_put (y * w + x) k xs ys v.len (omega (arith, ap length same, v.ok)) (omega (arith, ap length copied)) (omega (arith, v.ok)) in
     rw (with_items_is v (put_mid (y * w + x) k xs ys) size, same, count) (run_is w h x y v.items ys run whole p q copied)

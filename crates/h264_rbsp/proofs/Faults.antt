@@ -23,9 +23,11 @@ pub none-at-all : (body : List ℕ) (n : ℕ) → NoneBelow body n → length bo
 none-at-all body n none h place f = let w : f.third < length body = f.zeros.within in none f.third place (omega arith) f.zeros f.broken
 
 -- the search went on from the start to this place
-module _ (body : List ℕ) (start here : ℕ) (below : NoneBelow body (start + 2)) (none : (place : ℕ) → start + 2 ≤ place → place < here → IsFound body 2 place → ⊥) where
+module _ (body : List ℕ) (start here : ℕ) (below : NoneBelow body (start + 2))
+    (none : (place : ℕ) → start + 2 ≤ place → place < here → IsFound body 2 place → ⊥) where
   pub none-before : NoneBelow body here
-  none-before third place lt z b = elim (cases_lt third (start + 2)) [ inl low ↦ below third place low z b | inr high ↦ none third high lt (found body third place z b) ]
+  none-before third place lt z b = elim (cases_lt third (start + 2))
+      [ inl low ↦ below third place low z b | inr high ↦ none third high lt (found body third place z b) ]
 
   pub first-here : AfterZeros body here → IsBroken body here here → IsFirstFault body here
   first-here z b = record {
@@ -69,12 +71,15 @@ module _ (body : List ℕ) (start here : ℕ) (below : NoneBelow body (start + 2
   none-more f n m low third place lt z b = elim (cases_lt third here) [
     | inl before ↦ none-before third place before z b
     | inr high ↦ elim (cases_lt third (here + 1)) [
-      | inl at ↦ let e : third ≡ here = omega arith in let above : 3 < get_or body (here + 1) 0 = (not-here n m place (subst (λ t. IsBroken body t place) e b)).above in omega arith
+      | inl at ↦ let e : third ≡ here = omega arith in
+          let above : 3 < get_or body (here + 1) 0 = (not-here n m place (subst (λ t. IsBroken body t place) e b)).above in omega arith
       | inr following ↦
           let byte : get_or body here 0 ≡ 3 = three f n in
           elim (cases_lt third (here + 2)) [
-            | inl one ↦ let e : third - 1 ≡ here = omega arith in let zero : get_or body (third - 1) 0 ≡ 0 = z.second in let h : get_or body here 0 ≡ 0 = sym (ap (λ k. get_or body k 0) e) ∙ zero in omega arith
-            | inr two ↦ let e : third - 2 ≡ here = omega arith in let zero : get_or body (third - 2) 0 ≡ 0 = z.first in let h : get_or body here 0 ≡ 0 = sym (ap (λ k. get_or body k 0) e) ∙ zero in omega arith
+            | inl one ↦ let e : third - 1 ≡ here = omega arith in let zero : get_or body (third - 1) 0 ≡ 0 = z.second in
+                let h : get_or body here 0 ≡ 0 = sym (ap (λ k. get_or body k 0) e) ∙ zero in omega arith
+            | inr two ↦ let e : third - 2 ≡ here = omega arith in let zero : get_or body (third - 2) 0 ≡ 0 = z.first in
+                let h : get_or body here 0 ≡ 0 = sym (ap (λ k. get_or body k 0) e) ∙ zero in omega arith
           ]
     ]
   ]

@@ -1,5 +1,6 @@
 -- Each byte of the RBSP is the unit's byte at its place.
-use Rattle.std.proofs.Common.{◌≡◌, inl, inr, ℕ, zero, suc, ◌+◌, ◌-◌, ◌*◌, ◌/◌, ◌<◌, ◌≤◌, true, false, nat_le, List, [], ◌∷◌, length, drop, get_or, refl, ap, sym, ◌∙◌, arith}
+use Rattle.std.proofs.Common.{◌≡◌, inl, inr, ℕ, zero, suc, ◌+◌, ◌-◌, ◌*◌, ◌/◌, ◌<◌, ◌≤◌, true, false, nat_le, List, [], ◌∷◌, length, drop, get_or, refl, ap}
+use Rattle.std.proofs.Common.{sym, ◌∙◌, arith}
 use Rattle.std.specs.Prelude.{slice_get}
 use Rattle.std.specs.List.{count_by}
 use Rattle.std.proofs.lemmas.Bool.{cases_Bool, lt-leb, le-leb}
@@ -17,7 +18,8 @@ count n l = count_by (λ d. nat_le d n) l
 
 none-below : (m n : ℕ) (l : List ℕ) → n < m + 2 → count n (dropped_from m l) ≡ 0
 unfolding count
-none-below m n l h = count-none (λ d. nat_le d n) (dropped_from m l) (λ k d lt. lt-leb (get_or (dropped_from m l) k d) n (let a = above m l k d lt in omega arith))
+none-below m n l h = count-none (λ d. nat_le d n) (dropped_from m l)
+    (λ k d lt. lt-leb (get_or (dropped_from m l) k d) n (let a = above m l k d lt in omega arith))
 
 count-next : (n m : ℕ) (l : List ℕ) → m ≤ n → count n (m ∷ l) ≡ 1 + count n l
 unfolding count
@@ -27,8 +29,10 @@ at : (l : List ℕ) (i j : ℕ) → i ≡ j → slice_get l i ≡ slice_get l j
 at l i j e = ap (slice_get l) e
 
 -- the three first bytes lose their last
-module _ (x y z : ℕ) (r : List ℕ) (m : ℕ) (t : is_prevention x y z ≡ true) (next : (k : ℕ) → k < length (rbsp_bytes r) → slice_get r (k + count (m + 2 + k) (dropped_from (m + 2) r)) ≡ slice_get (rbsp_bytes r) k) where
-  placed-here : (k : ℕ) → k < length (rbsp_bytes (x ∷ y ∷ z ∷ r)) → slice_get (x ∷ y ∷ z ∷ r) (k + count (m + k) (dropped_from m (x ∷ y ∷ z ∷ r))) ≡ slice_get (rbsp_bytes (x ∷ y ∷ z ∷ r)) k
+module _ (x y z : ℕ) (r : List ℕ) (m : ℕ) (t : is_prevention x y z ≡ true)
+    (next : (k : ℕ) → k < length (rbsp_bytes r) → slice_get r (k + count (m + 2 + k) (dropped_from (m + 2) r)) ≡ slice_get (rbsp_bytes r) k) where
+  placed-here : (k : ℕ) → k < length (rbsp_bytes (x ∷ y ∷ z ∷ r)) →
+      slice_get (x ∷ y ∷ z ∷ r) (k + count (m + k) (dropped_from m (x ∷ y ∷ z ∷ r))) ≡ slice_get (rbsp_bytes (x ∷ y ∷ z ∷ r)) k
   placed-here zero h =
       let c = none-below m (m + 0) (x ∷ y ∷ z ∷ r) (omega arith) in
       at (x ∷ y ∷ z ∷ r) (0 + count (m + 0) (dropped_from m (x ∷ y ∷ z ∷ r))) 0 (omega arith) ∙ ap (λ l. slice_get l 0) (sym (bytes-here x y z r t))
@@ -40,12 +44,16 @@ module _ (x y z : ℕ) (r : List ℕ) (m : ℕ) (t : is_prevention x y z ≡ tru
       let c = ap (count (m + suc (suc k))) (dropped-here x y z r m t) ∙ count-next (m + suc (suc k)) (m + 2) (dropped_from (m + 2) r) (omega arith) in
       let d = ap (λ n. count n (dropped_from (m + 2) r)) e in
       let b = ap length (bytes-here x y z r t) in
-      at (x ∷ y ∷ z ∷ r) (suc (suc k) + count (m + suc (suc k)) (dropped_from m (x ∷ y ∷ z ∷ r))) (suc (suc (suc (k + count (m + 2 + k) (dropped_from (m + 2) r))))) (omega arith)
+      at (x ∷ y ∷ z ∷ r) (suc (suc k) + count (m + suc (suc k)) (dropped_from m (x ∷ y ∷ z ∷ r)))
+      (suc (suc (suc (k + count (m + 2 + k) (dropped_from (m + 2) r))))) (omega arith)
       ∙ next k (omega arith) ∙ ap (λ l. slice_get l (suc (suc k))) (sym (bytes-here x y z r t))
 
 -- the first byte is passed on
-module _ (x y z : ℕ) (r : List ℕ) (m : ℕ) (f : is_prevention x y z ≡ false) (next : (k : ℕ) → k < length (rbsp_bytes (y ∷ z ∷ r)) → slice_get (y ∷ z ∷ r) (k + count (m + 1 + k) (dropped_from (m + 1) (y ∷ z ∷ r))) ≡ slice_get (rbsp_bytes (y ∷ z ∷ r)) k) where
-  placed-on : (k : ℕ) → k < length (rbsp_bytes (x ∷ y ∷ z ∷ r)) → slice_get (x ∷ y ∷ z ∷ r) (k + count (m + k) (dropped_from m (x ∷ y ∷ z ∷ r))) ≡ slice_get (rbsp_bytes (x ∷ y ∷ z ∷ r)) k
+module _ (x y z : ℕ) (r : List ℕ) (m : ℕ) (f : is_prevention x y z ≡ false)
+    (next : (k : ℕ) → k < length (rbsp_bytes (y ∷ z ∷ r)) →
+    slice_get (y ∷ z ∷ r) (k + count (m + 1 + k) (dropped_from (m + 1) (y ∷ z ∷ r))) ≡ slice_get (rbsp_bytes (y ∷ z ∷ r)) k) where
+  placed-on : (k : ℕ) → k < length (rbsp_bytes (x ∷ y ∷ z ∷ r)) →
+      slice_get (x ∷ y ∷ z ∷ r) (k + count (m + k) (dropped_from m (x ∷ y ∷ z ∷ r))) ≡ slice_get (rbsp_bytes (x ∷ y ∷ z ∷ r)) k
   placed-on zero h =
       let c = none-below m (m + 0) (x ∷ y ∷ z ∷ r) (omega arith) in
       at (x ∷ y ∷ z ∷ r) (0 + count (m + 0) (dropped_from m (x ∷ y ∷ z ∷ r))) 0 (omega arith) ∙ ap (λ l. slice_get l 0) (sym (bytes-on x y z r f))
@@ -54,7 +62,8 @@ module _ (x y z : ℕ) (r : List ℕ) (m : ℕ) (f : is_prevention x y z ≡ fal
       let c = ap (count (m + suc k)) (dropped-on x y z r m f) in
       let d = ap (λ n. count n (dropped_from (m + 1) (y ∷ z ∷ r))) e in
       let b = ap length (bytes-on x y z r f) in
-      at (x ∷ y ∷ z ∷ r) (suc k + count (m + suc k) (dropped_from m (x ∷ y ∷ z ∷ r))) (suc (k + count (m + 1 + k) (dropped_from (m + 1) (y ∷ z ∷ r)))) (omega arith)
+      at (x ∷ y ∷ z ∷ r) (suc k + count (m + suc k) (dropped_from m (x ∷ y ∷ z ∷ r))) (suc (k + count (m + 1 + k) (dropped_from (m + 1) (y ∷ z ∷ r))))
+      (omega arith)
       ∙ next k (omega arith) ∙ ap (λ l. slice_get l (suc k)) (sym (bytes-on x y z r f))
 
 placed : (l : List ℕ) (m k : ℕ) → k < length (rbsp_bytes l) → slice_get l (k + count (m + k) (dropped_from m l)) ≡ slice_get (rbsp_bytes l) k

@@ -15,14 +15,16 @@ count-none p (x ∷ xs) h =
     omega arith
 
 -- a list cut in two by a test: the front is what passes
-pub count-point : {X : Type 0} (p : X → Bool) (xs : List X) (i : ℕ) → IsPartitionPoint (λ y. p y ≡ true) (λ y. p y ≡ false) xs i → i ≤ length xs → count_by p xs ≡ i
+pub count-point : {X : Type 0} (p : X → Bool) (xs : List X) (i : ℕ) → IsPartitionPoint (λ y. p y ≡ true) (λ y. p y ≡ false) xs i → i ≤ length xs →
+    count_by p xs ≡ i
 count-point p [] i h fits = omega arith
 count-point p (x ∷ xs) zero h fits = count-none p (x ∷ xs) (λ k d lt. h.1 k d (omega arith) lt)
 count-point p (x ∷ xs) (suc i) h fits =
     let t : p x ≡ true = h.0 0 x (omega arith) (omega arith) in
     let c : cond {A = ℕ} (p x) 1 0 ≡ 1 = cond-true {A = ℕ} (p x) 1 0 t in
     let e : count_by p (x ∷ xs) ≡ cond {A = ℕ} (p x) 1 0 + count_by p xs = sum_by-cons (λ x. cond (p x) 1 0) x xs in
-    let n = count-point p xs i (λ k d low lt. h.0 (suc k) d (omega arith) (omega arith), λ k d low lt. h.1 (suc k) d (omega arith) (omega arith)) (omega arith) in
+    let n = count-point p xs i (λ k d low lt. h.0 (suc k) d (omega arith) (omega arith), λ k d low lt. h.1 (suc k) d (omega arith) (omega arith))
+    (omega arith) in
     omega arith
 
 pub count-yes : {X : Type 0} (p : X → Bool) (x : X) (xs : List X) → p x ≡ true → count_by p (x ∷ xs) ≡ 1 + count_by p xs

@@ -4,7 +4,8 @@ use Rattle.std.proofs.lemmas.Bool.{cases_lt}
 use Rattle.h264_rbsp.specs.Found.{IsFound}
 
 -- where another byte than 00 stands that is not found itself, nothing is found before the third place after it
-pub after-other : (bytes : List ℕ) (least p place : ℕ) → get_or bytes p 0 ≢ 0 → (IsFound bytes least p → ⊥) → p ≤ place → place < p + 3 → IsFound bytes least place → ⊥
+pub after-other : (bytes : List ℕ) (least p place : ℕ) → get_or bytes p 0 ≢ 0 → (IsFound bytes least p → ⊥) → p ≤ place → place < p + 3 →
+    IsFound bytes least place → ⊥
 after-other bytes least p place other none low high f = elim (cases_lt p place) [
   | inr h ↦ let e : place ≡ p = omega arith in none (subst (λ q. IsFound bytes least q) e f)
   | inl h ↦ elim (cases_lt (p + 1) place) [
@@ -15,4 +16,5 @@ after-other bytes least p place other none low high f = elim (cases_lt p place) 
 
 pub after-high : (bytes : List ℕ) (least p place : ℕ) → 3 < get_or bytes p 0 → p ≤ place → place < p + 3 → IsFound bytes least place → ⊥
 after-high bytes least p place above low high f =
-    after-other bytes least p place (λ e. let z : get_or bytes p 0 ≡ 0 = e in omega arith) (λ g. let h : get_or bytes p 0 ≤ 3 = g.high in omega arith) low high f
+    after-other bytes least p place (λ e. let z : get_or bytes p 0 ≡ 0 = e in omega arith) (λ g. let h : get_or bytes p 0 ≤ 3 = g.high in omega arith) low
+    high f

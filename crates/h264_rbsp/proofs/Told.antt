@@ -1,5 +1,6 @@
 -- The function that finds the first fault finds it.
-use Rattle.std.proofs.Common.{◌≡◌, ◌⊎◌, inl, inr, ℕ, zero, suc, ◌+◌, ◌-◌, ◌<◌, ◌≤◌, true, false, ◌&&◌, ◌||◌, List, [], ◌∷◌, length, get_or, Option, Some, None, Ok, Err, ◌*◌, refl, ap, sym, ◌∙◌, subst, arith}
+use Rattle.std.proofs.Common.{◌≡◌, ◌⊎◌, inl, inr, ℕ, zero, suc, ◌+◌, ◌-◌, ◌<◌, ◌≤◌, true, false, ◌&&◌, ◌||◌, List, [], ◌∷◌, length, get_or, Option, Some}
+use Rattle.std.proofs.Common.{None, Ok, Err, ◌*◌, refl, ap, sym, ◌∙◌, subst, arith}
 use Rattle.std.proofs.lemmas.Bool.{cond_both, and_parts, or_cases, and_from, or_left, or_right, eqb-true, eq-eqb, ltb-true, lt-ltb, both_ways, cases_order}
 use Rattle.std.specs.Prelude.{◌==◌, nat_lt, MatchResult}
 use Rattle.h264_base.specs.declared.rule.Rule.TheVariants.{Emulation}
@@ -48,9 +49,18 @@ module _ (x : ℕ) (l : List ℕ) where
 
   broken-back : (third place : ℕ) → IsBroken (x ∷ l) (suc third) place → Back third place
   broken-back third place (inl b) = record { from = third; place_is = b.place_is; broken = inl (record { byte = b.byte; place_is = refl }) }
-  broken-back third place (inr (inl b)) = record { from = third; place_is = b.place_is; broken = inr (inl (record { byte = b.byte; last = omega (arith, b.last); place_is = refl })) }
-  broken-back third place (inr (inr b)) = let e : place ≡ suc third + 1 = b.place_is in let n = next third in let a : 3 < get_or (x ∷ l) (suc third + 1) 0 = b.above in
-      record { from = third + 1; place_is = omega arith; broken = inr (inr (record { byte = b.byte; more = omega (arith, b.more); above = omega arith; place_is = refl })) }
+  broken-back third place (inr (inl b)) = record {
+    from = third;
+    place_is = b.place_is;
+    broken = inr (inl (record { byte = b.byte; last = omega (arith, b.last); place_is = refl }));
+  }
+  broken-back third place (inr (inr b)) = let e : place ≡ suc third + 1 = b.place_is in let n = next third in
+      let a : 3 < get_or (x ∷ l) (suc third + 1) 0 = b.above in
+      record {
+        from = third + 1;
+        place_is = omega arith;
+        broken = inr (inr (record { byte = b.byte; more = omega (arith, b.more); above = omega arith; place_is = refl }));
+      }
 
   fault-on : (place : ℕ) → IsFault l place → IsFault (x ∷ l) (suc place)
   fault-on place f = record { third = suc f.third; zeros = zeros-on f.third f.zeros; broken = broken-on f.third place f.broken }
@@ -92,7 +102,8 @@ test-three x y z p q e = and_from ((x == 0) && (y == 0)) (z == 3) (and_from (x =
 
 -- a fault of four bytes or more is one of its first, or lies after them
 module _ (x y z w : ℕ) (r : List ℕ) where
-  head : ((x == 0) && (y == 0) && (z == 2)) ≡ false → ((x == 0) && (y == 0) && (z == 3) && nat_lt 3 w) ≡ false → (place : ℕ) → AfterZeros (x ∷ y ∷ z ∷ w ∷ r) 2 → IsBroken (x ∷ y ∷ z ∷ w ∷ r) 2 place → ⊥
+  head : ((x == 0) && (y == 0) && (z == 2)) ≡ false → ((x == 0) && (y == 0) && (z == 3) && nat_lt 3 w) ≡ false →
+      (place : ℕ) → AfterZeros (x ∷ y ∷ z ∷ w ∷ r) 2 → IsBroken (x ∷ y ∷ z ∷ w ∷ r) 2 place → ⊥
   head two three place b (inl c) = let q = zeros-there x y z (w ∷ r) b in both_ways _ two (test-two x y z q.0 q.1 c.byte)
   head two three place b (inr (inl c)) = let e : suc (suc (suc (suc (length r)))) ≡ 2 + 1 = sym c.last in omega arith
   head two three place b (inr (inr c)) = let q = zeros-there x y z (w ∷ r) b in
@@ -100,7 +111,8 @@ module _ (x y z w : ℕ) (r : List ℕ) where
 
   -- where the first bytes pass
   module _ (two : ((x == 0) && (y == 0) && (z == 2)) ≡ false) (three : ((x == 0) && (y == 0) && (z == 3) && nat_lt 3 w) ≡ false) where
-    following : (third place : ℕ) → AfterZeros (x ∷ y ∷ z ∷ w ∷ r) third → IsBroken (x ∷ y ∷ z ∷ w ∷ r) third place → (from : ℕ) × (place ≡ suc from) × IsFault (y ∷ z ∷ w ∷ r) from
+    following : (third place : ℕ) → AfterZeros (x ∷ y ∷ z ∷ w ∷ r) third → IsBroken (x ∷ y ∷ z ∷ w ∷ r) third place → (from : ℕ) × (place ≡ suc from) ×
+        IsFault (y ∷ z ∷ w ∷ r) from
     following zero place b c = absurd (omega (arith, b.following))
     following (suc zero) place b c = absurd (omega (arith, b.following))
     following (suc (suc zero)) place b c = absurd (head two three place b c)
@@ -137,18 +149,21 @@ told-three n x y z = cond_both ((x == 0) && (y == 0) && ((z == 2) || (z == 3))) 
         let q = and_parts (x == 0) (y == 0) p.0 in
         (2, refl, first-here x y z [] 2 (eqb-true x 0 q.0) (eqb-true y 0 q.1) refl (broken (or_cases (z == 2) (z == 3) p.1)))
 
-    none : ((x == 0) && (y == 0) && ((z == 2) || (z == 3))) ≡ false → (third place : ℕ) → AfterZeros (x ∷ y ∷ z ∷ []) third → IsBroken (x ∷ y ∷ z ∷ []) third place → ⊥
+    none : ((x == 0) && (y == 0) && ((z == 2) || (z == 3))) ≡ false → (third place : ℕ) → AfterZeros (x ∷ y ∷ z ∷ []) third →
+        IsBroken (x ∷ y ∷ z ∷ []) third place → ⊥
     none t zero place b c = omega (arith, b.following)
     none t (suc zero) place b c = omega (arith, b.following)
     none t (suc (suc zero)) place b (inl c) = let q = zeros-there x y z [] b in both_ways _ t (test q.0 q.1 (or_left (z == 2) (z == 3) (eq-eqb z 2 c.byte)))
-    none t (suc (suc zero)) place b (inr (inl c)) = let q = zeros-there x y z [] b in both_ways _ t (test q.0 q.1 (or_right (z == 2) (z == 3) (eq-eqb z 3 c.byte)))
+    none t (suc (suc zero)) place b (inr (inl c)) = let q = zeros-there x y z [] b in
+        both_ways _ t (test q.0 q.1 (or_right (z == 2) (z == 3) (eq-eqb z 3 c.byte)))
     none t (suc (suc zero)) place b (inr (inr c)) = omega (arith, c.more)
     none t (suc (suc (suc third))) place b c = omega (arith, b.within)
 
     no : ((x == 0) && (y == 0) && ((z == 2) || (z == 3))) ≡ false → IsAnswer n (x ∷ y ∷ z ∷ []) None
     no t place f = none t f.third place f.zeros f.broken
 
-told-four : (n x y z w : ℕ) (r : List ℕ) → IsAnswer (n + 1) (y ∷ z ∷ w ∷ r) (fault_from (n + 1) (y ∷ z ∷ w ∷ r)) → IsAnswer n (x ∷ y ∷ z ∷ w ∷ r) (fault_from n (x ∷ y ∷ z ∷ w ∷ r))
+told-four : (n x y z w : ℕ) (r : List ℕ) → IsAnswer (n + 1) (y ∷ z ∷ w ∷ r) (fault_from (n + 1) (y ∷ z ∷ w ∷ r)) →
+    IsAnswer n (x ∷ y ∷ z ∷ w ∷ r) (fault_from n (x ∷ y ∷ z ∷ w ∷ r))
 unfolding fault_from
 told-four n x y z w r h =
     cond_both ((x == 0) && (y == 0) && (z == 2)) (Some (n + 2)) _ (IsAnswer n (x ∷ y ∷ z ∷ w ∷ r))
@@ -157,7 +172,8 @@ told-four n x y z w r h =
     (fourth two)
     (λ three. lift x y z w r two three n _ h))
   where
-    fourth : ((x == 0) && (y == 0) && (z == 2)) ≡ false → ((x == 0) && (y == 0) && (z == 3) && nat_lt 3 w) ≡ true → IsAnswer n (x ∷ y ∷ z ∷ w ∷ r) (Some (n + 3))
+    fourth : ((x == 0) && (y == 0) && (z == 2)) ≡ false → ((x == 0) && (y == 0) && (z == 3) && nat_lt 3 w) ≡ true →
+        IsAnswer n (x ∷ y ∷ z ∷ w ∷ r) (Some (n + 3))
     fourth two t =
         let p = and_parts ((x == 0) && (y == 0) && (z == 3)) (nat_lt 3 w) t in
         let q = and_parts ((x == 0) && (y == 0)) (z == 3) p.0 in
@@ -166,7 +182,11 @@ told-four n x y z w r h =
           3,
           refl,
           record {
-            fault = record { third = 2; zeros = zeros-here x y z (w ∷ r) (eqb-true x 0 s.0) (eqb-true y 0 s.1); broken = inr (inr (record { byte = three; more = omega arith; above = ltb-true 3 w p.1; place_is = refl })) };
+            fault = record {
+              third = 2;
+              zeros = zeros-here x y z (w ∷ r) (eqb-true x 0 s.0) (eqb-true y 0 s.1);
+              broken = inr (inr (record { byte = three; more = omega arith; above = ltb-true 3 w p.1; place_is = refl }));
+            };
             before = λ other lt f. before f.third other lt f.zeros f.broken three;
           },
         )
@@ -217,7 +237,8 @@ pub some-checked : (from : ℕ) (l : List ℕ) (place : ℕ) → IsFirstFault l 
 unfolding emulation_checked
 some-checked from l place f = ap (told from) (some-told l place f)
 
-pub some-checked-at : (from at : ℕ) (l : List ℕ) (place : ℕ) → at ≡ from → IsFirstFault l place → Err (No (8 * (at + place)) Emulation) ≡ emulation_checked from l
+pub some-checked-at : (from at : ℕ) (l : List ℕ) (place : ℕ) → at ≡ from → IsFirstFault l place →
+    Err (No (8 * (at + place)) Emulation) ≡ emulation_checked from l
 some-checked-at from at l place e f = ap (λ n. Err (No (8 * (n + place)) Emulation)) e ∙ some-checked from l place f
 
 -- the same bytes
@@ -227,10 +248,14 @@ none-along a b e h place f = h place (subst (λ l. IsFault l place) (sym e) f)
 pub first-along : (a b : List ℕ) (place : ℕ) → a ≡ b → IsFirstFault a place → IsFirstFault b place
 first-along a b place e f = subst (λ l. IsFirstFault l place) e f
 
-pub is-checked : (from : ℕ) (body : List ℕ) → MatchResult (emulation_checked from body) (λ _. (place : ℕ) → IsFault body place → ⊥) (λ stop. (place : ℕ) × (stop ≡ No (8 * (from + place)) Emulation) × IsFirstFault body place)
+pub is-checked : (from : ℕ) (body : List ℕ) →
+    MatchResult (emulation_checked from body) (λ _. (place : ℕ) → IsFault body place → ⊥)
+    (λ stop. (place : ℕ) × (stop ≡ No (8 * (from + place)) Emulation) × IsFirstFault body place)
 unfolding emulation_checked
 is-checked from body = by (fault_from 0 body) (told-is 0 body)
   where
-    by : (o : Option ℕ) → IsAnswer 0 body o → MatchResult (told from o) (λ _. (place : ℕ) → IsFault body place → ⊥) (λ stop. (place : ℕ) × (stop ≡ No (8 * (from + place)) Emulation) × IsFirstFault body place)
+    by : (o : Option ℕ) → IsAnswer 0 body o →
+        MatchResult (told from o) (λ _. (place : ℕ) → IsFault body place → ⊥)
+        (λ stop. (place : ℕ) × (stop ≡ No (8 * (from + place)) Emulation) × IsFirstFault body place)
     by None a = a
     by (Some m) a = let e : m ≡ 0 + a.0 = a.1 in let s : m ≡ a.0 = omega arith in (a.0, ap (λ n. No (8 * (from + n)) Emulation) s, a.2)

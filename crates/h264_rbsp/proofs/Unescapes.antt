@@ -1,5 +1,6 @@
 -- The RBSP up to the next emulation prevention byte, and after it.
-use Rattle.std.proofs.Common.{◌≡◌, ℕ, zero, suc, ◌+◌, ◌-◌, ◌<◌, ◌≤◌, min, true, false, ◌&&◌, List, [], ◌∷◌, ◌++◌, length, take, drop, get_or, refl, ap, sym, ◌∙◌, arith, append_assoc, length-append}
+use Rattle.std.proofs.Common.{◌≡◌, ℕ, zero, suc, ◌+◌, ◌-◌, ◌<◌, ◌≤◌, min, true, false, ◌&&◌, List, [], ◌∷◌, ◌++◌, length, take, drop, get_or, refl, ap, sym}
+use Rattle.std.proofs.Common.{◌∙◌, arith, append_assoc, length-append}
 use Rattle.std.specs.Prelude.{◌==◌}
 use Rattle.std.proofs.lemmas.Bool.{and_parts, and_from, eqb-true, eq-eqb, cond-true, cond-false, false_from_ne_true}
 use Rattle.std.proofs.lemmas.List.{append-nil, length-take, length-drop, take_all, drop_all, drop-drop, get_or-drop}
@@ -23,10 +24,15 @@ module _ (x y z : ℕ) (r : List ℕ) where
       let p = and_parts ((x == 0) && (y == 0)) (z == 3) t in
       let q = and_parts (x == 0) (y == 0) p.0 in
       let e : z ≡ 3 = eqb-true z 3 p.1 in
-      record { zeros = record { following = omega arith; within = omega arith; first = eqb-true x 0 q.0; second = eqb-true y 0 q.1 }; low = omega arith; high = omega arith }
+      record {
+        zeros = record { following = omega arith; within = omega arith; first = eqb-true x 0 q.0; second = eqb-true y 0 q.1 };
+        low = omega arith;
+        high = omega arith;
+      }
 
   prevents : IsFound (x ∷ y ∷ z ∷ r) 3 2 → is_prevention x y z ≡ true
-  prevents f = and_from ((x == 0) && (y == 0)) (z == 3) (and_from (x == 0) (y == 0) (eq-eqb x 0 f.zeros.first) (eq-eqb y 0 f.zeros.second)) (eq-eqb z 3 (is-three (x ∷ y ∷ z ∷ r) 2 f))
+  prevents f = and_from ((x == 0) && (y == 0)) (z == 3) (and_from (x == 0) (y == 0) (eq-eqb x 0 f.zeros.first) (eq-eqb y 0 f.zeros.second))
+      (eq-eqb z 3 (is-three (x ∷ y ∷ z ∷ r) 2 f))
 
   passes : ¬ IsFound (x ∷ y ∷ z ∷ r) 3 2 → is_prevention x y z ≡ false
   passes n = false_from_ne_true (is_prevention x y z) (λ t. n (found-here t))
@@ -64,8 +70,10 @@ bytes-front (x ∷ y ∷ []) (suc (suc n)) f h = absurd (omega (arith, f.zeros.w
 bytes-front (x ∷ y ∷ z ∷ r) (suc (suc zero)) f h = bytes-here x y z r (prevents x y z r f)
 bytes-front (x ∷ y ∷ z ∷ r) (suc (suc (suc n))) f h =
     bytes-on x y z r (passes x y z r (h 2 (omega arith) (omega arith)))
-    ∙ ap (λ l. x ∷ l) (bytes-front (y ∷ z ∷ r) (suc (suc n)) (found-back x (y ∷ z ∷ r) (suc (suc n)) f (omega arith)) (none-following x (y ∷ z ∷ r) (suc (suc n)) h))
-    ∙ ap (λ k. x ∷ (take (suc (suc n)) (y ∷ z ∷ r) ++ rbsp_bytes (drop k (x ∷ y ∷ z ∷ r)))) (let e : suc (suc (suc n) + 1) ≡ suc (suc (suc n)) + 1 = omega arith in e)
+    ∙ ap (λ l. x ∷ l) (bytes-front (y ∷ z ∷ r) (suc (suc n)) (found-back x (y ∷ z ∷ r) (suc (suc n)) f (omega arith))
+    (none-following x (y ∷ z ∷ r) (suc (suc n)) h))
+    ∙ ap (λ k. x ∷ (take (suc (suc n)) (y ∷ z ∷ r) ++ rbsp_bytes (drop k (x ∷ y ∷ z ∷ r))))
+    (let e : suc (suc (suc n) + 1) ≡ suc (suc (suc n)) + 1 = omega arith in e)
 
 pub dropped-front : (l : List ℕ) (m n : ℕ) → IsFound l 3 n → NoneTo l n → dropped_from m l ≡ (m + n) ∷ dropped_from (m + n) (drop (n + 1) l)
 dropped-front l m zero f h = absurd (omega (arith, f.zeros.following))
@@ -78,7 +86,8 @@ dropped-front (x ∷ y ∷ z ∷ r) m (suc (suc (suc n))) f h =
     dropped-on x y z r m (passes x y z r (h 2 (omega arith) (omega arith)))
     ∙ dropped-front (y ∷ z ∷ r) (m + 1) (suc (suc n)) (found-back x (y ∷ z ∷ r) (suc (suc n)) f (omega arith)) (none-following x (y ∷ z ∷ r) (suc (suc n)) h)
     ∙ ap (λ k. k ∷ dropped_from k (drop (suc (suc n) + 1) (y ∷ z ∷ r))) (let e : m + 1 + suc (suc n) ≡ m + suc (suc (suc n)) = omega arith in e)
-    ∙ ap (λ k. (m + suc (suc (suc n))) ∷ dropped_from (m + suc (suc (suc n))) (drop k (x ∷ y ∷ z ∷ r))) (let e : suc (suc (suc n) + 1) ≡ suc (suc (suc n)) + 1 = omega arith in e)
+    ∙ ap (λ k. (m + suc (suc (suc n))) ∷ dropped_from (m + suc (suc (suc n))) (drop k (x ∷ y ∷ z ∷ r)))
+    (let e : suc (suc (suc n) + 1) ≡ suc (suc (suc n)) + 1 = omega arith in e)
 
 -- where there is none
 pub bytes-whole : (l : List ℕ) → NoneTo l (length l) → rbsp_bytes l ≡ l
@@ -86,14 +95,16 @@ unfolding rbsp_bytes
 bytes-whole [] h = refl
 bytes-whole (x ∷ []) h = refl
 bytes-whole (x ∷ y ∷ []) h = refl
-bytes-whole (x ∷ y ∷ z ∷ r) h = bytes-on x y z r (passes x y z r (h 2 (omega arith) (omega arith))) ∙ ap (λ l. x ∷ l) (bytes-whole (y ∷ z ∷ r) (none-following x (y ∷ z ∷ r) (length (y ∷ z ∷ r)) h))
+bytes-whole (x ∷ y ∷ z ∷ r) h = bytes-on x y z r (passes x y z r (h 2 (omega arith) (omega arith))) ∙
+    ap (λ l. x ∷ l) (bytes-whole (y ∷ z ∷ r) (none-following x (y ∷ z ∷ r) (length (y ∷ z ∷ r)) h))
 
 pub dropped-whole : (l : List ℕ) (m : ℕ) → NoneTo l (length l) → dropped_from m l ≡ []
 unfolding dropped_from
 dropped-whole [] m h = refl
 dropped-whole (x ∷ []) m h = refl
 dropped-whole (x ∷ y ∷ []) m h = refl
-dropped-whole (x ∷ y ∷ z ∷ r) m h = dropped-on x y z r m (passes x y z r (h 2 (omega arith) (omega arith))) ∙ dropped-whole (y ∷ z ∷ r) (m + 1) (none-following x (y ∷ z ∷ r) (length (y ∷ z ∷ r)) h)
+dropped-whole (x ∷ y ∷ z ∷ r) m h = dropped-on x y z r m (passes x y z r (h 2 (omega arith) (omega arith))) ∙
+    dropped-whole (y ∷ z ∷ r) (m + 1) (none-following x (y ∷ z ∷ r) (length (y ∷ z ∷ r)) h)
 
 -- the same in the bytes from a place on
 module _ (l : List ℕ) (start : ℕ) where
@@ -112,7 +123,12 @@ module _ (l : List ℕ) (start : ℕ) where
       let low : 3 ≤ get_or (drop start l) p 0 = f.low in
       let high : get_or (drop start l) p 0 ≤ 3 = f.high in
       record {
-        zeros = record { following = omega arith; within = omega arith; first = sym (drop-at (start + p - 2) (p - 2) e) ∙ f.zeros.first; second = sym (drop-at (start + p - 1) (p - 1) g) ∙ f.zeros.second };
+        zeros = record {
+          following = omega arith;
+          within = omega arith;
+          first = sym (drop-at (start + p - 2) (p - 2) e) ∙ f.zeros.first;
+          second = sym (drop-at (start + p - 1) (p - 1) g) ∙ f.zeros.second;
+        };
         low = omega arith;
         high = omega arith;
       }
@@ -128,13 +144,19 @@ module _ (l : List ℕ) (start : ℕ) where
       let low : 3 ≤ get_or l place 0 = f.low in
       let high : get_or l place 0 ≤ 3 = f.high in
       record {
-        zeros = record { following = omega arith; within = omega arith; first = drop-at (place - 2) (place - start - 2) e ∙ f.zeros.first; second = drop-at (place - 1) (place - start - 1) g ∙ f.zeros.second };
+        zeros = record {
+          following = omega arith;
+          within = omega arith;
+          first = drop-at (place - 2) (place - start - 2) e ∙ f.zeros.first;
+          second = drop-at (place - 1) (place - start - 1) g ∙ f.zeros.second;
+        };
         low = omega arith;
         high = omega arith;
       }
 
 -- what was copied, and what is left
-module _ (payload : List ℕ) (start : ℕ) (bytes dropped : List ℕ) (b : bytes ++ rbsp_bytes (drop start payload) ≡ rbsp_bytes payload) (d : dropped ++ dropped_from (length bytes) (drop start payload) ≡ dropped_from 0 payload) where
+module _ (payload : List ℕ) (start : ℕ) (bytes dropped : List ℕ) (b : bytes ++ rbsp_bytes (drop start payload) ≡ rbsp_bytes payload)
+    (d : dropped ++ dropped_from (length bytes) (drop start payload) ≡ dropped_from 0 payload) where
   pub all-bytes : length payload ≤ start → bytes ≡ rbsp_bytes payload
   unfolding rbsp_bytes
   all-bytes h = sym (append-nil bytes) ∙ ap (λ l. bytes ++ rbsp_bytes l) (sym (drop_all start payload h)) ∙ b
@@ -151,7 +173,8 @@ module _ (payload : List ℕ) (start : ℕ) (bytes dropped : List ℕ) (b : byte
     none-whole e p low lt f = none-part p low (let n = length-drop start payload in omega arith) f
 
     pub last-bytes : place ≡ length payload → bytes ++ take (place - start) (drop start payload) ≡ rbsp_bytes payload
-    last-bytes e = ap (λ l. bytes ++ l) (take_all (place - start) (drop start payload) (let n = length-drop start payload in omega arith) ∙ sym (bytes-whole (drop start payload) (none-whole e))) ∙ b
+    last-bytes e = ap (λ l. bytes ++ l) (take_all (place - start) (drop start payload) (let n = length-drop start payload in omega arith) ∙
+        sym (bytes-whole (drop start payload) (none-whole e))) ∙ b
 
     pub last-dropped : place ≡ length payload → dropped ≡ dropped_from 0 payload
     last-dropped e = sym (append-nil dropped) ∙ ap (λ l. dropped ++ l) (sym (dropped-whole (drop start payload) (length bytes) (none-whole e))) ∙ d
@@ -167,8 +190,10 @@ module _ (payload : List ℕ) (start : ℕ) (bytes dropped : List ℕ) (b : byte
       longer =
           let w : place < length payload = f.zeros.within in
           let n : length (drop start payload) ≡ length payload - start = length-drop start payload in
-          let t : length (take (place - start) (drop start payload)) ≡ min (place - start) (length (drop start payload)) = length-take (place - start) (drop start payload) in
-          let a : length (bytes ++ take (place - start) (drop start payload)) ≡ length bytes + length (take (place - start) (drop start payload)) = length-append bytes (take (place - start) (drop start payload)) in
+          let t : length (take (place - start) (drop start payload)) ≡ min (place - start) (length (drop start payload)) =
+          length-take (place - start) (drop start payload) in
+          let a : length (bytes ++ take (place - start) (drop start payload)) ≡ length bytes + length (take (place - start) (drop start payload)) =
+          length-append bytes (take (place - start) (drop start payload)) in
           omega arith
 
       pub more-bytes : (bytes ++ take (place - start) (drop start payload)) ++ rbsp_bytes (drop (place + 1) payload) ≡ rbsp_bytes payload
@@ -177,7 +202,8 @@ module _ (payload : List ℕ) (start : ℕ) (bytes dropped : List ℕ) (b : byte
           ∙ ap (λ l. bytes ++ (take (place - start) (drop start payload) ++ rbsp_bytes l)) (sym on)
           ∙ ap (λ l. bytes ++ l) (sym (bytes-front (drop start payload) (place - start) front none-part)) ∙ b
 
-      pub more-dropped : (dropped ++ length (bytes ++ take (place - start) (drop start payload)) ∷ []) ++ dropped_from (length (bytes ++ take (place - start) (drop start payload))) (drop (place + 1) payload) ≡ dropped_from 0 payload
+      pub more-dropped : (dropped ++ length (bytes ++ take (place - start) (drop start payload)) ∷ []) ++
+          dropped_from (length (bytes ++ take (place - start) (drop start payload))) (drop (place + 1) payload) ≡ dropped_from 0 payload
       more-dropped =
           ap (λ n. (dropped ++ n ∷ []) ++ dropped_from n (drop (place + 1) payload)) longer
           ∙ append_assoc dropped ((length bytes + (place - start)) ∷ []) (dropped_from (length bytes + (place - start)) (drop (place + 1) payload))

@@ -48,14 +48,18 @@ beside_is n a l c own left above corner column row e e' e'' columns rows = recor
 }
 
 -- a prediction from them is that of the samples round the macroblock
-pub has16 : (mode : Intra16x16PredMode) (a : Available) (d : Sides) (p q : ℕ → ℕ → ℕ) (out : List ℕ) → d ≡ sides_of a → IsTrue (is_possible16 mode (sides_of a)) →
-    SameSides 16 (sides_of a) p q → (IsTrue (is_possible16 mode d) → HasSamples 16 out (predicted16 mode d p)) → HasSamples 16 out (predicted16 mode (sides_of a) q)
+pub has16 : (mode : Intra16x16PredMode) (a : Available) (d : Sides) (p q : ℕ → ℕ → ℕ) (out : List ℕ) → d ≡ sides_of a →
+    IsTrue (is_possible16 mode (sides_of a)) →
+    SameSides 16 (sides_of a) p q → (IsTrue (is_possible16 mode d) → HasSamples 16 out (predicted16 mode d p)) →
+    HasSamples 16 out (predicted16 mode (sides_of a) q)
 has16 mode a d p q out e ok same has = record {
   each = λ x y i j. (has (rw e ok)).each x y i j ∙ ap (λ z. predicted16 mode z p x y) e ∙ predicted16_same mode (sides_of a) p q x y ok i j same;
 }
 
-pub has_chroma : (mode : IntraChromaPredMode) (a : Available) (d : Sides) (p q : ℕ → ℕ → ℕ) (out : List ℕ) → d ≡ sides_of a → IsTrue (is_possible_chroma mode (sides_of a)) →
-    SameSides 8 (sides_of a) p q → (IsTrue (is_possible_chroma mode d) → HasSamples 8 out (predicted_chroma mode d p)) → HasSamples 8 out (predicted_chroma mode (sides_of a) q)
+pub has_chroma : (mode : IntraChromaPredMode) (a : Available) (d : Sides) (p q : ℕ → ℕ → ℕ) (out : List ℕ) → d ≡ sides_of a →
+    IsTrue (is_possible_chroma mode (sides_of a)) →
+    SameSides 8 (sides_of a) p q → (IsTrue (is_possible_chroma mode d) → HasSamples 8 out (predicted_chroma mode d p)) →
+    HasSamples 8 out (predicted_chroma mode (sides_of a) q)
 has_chroma mode a d p q out e ok same has = record {
   each = λ x y i j. (has (rw e ok)).each x y i j ∙ ap (λ z. predicted_chroma mode z p x y) e ∙ predicted_chroma_same mode (sides_of a) p q x y ok i j same;
 }
@@ -96,7 +100,9 @@ block_beside a x y s n column row corner l t r m el et er em nl na nc columns ro
 }
 
 -- the prediction of a block from them
-pub has4 : (d e : Intra4x4PredMode) (t s : Sides4) (p q : ℕ → ℕ → ℕ) (out : List ℕ) (i j : ℕ) → i < 4 → j < 4 → d ≡ e → t ≡ s → IsTrue (is_possible4 e s) → SameSides4 s p q →
+pub has4 : (d e : Intra4x4PredMode) (t s : Sides4) (p q : ℕ → ℕ → ℕ) (out : List ℕ) (i j : ℕ) → i < 4 → j < 4 → d ≡ e → t ≡ s → IsTrue (is_possible4 e s) →
+    SameSides4 s p q →
     (IsTrue (is_possible4 d t) → HasSamples 4 out (predicted4 d t p)) → slice_index out (4 * j + i) ≡ predicted4 e s q i j
 has4 d e t s p q out i j a b same sides ok agree has =
-    (has (rw (same, sides) ok)).each i j a b ∙ ap (λ z. predicted4 z t p i j) same ∙ ap (λ z. predicted4 e z p i j) sides ∙ predicted4_same e s p q i j ok a b agree
+    (has (rw (same, sides) ok)).each i j a b ∙ ap (λ z. predicted4 z t p i j) same ∙ ap (λ z. predicted4 e z p i j) sides ∙
+    predicted4_same e s p q i j ok a b agree

@@ -1,5 +1,6 @@
 -- The residual of a macroblock, added block by block.
-use Rattle.std.proofs.Common.{◌≡◌, ◌≢◌, ◌⊎◌, inl, inr, ⊎_elim, ℕ, ◌+◌, ◌*◌, ◌/◌, ◌%◌, ◌<◌, ◌≤◌, List, [], slice_index, get_or, replicate, ℤ, pos, ◌+ℤ◌, arith, refl, sym, ap, ◌∙◌}
+use Rattle.std.proofs.Common.{◌≡◌, ◌≢◌, ◌⊎◌, inl, inr, ⊎_elim, ℕ, ◌+◌, ◌*◌, ◌/◌, ◌%◌, ◌<◌, ◌≤◌, List, [], slice_index, get_or, replicate, ℤ, pos, ◌+ℤ◌, arith}
+use Rattle.std.proofs.Common.{refl, sym, ap, ◌∙◌}
 use Rattle.std.proofs.lemmas.Bool.{cases_lt, cases_eq}
 use Rattle.h264_plane.specs.Clip.{clip1}
 use Rattle.h264_plane.specs.Places.{index_of, column_of, row_of}
@@ -18,7 +19,8 @@ use Rattle.h264_recon.specs.declared.store.Samples.{Samples}
 
 -- without levels it has no residual
 no_levels : (qp i j : ℕ) → i < 4 → j < 4 → residual_at (d_of (replicate 16 (pos 0)) qp) i j ≡ pos 0
-no_levels qp i j p q = sym ((plain_entries (d_of (replicate 16 (pos 0)) qp)).each i j p q) ∙ (plain_entries (d_of [] qp)).each i j p q ∙ none_residual qp i j p q
+no_levels qp i j p q = sym ((plain_entries (d_of (replicate 16 (pos 0)) qp)).each i j p q) ∙ (plain_entries (d_of [] qp)).each i j p q ∙
+    none_residual qp i j p q
 
 pub none_plain : (qp : ℕ) → HasEntries [] (residual_at (d_of (replicate 16 (pos 0)) qp))
 none_plain qp = record { each = λ i j p q. sym (no_levels qp i j p q) }
@@ -30,7 +32,8 @@ pub none_with_dc : (qp : ℕ) → HasEntries [] (residual_at (d_with_dc (pos 0) 
 none_with_dc qp = record { each = λ i j p q. sym (no_dc_residual qp i j p q) }
 
 -- with a residual
-pub block_some : (n x y : ℕ) (old new : List ℕ) (r : List ℤ) (f : ℕ → ℕ → ℤ) → IsBlockAdded n old new x y (λ j i. get_or r (4 * j + i) (pos 0)) → HasEntries r f → IsBlockAdded n old new x y f
+pub block_some : (n x y : ℕ) (old new : List ℕ) (r : List ℤ) (f : ℕ → ℕ → ℤ) → IsBlockAdded n old new x y (λ j i. get_or r (4 * j + i) (pos 0)) →
+    HasEntries r f → IsBlockAdded n old new x y f
 block_some n x y old new r f b has = record {
   here = λ i j p q. b.here i j p q ∙ ap (λ z. clip1 (pos (slice_index old (place n x y i j)) +ℤ z)) (has.each j i q p);
   kept = b.kept;
@@ -71,7 +74,8 @@ apart number x y u v b e other =
     (λ differ. inl differ) (cases_eq u x)
 
 added_more : (n b : ℕ) (number : ℕ → ℕ → ℕ) (f : ℕ → ℕ → ℕ → ℕ → ℤ) (x y : ℕ) (old own new : List ℕ) → number x y ≡ b →
-    ((u v : ℕ) → 4 * u + 4 ≤ n → 4 * v + 4 ≤ n → number u v ≡ b → (u ≡ x) × (v ≡ y)) → AreBlocksAdded n b number f old own → IsBlockAdded n own new x y (f x y) →
+    ((u v : ℕ) → 4 * u + 4 ≤ n → 4 * v + 4 ≤ n → number u v ≡ b → (u ≡ x) × (v ≡ y)) → AreBlocksAdded n b number f old own →
+    IsBlockAdded n own new x y (f x y) →
     AreBlocksAdded n (b + 1) number f old new
 added_more n b number f x y old own new e once done put = record {
   each = λ u v i j p q d d' less. ⊎_elim
@@ -82,10 +86,12 @@ added_more n b number f x y old own new e once done put = record {
       let kept = done.rest u v i j p q d d' here in
       rw (same.0, same.1) (put.here i j d d' ∙ ap (λ z. clip1 (pos z +ℤ f x y j i)) (rw (same.0, same.1) at kept)))
       (cases_lt (number u v) b);
-  rest = λ u v i j p q d d' most. put.kept u v i j p q d d' (apart number x y u v b e (λ same. absurd (omega arith))) ∙ done.rest u v i j p q d d' (omega arith);
+  rest = λ u v i j p q d d' most. put.kept u v i j p q d d' (apart number x y u v b e (λ same. absurd (omega arith))) ∙
+      done.rest u v i j p q d d' (omega arith);
 }
 
-pub luma_more : (b : ℕ) (f : ℕ → ℕ → ℕ → ℕ → ℤ) (old own new : List ℕ) → b < 16 → AreBlocksAdded 16 b index_of f old own → IsBlockAdded 16 own new (column_of b) (row_of b) (f (column_of b) (row_of b)) →
+pub luma_more : (b : ℕ) (f : ℕ → ℕ → ℕ → ℕ → ℤ) (old own new : List ℕ) → b < 16 → AreBlocksAdded 16 b index_of f old own →
+    IsBlockAdded 16 own new (column_of b) (row_of b) (f (column_of b) (row_of b)) →
     AreBlocksAdded 16 (b + 1) index_of f old new
 luma_more b f old own new p done put =
     added_more 16 b index_of f (column_of b) (row_of b) old own new (index_back b p) (λ u v i j e. index_once b u v (omega arith) (omega arith) e) done put
@@ -96,7 +102,8 @@ raster_once b u v p i j e = (omega arith, omega arith)
 raster_back : (b : ℕ) → b < 4 → raster (b % 2) (b / 2) ≡ b
 raster_back b p = omega arith
 
-pub chroma_more : (b : ℕ) (f : ℕ → ℕ → ℕ → ℕ → ℤ) (old own new : List ℕ) → b < 4 → AreBlocksAdded 8 b raster f old own → IsBlockAdded 8 own new (b % 2) (b / 2) (f (b % 2) (b / 2)) →
+pub chroma_more : (b : ℕ) (f : ℕ → ℕ → ℕ → ℕ → ℤ) (old own new : List ℕ) → b < 4 → AreBlocksAdded 8 b raster f old own →
+    IsBlockAdded 8 own new (b % 2) (b / 2) (f (b % 2) (b / 2)) →
     AreBlocksAdded 8 (b + 1) raster f old new
 chroma_more b f old own new p done put = added_more 8 b raster f (b % 2) (b / 2) old own new (raster_back b p) (λ u v i j e. raster_once b u v p i j e) done put
 

@@ -1,5 +1,6 @@
 -- The equations have a solution: block by block in decoding order, macroblock by macroblock.
-use Rattle.std.proofs.Common.{◌≡◌, ◌≢◌, ◌⊎◌, inl, inr, ⊎_elim, ℕ, zero, suc, ◌+◌, ◌-◌, ◌*◌, ◌/◌, ◌<◌, ◌≤◌, Bool, true, false, cond, ◌&&◌, nat_lt, arith, refl, sym, ap, ◌∙◌}
+use Rattle.std.proofs.Common.{◌≡◌, ◌≢◌, ◌⊎◌, inl, inr, ⊎_elim, ℕ, zero, suc, ◌+◌, ◌-◌, ◌*◌, ◌/◌, ◌<◌, ◌≤◌, Bool, true, false, cond, ◌&&◌, nat_lt, arith, refl}
+use Rattle.std.proofs.Common.{sym, ap, ◌∙◌}
 use Rattle.std.specs.Prelude.{nat_eq}
 use Rattle.std.proofs.lemmas.Bool.Decides.{nat_tests}
 use Rattle.std.proofs.lemmas.Bool.{cases_lt, cond-true, cond-false}
@@ -56,11 +57,13 @@ stays (suc n) k c r m p s x y less = ⊎_elim
     let e : index_of (x / 4) (y / 4) ≡ n = omega arith in
     let column : x + 1 - 1 ≡ x = omega arith in
     let row : y + 1 - 1 ≡ y = omega arith in
-    cond-true _ _ _ (test_own n x y e) ∙ ap (λ z. made k (position_at c r) m p (built n k c r m p s) z (y + 1 - 1)) column ∙ ap (λ z. made k (position_at c r) m p (built n k c r m p s) x z) row
+    cond-true _ _ _ (test_own n x y e) ∙ ap (λ z. made k (position_at c r) m p (built n k c r m p s) z (y + 1 - 1)) column ∙
+    ap (λ z. made k (position_at c r) m p (built n k c r m p s) x z) row
     ∙ ap (λ z. made k (position_at c r) m p (built z k c r m p s) x y) (sym e))
     (cases_lt (index_of (x / 4) (y / 4)) n)
 
-sides_stay : (a b : ℕ) (k : Setting) (c r : ℕ) (m : Coded) (p : Component) (s : ℕ → ℕ → ℕ) → SidesAgree (side p) m.available (built a k c r m p s) (built b k c r m p s)
+sides_stay : (a b : ℕ) (k : Setting) (c r : ℕ) (m : Coded) (p : Component) (s : ℕ → ℕ → ℕ) →
+    SidesAgree (side p) m.available (built a k c r m p s) (built b k c r m p s)
 sides_stay a b k c r m p s = record {
   left = λ t q i. outer a k c r m p s 0 (q + 1) (inl refl) ∙ sym (outer b k c r m p s 0 (q + 1) (inl refl));
   above = λ t q i. outer a k c r m p s (q + 1) 0 (inr refl) ∙ sym (outer b k c r m p s (q + 1) 0 (inr refl));
@@ -71,7 +74,8 @@ sides_stay a b k c r m p s = record {
 quotient : (x i : ℕ) → i < 4 → (4 * x + i) / 4 ≡ x
 quotient x i p = omega arith
 
-blocks_stay : (a b n : ℕ) (k : Setting) (c r : ℕ) (m : Coded) (p : Component) (s : ℕ → ℕ → ℕ) → n ≤ a → n ≤ b → BlocksAgree (side p) n (built a k c r m p s) (built b k c r m p s)
+blocks_stay : (a b n : ℕ) (k : Setting) (c r : ℕ) (m : Coded) (p : Component) (s : ℕ → ℕ → ℕ) → n ≤ a → n ≤ b →
+    BlocksAgree (side p) n (built a k c r m p s) (built b k c r m p s)
 blocks_stay a b n k c r m p s f g = record {
   each = λ x y i j q q' d e less.
       let number : index_of ((4 * x + i) / 4) ((4 * y + j) / 4) < n = rw (quotient x i d, quotient y j e) less in
@@ -82,14 +86,16 @@ few_blocks : (x y : ℕ) → x < 16 → y < 16 → index_of (x / 4) (y / 4) < 16
 few_blocks x y p q = omega arith
 
 -- all of them meet the equations
-built_made : (k : Setting) (c r : ℕ) (m : Coded) (p : Component) (s : ℕ → ℕ → ℕ) → IsPossible m.prediction m.available → IsMadeIn k c r m p (built 16 k c r m p s)
+built_made : (k : Setting) (c r : ℕ) (m : Coded) (p : Component) (s : ℕ → ℕ → ℕ) → IsPossible m.prediction m.available →
+    IsMadeIn k c r m p (built 16 k c r m p s)
 built_made k c r m p s ok = record {
   each = λ x y i j.
       let most = side_most p in
       let b = index_of (x / 4) (y / 4) in
       let few = few_blocks x y (omega arith) (omega arith) in
       stays 16 k c r m p s x y few
-      ∙ made_by_same m.prediction k c r m p (built b k c r m p s) (built 16 k c r m p s) x y i j ok (sides_stay b 16 k c r m p s) (blocks_stay b 16 b k c r m p s (omega arith) (omega arith));
+      ∙ made_by_same m.prediction k c r m p (built b k c r m p s) (built 16 k c r m p s) x y i j ok (sides_stay b 16 k c r m p s)
+      (blocks_stay b 16 b k c r m p s (omega arith) (omega arith));
 }
 
 -- ---- a picture with one macroblock more
@@ -102,13 +108,17 @@ abbrev next : Setting → ℕ → ℕ → Coded → (Component → ℕ → ℕ �
 next k c r m u p = with_own (side p) c r (placed (side p) c r (built 16 k c r m p (window (side p) (u p) c r))) (u p)
 
 next_before : (k : Setting) (c r : ℕ) (m : Coded) (u : Component → ℕ → ℕ → ℕ) (p : Component) → Agree (side p) k.across c r (u p) (next k c r m u p)
-next_before k c r m u p = record { each = λ x y i b. sym (own_out (side p) c r (placed (side p) c r (built 16 k c r m p (window (side p) (u p) c r))) (u p) x y b) }
+next_before k c r m u p = record {
+  each =
+      λ x y i b. sym (own_out (side p) c r (placed (side p) c r (built 16 k c r m p (window (side p) (u p) c r))) (u p) x y b);
+}
 
 next_own : (k : Setting) (c r : ℕ) (m : Coded) (u : Component → ℕ → ℕ → ℕ) (p : Component) (x y : ℕ) → x < side p → y < side p →
     next k c r m u p (side p * c + x) (side p * r + y) ≡ built 16 k c r m p (window (side p) (u p) c r) (x + 1) (y + 1)
 next_own k c r m u p x y i j =
     own_in (side p) c r (placed (side p) c r (built 16 k c r m p (window (side p) (u p) c r))) (u p) x y i j
-    ∙ moved (built 16 k c r m p (window (side p) (u p) c r)) (side p * c + x - side p * c + 1) (side p * r + y - side p * r + 1) (x + 1) (y + 1) (omega arith) (omega arith)
+    ∙ moved (built 16 k c r m p (window (side p) (u p) c r)) (side p * c + x - side p * c + 1) (side p * r + y - side p * r + 1) (x + 1) (y + 1) (omega arith)
+    (omega arith)
 
 sides_over : (n : ℕ) (a : Available) (s t u : ℕ → ℕ → ℕ) → SidesAgree n a s t → SidesAgree n a t u → SidesAgree n a s u
 sides_over n a s t u h g = record {
@@ -170,7 +180,8 @@ carried k c r d e m u v inside earlier ok agree mu = record {
       λ a b f g. (agree p).each (side p * d + a) (side p * e + b) (omega arith) (earlier_own (side p) c r d e a b earlier f g) in
       sym (own x y i j) ∙ mu.each p x y i j
       ∙ made_by_same m.prediction k d e m p (window (side p) (u p) d e) (window (side p) (v p) d e) x y i j ok.possible
-      (sides_before (side p) k.across d e m.available (u p) (v p) (side_least p) inside ok.within (agree_earlier (side p) k.across c r d e (u p) (v p) earlier (agree p)))
+      (sides_before (side p) k.across d e m.available (u p) (v p) (side_least p) inside ok.within
+      (agree_earlier (side p) k.across c r d e (u p) (v p) earlier (agree p)))
       (record {
         each = λ a b f g h h' q q' less.
             moved (u p) _ _ (side p * d + (4 * a + f)) (side p * e + (4 * b + g)) (omega arith) (omega arith)
@@ -189,12 +200,14 @@ pub record Solved (k : Setting) (macroblock : ℕ → Coded) (c r : ℕ) : Type 
 abbrev AreAllowed : Setting → (ℕ → Coded) → Type 0
 AreAllowed k macroblock = (c r : ℕ) → c < k.across → r < k.down → IsAllowed (macroblock (r * k.across + c)) k.across c r
 
-solved_next : (k : Setting) (macroblock : ℕ → Coded) (c r : ℕ) → AreAllowed k macroblock → c < k.across → r < k.down → Solved k macroblock c r → Solved k macroblock (c + 1) r
+solved_next : (k : Setting) (macroblock : ℕ → Coded) (c r : ℕ) → AreAllowed k macroblock → c < k.across → r < k.down → Solved k macroblock c r →
+    Solved k macroblock (c + 1) r
 solved_next k macroblock c r ok i j s = record {
   samples = next k c r (macroblock (r * k.across + c)) s.samples;
   made = λ d e f earlier. ⊎_elim
       (λ (before : IsEarlier c r d e).
-      carried k c r d e (macroblock (e * k.across + d)) s.samples (next k c r (macroblock (r * k.across + c)) s.samples) f before (ok d e f (row_below d e before))
+      carried k c r d e (macroblock (e * k.across + d)) s.samples (next k c r (macroblock (r * k.across + c)) s.samples) f before
+      (ok d e f (row_below d e before))
       (λ p. next_before k c r (macroblock (r * k.across + c)) s.samples p) (s.made d e f before))
       (λ same. rw (same.0, same.1) (next_made k c r (macroblock (r * k.across + c)) s.samples i (ok c r i j)))
       (here_or_before d e earlier);

@@ -1,5 +1,6 @@
 -- The residual of a macroblock by the levels that it has.
-use Rattle.std.proofs.Common.{◌≡◌, ◌↔◌, ℕ, ◌+◌, ◌*◌, ◌/◌, ◌%◌, ◌<◌, Bool, true, false, ◌&&◌, IsTrue, IsOk, IfOk, Result, Ok, Err, List, [], get_or, replicate, ℤ, pos, arith, refl, sym, ap, ◌∙◌}
+use Rattle.std.proofs.Common.{◌≡◌, ◌↔◌, ℕ, ◌+◌, ◌*◌, ◌/◌, ◌%◌, ◌<◌, Bool, true, false, ◌&&◌, IsTrue, IsOk, IfOk, Result, Ok, Err, List, [], get_or, replicate}
+use Rattle.std.proofs.Common.{ℤ, pos, arith, refl, sym, ap, ◌∙◌}
 use Rattle.h264_plane.specs.Places.{index_of, column_of, row_of}
 use Rattle.h264_plane.specs.declared.frame.Component.TheVariants.{Y}
 use Rattle.h264_plane.proofs.Raster.{index_back}
@@ -16,7 +17,8 @@ use Rattle.h264_scale.specs.declared.levels.Levels.{Levels}
 use Rattle.h264_scale.specs.declared.levels.LumaLevels.TheVariants as luma
 use Rattle.h264_scale.specs.declared.levels.ChromaLevels.{ChromaLevels}
 use Rattle.h264_scale.specs.declared.levels.ChromaLevels.TheVariants as chroma
-use Rattle.h264_scale.proofs.Whole.{d_of_blocks, d_of_dc16, d_of_dc2, luma_whole, levels_whole, not_coded_luma_fits, not_coded_chroma_fits, all_to, none_fit, none_residual}
+use Rattle.h264_scale.proofs.Whole.{d_of_blocks, d_of_dc16, d_of_dc2, luma_whole, levels_whole, not_coded_luma_fits, not_coded_chroma_fits, all_to, none_fit}
+use Rattle.h264_scale.proofs.Whole.{none_residual}
 use Rattle.h264_recon.specs.Levels.{are_blank, are_zero, luma_blocks, chroma_blocks}
 use Rattle.h264_recon.specs.ReadLevels.{luma_by, luma_read, luma16_read, chroma_read, chroma_by, is_pcm, levels_in, d_in, AreBlocksOf}
 use Rattle.h264_recon.specs.Residuals.{IsChromaOf}
@@ -28,7 +30,8 @@ use Rattle.h264_recon.specs.declared.scaled.LumaBlocks.TheVariants.{NotCoded, Pl
 use Rattle.h264_recon.proofs.Tables.{table-at}
 
 -- a plane whose DC levels are 0, and which has no others
-pub uncoded : (t t' : List ℕ) (d d' : List ℤ) (ac : List (List ℤ)) (b : Bool) → b ≡ true → b ≡ (are_zero d && are_blank t) → d ≡ d' → t ≡ t' → chroma.NotCoded ≡ chroma_blocks t' d' ac
+pub uncoded : (t t' : List ℕ) (d d' : List ℤ) (ac : List (List ℤ)) (b : Bool) → b ≡ true → b ≡ (are_zero d && are_blank t) → d ≡ d' → t ≡ t' →
+    chroma.NotCoded ≡ chroma_blocks t' d' ac
 unfolding chroma_blocks
 uncoded t t' d d' ac b p is e f =
     let none : (are_zero d && are_blank t) ≡ true = sym is ∙ p in
@@ -39,7 +42,8 @@ pub coded_luma : (t : List ℕ) (blocks : List (List ℤ)) (b : Bool) → b ≡ 
 unfolding luma_blocks
 coded_luma t blocks b n is = let some : are_blank t ≡ false = sym is ∙ n in rw some refl
 
-pub coded_chroma : (t : List ℕ) (d d' : List ℤ) (ac : List (List ℤ)) (b : Bool) → b ≡ false → b ≡ (are_zero d && are_blank t) → d ≡ d' → chroma.WithDc (record { dc = d; ac = ac }) ≡ chroma_blocks t d' ac
+pub coded_chroma : (t : List ℕ) (d d' : List ℤ) (ac : List (List ℤ)) (b : Bool) → b ≡ false → b ≡ (are_zero d && are_blank t) → d ≡ d' →
+    chroma.WithDc (record { dc = d; ac = ac }) ≡ chroma_blocks t d' ac
 unfolding chroma_blocks
 coded_chroma t d d' ac b n is e =
     let some : (are_zero d && are_blank t) ≡ false = sym is ∙ n in
@@ -55,7 +59,8 @@ pub uncoded_of : (qp : ℕ) → AreBlocksOf qp NotCoded luma.NotCoded
 unfolding luma_d luma_dc_fits
 uncoded_of qp = record { dc = refl; each = λ x y p q. refl }
 
-pub plain_of : (qp : ℕ) (mb : Macroblock) (b : PlainBlocks) → b.totals.now ≡ mb.contexts.totals → b.levels.now ≡ mb.residual.luma → are_blank mb.contexts.totals ≡ false → AreBlocksOf qp (Plain b) (luma_read mb)
+pub plain_of : (qp : ℕ) (mb : Macroblock) (b : PlainBlocks) → b.totals.now ≡ mb.contexts.totals → b.levels.now ≡ mb.residual.luma →
+    are_blank mb.contexts.totals ≡ false → AreBlocksOf qp (Plain b) (luma_read mb)
 unfolding luma_blocks luma_dc_fits
 plain_of qp mb b e f some = rw (e, f, some) (record {
   dc = refl;
@@ -65,7 +70,8 @@ plain_of qp mb b e f some = rw (e, f, some) (record {
 })
 
 pub dc16_of : (qp : ℕ) (mb : Macroblock) (b : BlocksWithDc) → b.totals.now ≡ mb.contexts.totals → b.levels.now ≡ mb.residual.luma_ac →
-    HasEntries b.dc (dc16_at (shown 16 mb.residual.luma_dc_total mb.residual.luma_dc) qp) → dc16_fits (shown 16 mb.residual.luma_dc_total mb.residual.luma_dc) qp ≡ true → AreBlocksOf qp (WithDc b) (luma16_read mb)
+    HasEntries b.dc (dc16_at (shown 16 mb.residual.luma_dc_total mb.residual.luma_dc) qp) →
+    dc16_fits (shown 16 mb.residual.luma_dc_total mb.residual.luma_dc) qp ≡ true → AreBlocksOf qp (WithDc b) (luma16_read mb)
 unfolding luma_dc_fits
 dc16_of qp mb b e f has fits = rw (e, f) (record {
   dc = fits;
@@ -74,38 +80,50 @@ dc16_of qp mb b e f has fits = rw (e, f) (record {
       d_of_dc16 qp x y _ (levels (index_of x y)) b.dc _ p q (sym (table-at 16 levels (index_of x y) [] (omega arith))) refl has;
 })
 
-pub plain_at : (qp b : ℕ) (p : PlainBlocks) (l : List ℤ) → b < 16 → l ≡ get_or p.levels.now b (replicate 16 (pos 0)) → d_of (shown 16 (get_or p.totals.now b 0) l) qp ≡ d_in qp (Plain p) (column_of b) (row_of b)
+pub plain_at : (qp b : ℕ) (p : PlainBlocks) (l : List ℤ) → b < 16 → l ≡ get_or p.levels.now b (replicate 16 (pos 0)) →
+    d_of (shown 16 (get_or p.totals.now b 0) l) qp ≡ d_in qp (Plain p) (column_of b) (row_of b)
 plain_at qp b p l i e =
     ap (λ z. d_of (shown 16 (get_or p.totals.now b 0) z) qp) e
     ∙ ap (λ n. d_of (shown 16 (get_or p.totals.now n 0) (get_or p.levels.now n (replicate 16 (pos 0)))) qp) (sym (index_back b i))
 
-pub with_dc_at : (qp b : ℕ) (w : BlocksWithDc) (dc : ℤ) (l : List ℤ) → b < 16 → dc ≡ get_or w.dc (4 * row_of b + column_of b) (pos 0) → l ≡ get_or w.levels.now b (replicate 15 (pos 0)) →
+pub with_dc_at : (qp b : ℕ) (w : BlocksWithDc) (dc : ℤ) (l : List ℤ) → b < 16 → dc ≡ get_or w.dc (4 * row_of b + column_of b) (pos 0) →
+    l ≡ get_or w.levels.now b (replicate 15 (pos 0)) →
     d_with_dc dc (shown 15 (get_or w.totals.now b 0) l) qp ≡ d_in qp (WithDc w) (column_of b) (row_of b)
 with_dc_at qp b w dc l i same e =
     ap (λ z. d_with_dc z (shown 15 (get_or w.totals.now b 0) l) qp) same
     ∙ ap (λ z. d_with_dc (get_or w.dc (4 * row_of b + column_of b) (pos 0)) (shown 15 (get_or w.totals.now b 0) z) qp) e
-    ∙ ap (λ n. d_with_dc (get_or w.dc (4 * row_of b + column_of b) (pos 0)) (shown 15 (get_or w.totals.now n 0) (get_or w.levels.now n (replicate 15 (pos 0)))) qp) (sym (index_back b i))
+    ∙ ap (λ n. d_with_dc (get_or w.dc (4 * row_of b + column_of b) (pos 0))
+    (shown 15 (get_or w.totals.now n 0) (get_or w.levels.now n (replicate 15 (pos 0)))) qp) (sym (index_back b i))
 
 -- ---- macroblocks of which no block has a level
 
 pub uncoded_fits : (qp : ℕ) (l : LumaLevels) → AreBlocksOf qp NotCoded l → luma_fits qp l ≡ true
-uncoded_fits qp l h = luma_whole qp l h.dc (all_to 16 _ (λ b p. ap residual_fits (sym (h.each (column_of b) (row_of b) (omega arith) (omega arith))) ∙ none_fit qp))
+uncoded_fits qp l h = luma_whole qp l h.dc
+    (all_to 16 _ (λ b p. ap residual_fits (sym (h.each (column_of b) (row_of b) (omega arith) (omega arith))) ∙ none_fit qp))
 
 pub uncoded_luma : (l : Levels) → AreBlocksOf l.qp NotCoded l.luma → (x y : ℕ) → x < 16 → y < 16 → residual l Y x y ≡ pos 0
 unfolding residual block_d
 uncoded_luma l h x y p q =
-    ap (λ d. residual_at d (y % 4) (x % 4)) (sym (h.each (x / 4) (y / 4) (omega arith) (omega arith))) ∙ none_residual l.qp (y % 4) (x % 4) (omega arith) (omega arith)
+    ap (λ d. residual_at d (y % 4) (x % 4)) (sym (h.each (x / 4) (y / 4) (omega arith) (omega arith))) ∙
+    none_residual l.qp (y % 4) (x % 4) (omega arith) (omega arith)
 
 -- ---- chroma
 
-pub chroma_of : {A E : Type 0} (qp qp' : ℕ) (v l : ChromaLevels) (r : Result A E) (old new : List ℕ) → IsChromaOf qp v r old new → qp ≡ qp' → v ≡ l → IsChromaOf qp' l r old new
+pub chroma_of : {A E : Type 0} (qp qp' : ℕ) (v l : ChromaLevels) (r : Result A E) (old new : List ℕ) → IsChromaOf qp v r old new → qp ≡ qp' → v ≡ l →
+    IsChromaOf qp' l r old new
 chroma_of qp qp' v l r old new h q e = rw (sym q, sym e) h
 
-pub plane_at : (qp c b : ℕ) (mb : Macroblock) (d dcs : List ℤ) (dc : ℤ) → b < 4 → dc ≡ get_or dcs (2 * (b / 2) + b % 2) (pos 0) → HasEntries2 dcs (dc2_at d qp) →
+pub plane_at : (qp c b : ℕ) (mb : Macroblock) (d dcs : List ℤ) (dc : ℤ) → b < 4 → dc ≡ get_or dcs (2 * (b / 2) + b % 2) (pos 0) →
+    HasEntries2 dcs (dc2_at d qp) →
     d_with_dc dc (shown 15 (get_or mb.contexts.chroma_totals (4 * c + b) 0) (get_or mb.residual.chroma_ac (4 * c + b) (replicate 15 (pos 0)))) qp
-    ≡ chroma_d qp (chroma.WithDc (record { dc = d; ac = table 4 (λ k. shown 15 (get_or mb.contexts.chroma_totals (4 * c + k) 0) (get_or mb.residual.chroma_ac (4 * c + k) (replicate 15 (pos 0)))) })) (b % 2) (b / 2)
+    ≡ chroma_d qp (chroma.WithDc (record {
+      dc = d;
+      ac = table 4 (λ k. shown 15 (get_or mb.contexts.chroma_totals (4 * c + k) 0) (get_or mb.residual.chroma_ac (4 * c + k) (replicate 15 (pos 0))));
+    }))
+    (b % 2) (b / 2)
 plane_at qp c b mb d dcs dc i same has =
-    let levels : ℕ → List ℤ = λ k. shown 15 (get_or mb.contexts.chroma_totals (4 * c + k) 0) (get_or mb.residual.chroma_ac (4 * c + k) (replicate 15 (pos 0))) in
+    let levels : ℕ → List ℤ = λ k. shown 15 (get_or mb.contexts.chroma_totals (4 * c + k) 0)
+    (get_or mb.residual.chroma_ac (4 * c + k) (replicate 15 (pos 0))) in
     let back : 2 * (b / 2) + b % 2 ≡ b = omega arith in
     d_of_dc2 qp (b % 2) (b / 2) _ (levels b) dcs dc (omega arith) (omega arith)
     (sym (table-at 4 levels b [] i) ∙ ap (λ n. get_or (table 4 levels) n []) (sym back)) same has

@@ -38,7 +38,8 @@ unfolding made_by
 made_pcm k c r m p s x y bytes e = rw e refl
 
 -- Intra_4x4
-pub blocks_made : (luma : IntraLuma) (modes : List Intra4x4PredMode) (a : Available) (levels : Levels) (c : ℕ) (l : Store) (own : List ℕ) → luma ≡ Blocks modes →
+pub blocks_made : (luma : IntraLuma) (modes : List Intra4x4PredMode) (a : Available) (levels : Levels) (c : ℕ) (l : Store) (own : List ℕ) → luma ≡
+    Blocks modes →
     AreMade4 16 (intra4 modes a (λ x y. residual_at (luma_d levels.qp levels.luma x y))) l c own → IsLumaMade luma a levels c l own
 unfolding predicted_luma residual block_d
 blocks_made luma modes a levels c l own e made = record {
@@ -49,14 +50,16 @@ blocks_made luma modes a levels c l own e made = record {
 }
 
 -- Intra_16x16
-pub whole_made : (luma : IntraLuma) (mode : Intra16x16PredMode) (a : Available) (levels : Levels) (c : ℕ) (l : Store) (predicted own : List ℕ) → luma ≡ Whole mode →
+pub whole_made : (luma : IntraLuma) (mode : Intra16x16PredMode) (a : Available) (levels : Levels) (c : ℕ) (l : Store) (predicted own : List ℕ) → luma ≡
+    Whole mode →
     HasSamples 16 predicted (predicted16 mode (sides_of a) (local 16 l c own)) → IsAdded levels Y predicted own → IsLumaMade luma a levels c l own
 unfolding predicted_luma
 whole_made luma mode a levels c l predicted own e has sum = record {
   each = λ x y i j. rw e (sum.each x y i j ∙ ap (λ n. clip1 (pos n +ℤ residual levels Y x y)) (has.each x y i j));
 }
 
-pub luma_made : (k : Setting) (c r : ℕ) (m : Coded) (l : Store) (own : List ℕ) (modes : IntraModes) → m.prediction ≡ Intra modes → IsLumaMade modes.luma m.available m.levels c l own → IsMadeFrom k (position_at c r) m Y l own
+pub luma_made : (k : Setting) (c r : ℕ) (m : Coded) (l : Store) (own : List ℕ) (modes : IntraModes) → m.prediction ≡ Intra modes →
+    IsLumaMade modes.luma m.available m.levels c l own → IsMadeFrom k (position_at c r) m Y l own
 unfolding predicted_intra
 luma_made k c r m l own modes e made = record {
   each = λ x y i j. made.each x y i j ∙ sym (made_intra k c r m Y (local 16 l c own) x y modes e);
@@ -64,7 +67,8 @@ luma_made k c r m l own modes e made = record {
 
 -- chroma
 pub mode_made : (b : Bool) (mode : IntraChromaPredMode) (a : Available) (levels : Levels) (c : ℕ) (l : Store) (predicted own : List ℕ) →
-    HasSamples 8 predicted (predicted_chroma mode (sides_of a) (local 8 l c own)) → IsAdded levels (chroma_plane b) predicted own → IsChromaMade (intra_chroma mode a levels) (chroma_plane b) c l own
+    HasSamples 8 predicted (predicted_chroma mode (sides_of a) (local 8 l c own)) → IsAdded levels (chroma_plane b) predicted own →
+    IsChromaMade (intra_chroma mode a levels) (chroma_plane b) c l own
 mode_made true mode a levels c l predicted own has sum = record {
   each = λ x y i j. sum.each x y i j ∙ ap (λ n. clip1 (pos n +ℤ residual levels Cr x y)) (has.each x y i j);
 }
@@ -72,7 +76,8 @@ mode_made false mode a levels c l predicted own has sum = record {
   each = λ x y i j. sum.each x y i j ∙ ap (λ n. clip1 (pos n +ℤ residual levels Cb x y)) (has.each x y i j);
 }
 
-pub chroma_made : (b : Bool) (k : Setting) (c r : ℕ) (m : Coded) (l : Store) (own : List ℕ) (modes : IntraModes) → m.prediction ≡ Intra modes → IsChromaMade (intra_chroma modes.chroma m.available m.levels) (chroma_plane b) c l own →
+pub chroma_made : (b : Bool) (k : Setting) (c r : ℕ) (m : Coded) (l : Store) (own : List ℕ) (modes : IntraModes) → m.prediction ≡ Intra modes →
+    IsChromaMade (intra_chroma modes.chroma m.available m.levels) (chroma_plane b) c l own →
     IsMadeFrom k (position_at c r) m (chroma_plane b) l own
 unfolding predicted_intra
 chroma_made true k c r m l own modes e made = record {
@@ -86,31 +91,39 @@ chroma_made false k c r m l own modes e made = record {
 pub luma_pcm : (k : Setting) (c r : ℕ) (m : Coded) (l : Store) (bytes : PcmSamples) → m.prediction ≡ Pcm bytes → IsMadeFrom k (position_at c r) m Y l bytes.y
 luma_pcm k c r m l bytes e = record { each = λ x y i j. sym (made_pcm k c r m Y (local 16 l c bytes.y) x y bytes e) }
 
-pub chroma_pcm : (b : Bool) (k : Setting) (c r : ℕ) (m : Coded) (l : Store) (bytes : PcmSamples) (own : List ℕ) → m.prediction ≡ Pcm bytes → own ≡ pcm_list b bytes →
+pub chroma_pcm : (b : Bool) (k : Setting) (c r : ℕ) (m : Coded) (l : Store) (bytes : PcmSamples) (own : List ℕ) → m.prediction ≡ Pcm bytes →
+    own ≡ pcm_list b bytes →
     IsMadeFrom k (position_at c r) m (chroma_plane b) l own
 chroma_pcm true k c r m l bytes own e is = rw is (record { each = λ x y i j. sym (made_pcm k c r m Cr (local 8 l c bytes.cr) x y bytes e) })
 chroma_pcm false k c r m l bytes own e is = rw is (record { each = λ x y i j. sym (made_pcm k c r m Cb (local 8 l c bytes.cb) x y bytes e) })
 
 -- ---- all planes
 
-pub made_all : (k : Setting) (c r : ℕ) (m : Coded) (lines : Lines) (own : Samples) → IsMadeFrom k (position_at c r) m Y (store_of Y lines) own.y → IsMadeFrom k (position_at c r) m Cb (store_of Cb lines) own.cb → IsMadeFrom k (position_at c r) m Cr (store_of Cr lines) own.cr →
+pub made_all : (k : Setting) (c r : ℕ) (m : Coded) (lines : Lines) (own : Samples) → IsMadeFrom k (position_at c r) m Y (store_of Y lines) own.y →
+    IsMadeFrom k (position_at c r) m Cb (store_of Cb lines) own.cb → IsMadeFrom k (position_at c r) m Cr (store_of Cr lines) own.cr →
     AreMadeFrom k (position_at c r) m lines own
 made_all k c r m lines own a b d Y = a
 made_all k c r m lines own a b d Cb = b
 made_all k c r m lines own a b d Cr = d
 
-pub intra_all : (k : Setting) (c r : ℕ) (m : Coded) (lines : Lines) (own : Samples) (modes : IntraModes) (a : Available) (l : Levels) → m.prediction ≡ Intra modes → m.available ≡ a → m.levels ≡ l →
-    IsLumaMade modes.luma a l c (store_of Y lines) own.y → IsChromaMade (intra_chroma modes.chroma a l) Cb c (store_of Cb lines) own.cb → IsChromaMade (intra_chroma modes.chroma a l) Cr c (store_of Cr lines) own.cr → AreMadeFrom k (position_at c r) m lines own
+pub intra_all : (k : Setting) (c r : ℕ) (m : Coded) (lines : Lines) (own : Samples) (modes : IntraModes) (a : Available) (l : Levels) → m.prediction ≡
+    Intra modes → m.available ≡ a → m.levels ≡ l →
+    IsLumaMade modes.luma a l c (store_of Y lines) own.y → IsChromaMade (intra_chroma modes.chroma a l) Cb c (store_of Cb lines) own.cb →
+    IsChromaMade (intra_chroma modes.chroma a l) Cr c (store_of Cr lines) own.cr → AreMadeFrom k (position_at c r) m lines own
 intra_all k c r m lines own modes a l e f g y cb cr =
-    made_all k c r m lines own (luma_made k c r m (store_of Y lines) own.y modes e (rw (f, g) y)) (chroma_made false k c r m (store_of Cb lines) own.cb modes e (rw (f, g) cb))
+    made_all k c r m lines own (luma_made k c r m (store_of Y lines) own.y modes e (rw (f, g) y))
+    (chroma_made false k c r m (store_of Cb lines) own.cb modes e (rw (f, g) cb))
     (chroma_made true k c r m (store_of Cr lines) own.cr modes e (rw (f, g) cr))
 
-pub pcm_all : (k : Setting) (c r : ℕ) (m : Coded) (lines : Lines) (own : Samples) (bytes : PcmSamples) → m.prediction ≡ Pcm bytes → own.y ≡ bytes.y → own.cb ≡ bytes.cb → own.cr ≡ bytes.cr → AreMadeFrom k (position_at c r) m lines own
+pub pcm_all : (k : Setting) (c r : ℕ) (m : Coded) (lines : Lines) (own : Samples) (bytes : PcmSamples) → m.prediction ≡ Pcm bytes → own.y ≡ bytes.y →
+    own.cb ≡ bytes.cb → own.cr ≡ bytes.cr → AreMadeFrom k (position_at c r) m lines own
 pcm_all k c r m lines own bytes e y cb cr =
-    made_all k c r m lines own (rw y (luma_pcm k c r m (store_of Y lines) bytes e)) (chroma_pcm false k c r m (store_of Cb lines) bytes own.cb e cb) (chroma_pcm true k c r m (store_of Cr lines) bytes own.cr e cr)
+    made_all k c r m lines own (rw y (luma_pcm k c r m (store_of Y lines) bytes e)) (chroma_pcm false k c r m (store_of Cb lines) bytes own.cb e cb)
+    (chroma_pcm true k c r m (store_of Cr lines) bytes own.cr e cr)
 
 -- the bottom rows of stores whose left columns were brought up
-pub same_above : (old new : Lines) → new.y ≡ store_of Y old → new.cb ≡ store_of Cb old → new.cr ≡ store_of Cr old → (p : Component) → (store_of p new).above ≡ (store_of p old).above
+pub same_above : (old new : Lines) → new.y ≡ store_of Y old → new.cb ≡ store_of Cb old → new.cr ≡ store_of Cr old →
+    (p : Component) → (store_of p new).above ≡ (store_of p old).above
 same_above old new a b d Y = ap (λ (s : Store). s.above) a
 same_above old new a b d Cb = ap (λ (s : Store). s.above) b
 same_above old new a b d Cr = ap (λ (s : Store). s.above) d

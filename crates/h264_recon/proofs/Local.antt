@@ -44,7 +44,8 @@ row_own l c own x y k p q =
     let place : x + k ≡ x - 1 + k + 1 = omega arith in
     let row : y ≡ y - 1 + 1 = omega arith in
     let there : 16 * (y - 1) + (x - 1 + k) ≡ 16 * (y - 1) + (x - 1) + k = omega arith in
-    ap (λ z. local 16 l c own z y) place ∙ ap (λ z. local 16 l c own (x - 1 + k + 1) z) row ∙ local_own 16 l c own (x - 1 + k) (y - 1) ∙ ap (λ z. slice_index own z) there
+    ap (λ z. local 16 l c own z y) place ∙ ap (λ z. local 16 l c own (x - 1 + k + 1) z) row ∙ local_own 16 l c own (x - 1 + k) (y - 1) ∙
+    ap (λ z. slice_index own z) there
 
 pub column_left : (l : Store) (c : ℕ) (own : List ℕ) (y k : ℕ) → 1 ≤ y → local 16 l c own 0 (y + k) ≡ slice_index l.left (y - 1 + k)
 column_left l c own y k p =

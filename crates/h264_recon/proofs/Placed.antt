@@ -34,12 +34,16 @@ unfolding parted_motions
 parted-place partition places motions n h = table-at 16 (parted_at partition places motions) n no_motion h
 
 -- of a macroblock that moves by its partition they are those of its blocks
-pub parted-are : (partition : Partition) (places : List ℕ) (motions : List (Option derived.Motion)) → MovesByPartition partition motions → parted_motions partition places motions ≡ placed_motions places motions
+pub parted-are : (partition : Partition) (places : List ℕ) (motions : List (Option derived.Motion)) → MovesByPartition partition motions →
+    parted_motions partition places motions ≡ placed_motions places motions
 unfolding parted_motions placed_motions
-parted-are partition places motions moves = table-ext 16 (parted_at partition places motions) (placed_at places motions) (λ k h. ap (placed_motion places) (sym (moves.each (number_of (k % 4) (k / 4)) (few k h))))
+parted-are partition places motions moves =
+    table-ext 16 (parted_at partition places motions) (placed_at places motions)
+    (λ k h. ap (placed_motion places) (sym (moves.each (number_of (k % 4) (k / 4)) (few k h))))
 
 -- one partition
-pub parted-one : (places : List ℕ) (motions : List (Option derived.Motion)) → parted_motions P16x16 places motions ≡ replicate 16 (placed_motion places (get_or motions 0 None))
+pub parted-one : (places : List ℕ) (motions : List (Option derived.Motion)) →
+    parted_motions P16x16 places motions ≡ replicate 16 (placed_motion places (get_or motions 0 None))
 unfolding parted_motions
 parted-one places motions = sym (table-replicate 16 (placed_motion places (get_or motions 0 None)))
 
@@ -49,12 +53,16 @@ pub points-at : (places : List ℕ) (m : Option derived.Motion) → IsOneOf plac
 points-at places None = (0, omega arith, refl)
 points-at places (Some m) = by (nat_lt m.ref_idx 16) refl
   where
-    by : (b : Bool) → nat_lt m.ref_idx 16 ≡ b → IsOneOf places (if b then record { picture = get_or places m.ref_idx 0; vector = record { x = m.vector.x; y = m.vector.y } } else unmoved places).picture
+    by : (b : Bool) → nat_lt m.ref_idx 16 ≡ b →
+        IsOneOf places (if b then record { picture = get_or places m.ref_idx 0; vector = record { x = m.vector.x; y = m.vector.y } } else unmoved
+        places).picture
     by true e = (m.ref_idx, ltb-true m.ref_idx 16 e, refl)
     by false e = (0, omega arith, refl)
 
-pub points : (partition : Partition) (places : List ℕ) (motions : List (Option derived.Motion)) (n : ℕ) → n < 16 → IsOneOf places (get_or (parted_motions partition places motions) n no_motion).picture
-points partition places motions n h = rw (parted-place partition places motions n h) (points-at places (get_or motions (first_of partition (number_of (n % 4) (n / 4))) None))
+pub points : (partition : Partition) (places : List ℕ) (motions : List (Option derived.Motion)) (n : ℕ) → n < 16 →
+    IsOneOf places (get_or (parted_motions partition places motions) n no_motion).picture
+points partition places motions n h = rw (parted-place partition places motions n h)
+    (points-at places (get_or motions (first_of partition (number_of (n % 4) (n / 4))) None))
 
 -- ---- and the one of the picture
 
@@ -72,7 +80,8 @@ there : (m : Option derived.Motion) → option_map (λ x. Some x) m ≡ Some m �
 there None e = absurd (cc)
 there (Some m) e = refl
 
-placed-is : (slice : SliceContext) (places : List ℕ) (place : ℕ → ℕ) (m : Option derived.Motion) → length slice.references ≡ 16 → ArePlaced slice places place → Refers slice m → IsTrue (is_some m) → placed_motion places m ≡ motion_of place m
+placed-is : (slice : SliceContext) (places : List ℕ) (place : ℕ → ℕ) (m : Option derived.Motion) → length slice.references ≡ 16 →
+    ArePlaced slice places place → Refers slice m → IsTrue (is_some m) → placed_motion places m ≡ motion_of place m
 placed-is slice places place None l a r t = absurd (grind (arith, t))
 placed-is slice places place (Some m) l a r t =
     let f = found slice.references m.ref_idx m.picture r in
@@ -80,7 +89,8 @@ placed-is slice places place (Some m) l a r t =
     rw (lt-ltb m.ref_idx 16 h, a.each m.ref_idx m.picture h f.1) refl
 
 -- those of a whole inter macroblock
-pub motions-are : (slice : SliceContext) (places : List ℕ) (place : ℕ → ℕ) (c : Contexts) (m : CodedMacroblock) (list : List Motion) → length slice.references ≡ 16 → ArePlaced slice places place → AreContexts c m → m.prediction ≡ coded.Inter c.motions →
+pub motions-are : (slice : SliceContext) (places : List ℕ) (place : ℕ → ℕ) (c : Contexts) (m : CodedMacroblock) (list : List Motion) →
+    length slice.references ≡ 16 → ArePlaced slice places place → AreContexts c m → m.prediction ≡ coded.Inter c.motions →
     AllByRecursion (Refers slice) c.motions → list ≡ placed_motions places c.motions → list ≡ motions_of place c.motions
 unfolding placed_motions motions_of
 motions-are slice places place c m list l a s p r e =

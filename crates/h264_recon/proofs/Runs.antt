@@ -22,7 +22,8 @@ pub beyond : (n k : ℕ) (own : List ℕ) → length own ≡ n * n → n ≤ k �
 beyond n k own e q = get_or_past own _ 0 (omega (arith, e, mul-le n n n k (omega arith) q))
 
 -- ---- the border of a macroblock of n columns and rows at column c, kept in its store
-pub saved_is : (n c : ℕ) (old : Store) (v : Vec ℕ) (xs ys left own : List ℕ) (corner a k : ℕ) → v ≡ old.above → xs ≡ v.items → a ≡ n * (n - 1) → k ≡ n → n * (n - 1) + n ≤ length own →
+pub saved_is : (n c : ℕ) (old : Store) (v : Vec ℕ) (xs ys left own : List ℕ) (corner a k : ℕ) → v ≡ old.above → xs ≡ v.items → a ≡ n * (n - 1) → k ≡ n →
+    n * (n - 1) + n ≤ length own →
     n * c + n ≤ vec_len old.above → IsRun xs ys (n * c) (mid_of a k own) →
     corner ≡ slice_index old.above.items (n * c + (n - 1)) → IsSaved n c old (record { above = with_items v ys; left = left; corner = corner }) own
 saved_is n c old v xs ys left own corner a k ev ex ea ek room inside put is =
@@ -33,7 +34,8 @@ saved_is n c old v xs ys left own corner a k ev ex ea ek room inside put is =
     let kept : (z : ℕ) → slice_index xs z ≡ slice_index old.above.items z = λ z. ap (λ (l : List ℕ). slice_index l z) (ex ∙ ap (λ (w : Vec ℕ). w.items) ev) in
     record {
       size = ap (λ (w : Vec ℕ). vec_len w) ev;
-      bottom = λ z p. ap (λ (l : List ℕ). slice_index l (n * c + z)) items ∙ put.here z (omega (arith, size)) ∙ mid_at a k z own (omega (arith, ek)) (omega (arith, ea, ek)) ∙ ap (λ b. slice_index own (b + z)) ea;
+      bottom = λ z p. ap (λ (l : List ℕ). slice_index l (n * c + z)) items ∙ put.here z (omega (arith, size)) ∙
+          mid_at a k z own (omega (arith, ek)) (omega (arith, ea, ek)) ∙ ap (λ b. slice_index own (b + z)) ea;
       before = λ z p. ap (λ (l : List ℕ). slice_index l z) items ∙ put.before z p ∙ kept z;
       after = λ z p. ap (λ (l : List ℕ). slice_index l z) items ∙ put.after z (omega (arith, size)) ∙ kept z;
       corner = is;

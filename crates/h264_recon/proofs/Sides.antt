@@ -61,21 +61,26 @@ corner_before x y p q = omega arith
 
 -- ---- the samples beside a block
 
-tap_left : (a : Available) (s t : ℕ → ℕ → ℕ) (x y k : ℕ) → x < 4 → y < 4 → k < 4 → IsTrue (left_there a x) → SidesAgree 16 a s t → BlocksAgree 16 (index_of x y) s t →
+tap_left : (a : Available) (s t : ℕ → ℕ → ℕ) (x y k : ℕ) → x < 4 → y < 4 → k < 4 → IsTrue (left_there a x) → SidesAgree 16 a s t →
+    BlocksAgree 16 (index_of x y) s t →
     s (4 * x + 0) (4 * y + (k + 1)) ≡ t (4 * x + 0) (4 * y + (k + 1))
 tap_left a s t x y k p q d there sides blocks = ⊎_elim
     (λ z. same_at s t _ _ 0 (4 * y + k + 1) (omega arith) (omega arith) (sides.left (left_outer a x there z) (4 * y + k) (omega arith)))
-    (λ n. same_at s t _ _ (4 * (x - 1) + 3 + 1) (4 * y + k + 1) (omega arith) (omega arith) (blocks.each (x - 1) y 3 k (omega arith) (omega arith) (omega arith) d (left_before x y n)))
+    (λ n. same_at s t _ _ (4 * (x - 1) + 3 + 1) (4 * y + k + 1) (omega arith) (omega arith)
+    (blocks.each (x - 1) y 3 k (omega arith) (omega arith) (omega arith) d (left_before x y n)))
     (cases_eq x 0)
 
-tap_above : (a : Available) (s t : ℕ → ℕ → ℕ) (x y k : ℕ) → x < 4 → y < 4 → k < 4 → IsTrue (above_there a y) → SidesAgree 16 a s t → BlocksAgree 16 (index_of x y) s t →
+tap_above : (a : Available) (s t : ℕ → ℕ → ℕ) (x y k : ℕ) → x < 4 → y < 4 → k < 4 → IsTrue (above_there a y) → SidesAgree 16 a s t →
+    BlocksAgree 16 (index_of x y) s t →
     s (4 * x + (k + 1)) (4 * y + 0) ≡ t (4 * x + (k + 1)) (4 * y + 0)
 tap_above a s t x y k p q d there sides blocks = ⊎_elim
     (λ z. same_at s t _ _ (4 * x + k + 1) 0 (omega arith) (omega arith) (sides.above (above_outer a y there z) (4 * x + k) (omega arith)))
-    (λ n. same_at s t _ _ (4 * x + k + 1) (4 * (y - 1) + 3 + 1) (omega arith) (omega arith) (blocks.each x (y - 1) k 3 (omega arith) (omega arith) d (omega arith) (above_before x y n)))
+    (λ n. same_at s t _ _ (4 * x + k + 1) (4 * (y - 1) + 3 + 1) (omega arith) (omega arith)
+    (blocks.each x (y - 1) k 3 (omega arith) (omega arith) d (omega arith) (above_before x y n)))
     (cases_eq y 0)
 
-tap_corner : (a : Available) (s t : ℕ → ℕ → ℕ) (x y : ℕ) → x < 4 → y < 4 → IsTrue (corner_there a x y) → SidesAgree 16 a s t → BlocksAgree 16 (index_of x y) s t →
+tap_corner : (a : Available) (s t : ℕ → ℕ → ℕ) (x y : ℕ) → x < 4 → y < 4 → IsTrue (corner_there a x y) → SidesAgree 16 a s t →
+    BlocksAgree 16 (index_of x y) s t →
     s (4 * x + 0) (4 * y + 0) ≡ t (4 * x + 0) (4 * y + 0)
 tap_corner a s t x y p q there sides blocks = ⊎_elim
     (λ z. ⊎_elim
@@ -84,11 +89,13 @@ tap_corner a s t x y p q there sides blocks = ⊎_elim
     (cases_eq y 0))
     (λ n. ⊎_elim
     (λ z'. same_at s t _ _ (4 * x - 1 + 1) 0 (omega arith) (omega arith) (sides.above (corner_above a x y there n z') (4 * x - 1) (omega arith)))
-    (λ n'. same_at s t _ _ (4 * (x - 1) + 3 + 1) (4 * (y - 1) + 3 + 1) (omega arith) (omega arith) (blocks.each (x - 1) (y - 1) 3 3 (omega arith) (omega arith) (omega arith) (omega arith) (corner_before x y n n')))
+    (λ n'. same_at s t _ _ (4 * (x - 1) + 3 + 1) (4 * (y - 1) + 3 + 1) (omega arith) (omega arith)
+    (blocks.each (x - 1) (y - 1) 3 3 (omega arith) (omega arith) (omega arith) (omega arith) (corner_before x y n n')))
     (cases_eq y 0))
     (cases_eq x 0)
 
-tap_right : (a : Available) (s t : ℕ → ℕ → ℕ) (x y k : ℕ) → x < 4 → y < 4 → k < 4 → IsTrue (right_there a x y) → SidesAgree 16 a s t → BlocksAgree 16 (index_of x y) s t →
+tap_right : (a : Available) (s t : ℕ → ℕ → ℕ) (x y k : ℕ) → x < 4 → y < 4 → k < 4 → IsTrue (right_there a x y) → SidesAgree 16 a s t →
+    BlocksAgree 16 (index_of x y) s t →
     s (4 * x + (k + 5)) (4 * y + 0) ≡ t (4 * x + (k + 5)) (4 * y + 0)
 tap_right a s t x y k p q d there sides blocks = ⊎_elim
     (λ z. ⊎_elim

@@ -42,16 +42,20 @@ one-placed places m =
 alike-all : (m : Option Motion) → MovesByPartition P16x16 (replicate 16 m)
 alike-all m = record { each = λ n h. get_or-replicate 16 n m None h }
 
-no-sides : (p : coded.Prediction) (motions : List (Option Motion)) (w : ℕ) (xs : List CodedMacroblock) (slice : ℕ) (constrained : Bool) → p ≡ coded.Inter motions → no_sides ≡ used_by p (available w xs slice constrained)
+no-sides : (p : coded.Prediction) (motions : List (Option Motion)) (w : ℕ) (xs : List CodedMacroblock) (slice : ℕ) (constrained : Bool) → p ≡
+    coded.Inter motions → no_sides ≡ used_by p (available w xs slice constrained)
 unfolding used_by
 no-sides p motions w xs slice constrained e = rw e refl
 
-pub skip-given : (slice : SliceContext) (places : List ℕ) (place : ℕ → ℕ) (w : ℕ) (xs : List CodedMacroblock) (weights : List (Option Weights)) (constrained : Bool) (offset : ℤ) (s : Skipped) (m : CodedMacroblock) → IsSkipped s m → length slice.references ≡ 16 →
-    ArePlaced slice places place → IsPossible w slice xs m.prediction → skipped s places weights (levels_of offset m) ≡ given w xs place (slice_settings weights constrained offset) m
+pub skip-given : (slice : SliceContext) (places : List ℕ) (place : ℕ → ℕ) (w : ℕ) (xs : List CodedMacroblock) (weights : List (Option Weights))
+    (constrained : Bool) (offset : ℤ) (s : Skipped) (m : CodedMacroblock) → IsSkipped s m → length slice.references ≡ 16 →
+    ArePlaced slice places place → IsPossible w slice xs m.prediction →
+    skipped s places weights (levels_of offset m) ≡ given w xs place (slice_settings weights constrained offset) m
 skip-given slice places place w xs weights constrained offset s m i l a t =
     let c = contexts_of s in
     let known = skipped-contexts s m i in
     given-is w xs place weights constrained offset m no_sides (prediction_by s places) _
     (no-sides m.prediction c.motions w xs m.slice constrained i.prediction)
-    (from-inter place m.prediction _ _ i.prediction (motions-are slice places place c m _ l a known i.prediction (subst (IsPossible w slice xs) i.prediction t) (one-placed places s.motion)))
+    (from-inter place m.prediction _ _ i.prediction
+    (motions-are slice places place c m _ l a known i.prediction (subst (IsPossible w slice xs) i.prediction t) (one-placed places s.motion)))
     (whole-is weights true c.motions (λ t. alike-all (Some s.motion)) ∙ weights-given c m weights known)

@@ -32,21 +32,25 @@ pub sides_are : (n w c r : ℕ) (u : ℕ → ℕ → ℕ) (a : Available) (l : S
 sides_are n w c r u a l own f k within held =
     let inside = mul-le n (c + 1) n w (omega arith) (omega arith) in
     record {
-      left = λ t q d. local_left n l c own q ∙ held.left (within.left t) q d ∙ moved u (n * c - 1) (n * r + q) (n * c + 0 - 1) (n * r + (q + 1) - 1) (omega arith) (omega arith);
+      left = λ t q d. local_left n l c own q ∙ held.left (within.left t) q d ∙
+          moved u (n * c - 1) (n * r + q) (n * c + 0 - 1) (n * r + (q + 1) - 1) (omega arith) (omega arith);
       above = λ t q d. local_above n l c own q ∙ held.above (within.above t) (n * c + q) (omega arith) (omega arith)
           ∙ moved u (n * c + q) (n * r - 1) (n * c + (q + 1) - 1) (n * r + 0 - 1) (omega arith) (omega arith);
       above_right = λ t q d.
           let more = mul-le n (c + 2) n w (omega arith) (omega (arith, (within.above_right t).1)) in
           local_above n l c own (n + q) ∙ held.above ((within.above_right t).0) (n * c + (n + q)) (omega arith) (omega arith)
           ∙ moved u (n * c + (n + q)) (n * r - 1) (n * c + (n + q + 1) - 1) (n * r + 0 - 1) (omega arith) (omega arith);
-      corner = λ t. local_corner n l c own ∙ held.corner ((within.corner t).0) ((within.corner t).1) ∙ moved u (n * c - 1) (n * r - 1) (n * c + 0 - 1) (n * r + 0 - 1) (omega arith) (omega arith);
+      corner = λ t. local_corner n l c own ∙ held.corner ((within.corner t).0) ((within.corner t).1) ∙
+          moved u (n * c - 1) (n * r - 1) (n * c + 0 - 1) (n * r + 0 - 1) (omega arith) (omega arith);
     }
 
-made_local : (k : Setting) (c r : ℕ) (m : Coded) (p : Component) (l : Store) (own : List ℕ) → IsMadeFrom k (position_at c r) m p l own → IsMadeIn k c r m p (local (side p) l c own)
+made_local : (k : Setting) (c r : ℕ) (m : Coded) (p : Component) (l : Store) (own : List ℕ) → IsMadeFrom k (position_at c r) m p l own →
+    IsMadeIn k c r m p (local (side p) l c own)
 made_local k c r m p l own made = record { each = λ x y i j. local_own (side p) l c own x y ∙ made.each x y i j }
 
 -- what is constructed from the stores is u
-pub own_is : (k : Setting) (c r : ℕ) (m : Coded) (p : Component) (u : Component → ℕ → ℕ → ℕ) (l : Store) (own : List ℕ) → c < k.across → IsWithin m.available k.across c r →
+pub own_is : (k : Setting) (c r : ℕ) (m : Coded) (p : Component) (u : Component → ℕ → ℕ → ℕ) (l : Store) (own : List ℕ) → c < k.across →
+    IsWithin m.available k.across c r →
     IsPossible m.prediction m.available → IsMade k c r m u → Stored (side p) k.across c r (u p) l → IsMadeFrom k (position_at c r) m p l own →
     (x y : ℕ) → x < side p → y < side p → slice_index own (side p * y + x) ≡ u p (side p * c + x) (side p * r + y)
 own_is k c r m p u l own inside within ok mu held made x y i j =
@@ -73,7 +77,8 @@ stored_more n w c r u old new own f k is held saved right =
           ∙ is (q - n * c) (n - 1) (omega arith) (omega arith) ∙ moved u _ _ q (n * r + n - 1) (sym place) (omega arith))
           (cases_lt q (n * c));
       left = λ t q a. right q a ∙ is (n - 1) q (omega arith) a ∙ moved u _ _ (n * (c + 1) - 1) (n * r + q) (omega arith) refl;
-      corner = λ t t'. saved.corner ∙ held.above t' (n * c + (n - 1)) (omega arith) (omega arith) ∙ moved u _ _ (n * (c + 1) - 1) (n * r - 1) (omega arith) refl;
+      corner = λ t t'. saved.corner ∙ held.above t' (n * c + (n - 1)) (omega arith) (omega arith) ∙
+          moved u _ _ (n * (c + 1) - 1) (n * r - 1) (omega arith) refl;
     }
 
 -- at the end of a row the next begins
@@ -116,8 +121,10 @@ stored_moves n w c r u v l f k agree held =
 
 -- ---- the step
 
-pub shows : (k : Setting) (c r : ℕ) (m : Coded) (u : Component → ℕ → ℕ → ℕ) (lines : Lines) (own : Component → List ℕ) (old new : Frame) → c < k.across → IsWithin m.available k.across c r →
-    IsPossible m.prediction m.available → IsMade k c r m u → AreStored k.across c r u lines → ((p : Component) → IsMadeFrom k (position_at c r) m p (store_of p lines) (own p)) →
+pub shows : (k : Setting) (c r : ℕ) (m : Coded) (u : Component → ℕ → ℕ → ℕ) (lines : Lines) (own : Component → List ℕ) (old new : Frame) → c < k.across →
+    IsWithin m.available k.across c r →
+    IsPossible m.prediction m.available → IsMade k c r m u → AreStored k.across c r u lines →
+    ((p : Component) → IsMadeFrom k (position_at c r) m p (store_of p lines) (own p)) →
     ArePlaced c r own old new → HasMacroblock c r u old new
 shows k c r m u lines own old new inside within ok mu held made placed = λ p. record {
   width = (placed p).width;
@@ -130,7 +137,8 @@ shows k c r m u lines own old new inside within ok mu held made placed = λ p. r
 column_at : (n : ℕ) (own list : List ℕ) → own ≡ list → n ≤ 16 → (k : ℕ) → k < n → slice_index (right_column n list) k ≡ slice_index own (n * k + (n - 1))
 column_at n own list e most k i = rw e (table-at 16 (λ z. slice_index list (n * z + (n - 1))) k 0 (omega arith))
 
-right_is : (p : Component) (own : Samples) (new : Lines) → new.last ≡ own → (k : ℕ) → k < side p → slice_index (store_of p new).left k ≡ slice_index (samples_of own p) (side p * k + (side p - 1))
+right_is : (p : Component) (own : Samples) (new : Lines) → new.last ≡ own → (k : ℕ) → k < side p →
+    slice_index (store_of p new).left k ≡ slice_index (samples_of own p) (side p * k + (side p - 1))
 right_is Y own new e = column_at 16 own.y new.last.y (sym (ap (λ (s : Samples). s.y) e)) (omega arith)
 right_is Cb own new e = column_at 8 own.cb new.last.cb (sym (ap (λ (s : Samples). s.cb) e)) (omega arith)
 right_is Cr own new e = column_at 8 own.cr new.last.cr (sym (ap (λ (s : Samples). s.cr) e)) (omega arith)
@@ -147,28 +155,33 @@ kept_above n c first old new own e saved = record {
 
 pub saved_from : (c : ℕ) (first old new : Lines) → ((p : Component) → (store_of p old).above ≡ (store_of p first).above) → AreSaved c old new →
     (p : Component) → IsSaved (side p) c (store_of p first) (store_of p new) (samples_of old.last p)
-saved_from c first old new same saved p = kept_above (side p) c (store_of p first) (store_of p old) (store_of p new) (samples_of old.last p) (same p) (saved.borders p)
+saved_from c first old new same saved p =
+    kept_above (side p) c (store_of p first) (store_of p old) (store_of p new) (samples_of old.last p) (same p) (saved.borders p)
 
 pub stored_next : (k : Setting) (c r : ℕ) (m : Coded) (u : Component → ℕ → ℕ → ℕ) (first old new : Lines) → c < k.across → IsWithin m.available k.across c r →
     IsPossible m.prediction m.available → IsMade k c r m u → AreStored k.across c r u first → AreMadeFrom k (position_at c r) m first old.last →
     ((p : Component) → (store_of p old).above ≡ (store_of p first).above) → AreSaved c old new → AreStored k.across (c + 1) r u new
 stored_next k c r m u first old new inside within ok mu held made same saved = λ p.
     stored_more (side p) k.across c r (u p) (store_of p first) (store_of p new) (samples_of old.last p) (side_least p) inside
-    (own_is k c r m p u (store_of p first) (samples_of old.last p) inside within ok mu (held p) (made p)) (held p) (saved_from c first old new same saved p) (right_is p old.last new saved.last)
+    (own_is k c r m p u (store_of p first) (samples_of old.last p) inside within ok mu (held p) (made p)) (held p) (saved_from c first old new same saved p)
+    (right_is p old.last new saved.last)
 
 -- ---- some samples meet the equations: those that were constructed
 
 pub joined_before : (w c r : ℕ) (frame : Frame) (u : Component → ℕ → ℕ → ℕ) (p : Component) → Agree (side p) w c r (u p) (joined c r frame u p)
 joined_before w c r frame u p = record { each = λ x y i b. sym (own_out (side p) c r (at (plane_of p frame)) (u p) x y b) }
 
-joined_own : (c r : ℕ) (old new : Frame) (u : Component → ℕ → ℕ → ℕ) (own : Component → List ℕ) (p : Component) → side p * c + side p ≤ (plane_of p old).width → side p * r + side p ≤ (plane_of p old).height →
-    ArePlaced c r own old new → (x y : ℕ) → x < side p → y < side p → joined c r new u p (side p * c + x) (side p * r + y) ≡ slice_index (own p) (side p * y + x)
+joined_own : (c r : ℕ) (old new : Frame) (u : Component → ℕ → ℕ → ℕ) (own : Component → List ℕ) (p : Component) →
+    side p * c + side p ≤ (plane_of p old).width → side p * r + side p ≤ (plane_of p old).height →
+    ArePlaced c r own old new → (x y : ℕ) → x < side p → y < side p →
+    joined c r new u p (side p * c + x) (side p * r + y) ≡ slice_index (own p) (side p * y + x)
 joined_own c r old new u own p columns rows placed x y i j =
     own_in (side p) c r (at (plane_of p new)) (u p) x y i j
     ∙ (placed p).samples (side p * c + x) (side p * r + y) (omega arith) (omega arith)
     ∙ block_in (side p) (side p * c) (side p * r) (own p) (at (plane_of p old)) x y i j
 
-pub joined_made : (k : Setting) (c r : ℕ) (m : Coded) (u : Component → ℕ → ℕ → ℕ) (lines : Lines) (own : Component → List ℕ) (old new : Frame) → c < k.across → IsWithin m.available k.across c r →
+pub joined_made : (k : Setting) (c r : ℕ) (m : Coded) (u : Component → ℕ → ℕ → ℕ) (lines : Lines) (own : Component → List ℕ) (old new : Frame) →
+    c < k.across → IsWithin m.available k.across c r →
     IsPossible m.prediction m.available → AreStored k.across c r u lines → ((p : Component) → IsMadeFrom k (position_at c r) m p (store_of p lines) (own p)) →
     ((p : Component) → (side p * c + side p ≤ (plane_of p old).width) × (side p * r + side p ≤ (plane_of p old).height)) →
     ArePlaced c r own old new → IsMade k c r m (joined c r new u)
@@ -207,10 +220,12 @@ bordered_all c old new a b d Y = bordered 16 c old.y new.y old.last.y old.last.y
 bordered_all c old new a b d Cb = bordered 8 c old.cb new.cb old.last.cb old.last.cb new.last.cb b
 bordered_all c old new a b d Cr = bordered 8 c old.cr new.cr old.last.cr old.last.cr new.last.cr d
 
-pub saved_all : (c : ℕ) (old new : Lines) → new.last ≡ old.last → IsSaved 16 c old.y new.y old.last.y → IsSaved 8 c old.cb new.cb old.last.cb → IsSaved 8 c old.cr new.cr old.last.cr → AreSaved c old new
+pub saved_all : (c : ℕ) (old new : Lines) → new.last ≡ old.last → IsSaved 16 c old.y new.y old.last.y → IsSaved 8 c old.cb new.cb old.last.cb →
+    IsSaved 8 c old.cr new.cr old.last.cr → AreSaved c old new
 saved_all c old new e a b d = record { borders = bordered_all c old new a b d; last = e }
 
-pub room_all : (c r : ℕ) (f : Frame) → (16 * c + 16 ≤ f.y.width) × (16 * r + 16 ≤ f.y.height) → (8 * c + 8 ≤ f.cb.width) × (8 * r + 8 ≤ f.cb.height) → (8 * c + 8 ≤ f.cr.width) × (8 * r + 8 ≤ f.cr.height) →
+pub room_all : (c r : ℕ) (f : Frame) → (16 * c + 16 ≤ f.y.width) × (16 * r + 16 ≤ f.y.height) → (8 * c + 8 ≤ f.cb.width) × (8 * r + 8 ≤ f.cb.height) →
+    (8 * c + 8 ≤ f.cr.width) × (8 * r + 8 ≤ f.cr.height) →
     (p : Component) → (side p * c + side p ≤ (plane_of p f).width) × (side p * r + side p ≤ (plane_of p f).height)
 room_all c r f a b d Y = a
 room_all c r f a b d Cb = b

@@ -10,12 +10,14 @@ unfolding table
 table-same [] zero f d e h = refl
 table-same [] (suc n) f d e h = absurd (omega arith)
 table-same (x ∷ xs) zero f d e h = absurd (omega arith)
-table-same (x ∷ xs) (suc n) f d e h = ap (λ z. z ∷ xs) (h 0 (omega arith)) ∙ ap (λ l. f 0 ∷ l) (table-same xs n (λ k. f (suc k)) d (omega arith) (λ k i. h (suc k) (omega arith)))
+table-same (x ∷ xs) (suc n) f d e h = ap (λ z. z ∷ xs) (h 0 (omega arith)) ∙
+    ap (λ l. f 0 ∷ l) (table-same xs n (λ k. f (suc k)) d (omega arith) (λ k i. h (suc k) (omega arith)))
 
 pub table-ext : {A : Type 0} (n : ℕ) (f g : ℕ → A) → ((k : ℕ) → k < n → f k ≡ g k) → table n f ≡ table n g
 unfolding table
 table-ext zero f g h = refl
-table-ext (suc n) f g h = ap (λ z. z ∷ table n (λ k. f (suc k))) (h 0 (omega arith)) ∙ ap (λ l. g 0 ∷ l) (table-ext n (λ k. f (suc k)) (λ k. g (suc k)) (λ k i. h (suc k) (omega arith)))
+table-ext (suc n) f g h = ap (λ z. z ∷ table n (λ k. f (suc k))) (h 0 (omega arith)) ∙
+    ap (λ l. g 0 ∷ l) (table-ext n (λ k. f (suc k)) (λ k. g (suc k)) (λ k i. h (suc k) (omega arith)))
 
 pub table-replicate : {A : Type 0} (n : ℕ) (x : A) → replicate n x ≡ table n (λ k. x)
 unfolding table
@@ -35,7 +37,8 @@ element (y ∷ xs) zero x d e = grind (arith, e)
 element (y ∷ xs) (suc k) x d e = element xs k x d e
 
 -- one more element
-pub grown : {A : Type 0} (xs : List A) (k : ℕ) (x d : A) (f : ℕ → A) → k < length xs → ((m : ℕ) → m < k → get_or xs m d ≡ f m) → x ≡ f k → (m : ℕ) → m < k + 1 → get_or (slice_set xs k x) m d ≡ f m
+pub grown : {A : Type 0} (xs : List A) (k : ℕ) (x d : A) (f : ℕ → A) → k < length xs → ((m : ℕ) → m < k → get_or xs m d ≡ f m) → x ≡ f k →
+    (m : ℕ) → m < k + 1 → get_or (slice_set xs k x) m d ≡ f m
 grown xs k x d f h before own m i = ⊎_elim
     (λ (q : m < k). let differs : m ≢ k = λ e. absurd (omega arith) in get_or-set_other xs k m x d differs ∙ before m q)
     (λ (q : k ≤ m). let e : m ≡ k = omega arith in rw e (get_or-set_same xs k x d h ∙ own))

@@ -10,7 +10,8 @@ use Rattle.h264_plane.specs.Places.{side, index_of, Agree}
 use Rattle.h264_recon.specs.Blocks.{sides_of, sides4_of}
 use Rattle.h264_scale.specs.Macroblock.{residual}
 use Rattle.h264_recon.specs.Inter.{Setting, position_at}
-use Rattle.h264_recon.specs.Constructed.{window, mode_at, predicted_luma, predicted_intra, made_by, made, IsMade, Constructed, IsWithin, IsPossibleLuma, IsPossible, IsAllowed, Coded}
+use Rattle.h264_recon.specs.Constructed.{window, mode_at, predicted_luma, predicted_intra, made_by, made, IsMade, Constructed, IsWithin, IsPossibleLuma}
+use Rattle.h264_recon.specs.Constructed.{IsPossible, IsAllowed, Coded}
 use Rattle.h264_recon.specs.Around.{SidesAgree, BlocksAgree}
 use Rattle.h264_recon.specs.declared.macroblock.Available.{Available}
 use Rattle.h264_recon.specs.declared.macroblock.IntraLuma.{IntraLuma}
@@ -23,11 +24,13 @@ use Rattle.h264_plane.proofs.Own.{moved}
 
 -- ---- a predicted sample depends on the available sides and on the blocks before its own
 
-luma_same : (l : IntraLuma) (a : Available) (s t : ℕ → ℕ → ℕ) (x y : ℕ) → x < 16 → y < 16 → IsPossibleLuma l a → SidesAgree 16 a s t → BlocksAgree 16 (index_of (x / 4) (y / 4)) s t →
+luma_same : (l : IntraLuma) (a : Available) (s t : ℕ → ℕ → ℕ) (x y : ℕ) → x < 16 → y < 16 → IsPossibleLuma l a → SidesAgree 16 a s t →
+    BlocksAgree 16 (index_of (x / 4) (y / 4)) s t →
     predicted_luma l a s x y ≡ predicted_luma l a t x y
 unfolding predicted_luma
 luma_same (Blocks modes) a s t x y p q ok sides blocks =
-    predicted4_same (mode_at modes (x / 4) (y / 4)) (sides4_of a (x / 4) (y / 4)) _ _ (x % 4) (y % 4) (ok (x / 4) (y / 4) (omega arith) (omega arith)) (omega arith) (omega arith)
+    predicted4_same (mode_at modes (x / 4) (y / 4)) (sides4_of a (x / 4) (y / 4)) _ _ (x % 4) (y % 4) (ok (x / 4) (y / 4) (omega arith) (omega arith))
+    (omega arith) (omega arith)
     (block_sides a s t (x / 4) (y / 4) (omega arith) (omega arith) sides blocks)
 luma_same (Whole mode) a s t x y p q ok sides blocks = predicted16_same mode (sides_of a) s t x y ok p q (whole_sides 16 a s t sides)
 
@@ -39,8 +42,10 @@ intra_same modes a Cb s t x y i j ok sides blocks = predicted_chroma_same modes.
 intra_same modes a Cr s t x y i j ok sides blocks = predicted_chroma_same modes.chroma (sides_of a) s t x y ok.1 i j (whole_sides 8 a s t sides)
 
 -- and so does a constructed sample
-pub made_by_same : (d : Prediction) (k : Setting) (c r : ℕ) (m : Coded) (p : Component) (s t : ℕ → ℕ → ℕ) (x y : ℕ) → x < side p → y < side p → IsPossible d m.available →
-    SidesAgree (side p) m.available s t → BlocksAgree (side p) (index_of (x / 4) (y / 4)) s t → made_by d k (position_at c r) m p s x y ≡ made_by d k (position_at c r) m p t x y
+pub made_by_same : (d : Prediction) (k : Setting) (c r : ℕ) (m : Coded) (p : Component) (s t : ℕ → ℕ → ℕ) (x y : ℕ) → x < side p → y < side p →
+    IsPossible d m.available →
+    SidesAgree (side p) m.available s t → BlocksAgree (side p) (index_of (x / 4) (y / 4)) s t →
+    made_by d k (position_at c r) m p s x y ≡ made_by d k (position_at c r) m p t x y
 unfolding made_by
 made_by_same (Intra modes) k c r m p s t x y i j ok sides blocks =
     ap (λ n. clip1 (pos n +ℤ residual m.levels p x y)) (intra_same modes m.available p s t x y i j ok sides blocks)
@@ -87,7 +92,8 @@ side_most Cr = omega arith
 
 -- two solutions are the same, sample by sample
 pub own_unique : (k : Setting) (c r : ℕ) (m : Coded) (p : Component) (s t : ℕ → ℕ → ℕ) → IsPossible m.prediction m.available →
-    SidesAgree (side p) m.available s t → IsMadeIn k c r m p s → IsMadeIn k c r m p t → (x y : ℕ) → x < side p → y < side p → s (x + 1) (y + 1) ≡ t (x + 1) (y + 1)
+    SidesAgree (side p) m.available s t → IsMadeIn k c r m p s → IsMadeIn k c r m p t → (x y : ℕ) → x < side p → y < side p →
+    s (x + 1) (y + 1) ≡ t (x + 1) (y + 1)
 own_unique k c r m p s t ok sides ms mt x y i j =
     let all = blocks_unique 16 k c r m p s t ok sides ms mt in
     let most = side_most p in
@@ -95,7 +101,8 @@ own_unique k c r m p s t ok sides ms mt x y i j =
     (all.each (x / 4) (y / 4) (x % 4) (y % 4) (block_fits p x i) (block_fits p y j) (omega arith) (omega arith) (omega arith))
 
 -- the equations of a picture are those of the macroblock seen from it
-pub made_in : (k : Setting) (c r : ℕ) (m : Coded) (u : Component → ℕ → ℕ → ℕ) (p : Component) → IsMade k c r m u → IsMadeIn k c r m p (window (side p) (u p) c r)
+pub made_in : (k : Setting) (c r : ℕ) (m : Coded) (u : Component → ℕ → ℕ → ℕ) (p : Component) → IsMade k c r m u →
+    IsMadeIn k c r m p (window (side p) (u p) c r)
 made_in k c r m u p made = record {
   each = λ x y i j. moved (u p) _ _ (side p * c + x) (side p * r + y) (omega arith) (omega arith) ∙ made.each p x y i j;
 }
@@ -124,7 +131,8 @@ sides_before n w c r a u v f k within agree =
           agree.each _ _ (omega arith) (inl (omega arith));
     }
 
-unique_step : (k : Setting) (c r : ℕ) (m : Coded) (u v : Component → ℕ → ℕ → ℕ) (p : Component) → c < k.across → IsAllowed m k.across c r → IsMade k c r m u → IsMade k c r m v →
+unique_step : (k : Setting) (c r : ℕ) (m : Coded) (u v : Component → ℕ → ℕ → ℕ) (p : Component) → c < k.across → IsAllowed m k.across c r → IsMade k c r m u →
+    IsMade k c r m v →
     Agree (side p) k.across c r (u p) (v p) → Agree (side p) k.across (c + 1) r (u p) (v p)
 unique_step k c r m u v p inside ok mu mv agree = record {
   each = λ x y i b. ⊎_elim

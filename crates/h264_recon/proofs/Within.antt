@@ -1,5 +1,6 @@
 -- An available macroblock lies in the picture, before the one at hand.
-use Rattle.std.proofs.Common.{◌≡◌, ℕ, zero, suc, ◌+◌, ◌*◌, ◌/◌, ◌%◌, ◌<◌, ◌≤◌, Bool, true, false, ◌&&◌, nat_lt, IsTrue, List, [], length, Option, Some, None, refl, ◌∙◌, arith, ⊎_elim, lit<}
+use Rattle.std.proofs.Common.{◌≡◌, ℕ, zero, suc, ◌+◌, ◌*◌, ◌/◌, ◌%◌, ◌<◌, ◌≤◌, Bool, true, false, ◌&&◌, nat_lt, IsTrue, List, [], length, Option, Some, None}
+use Rattle.std.proofs.Common.{refl, ◌∙◌, arith, ⊎_elim, lit<}
 use Rattle.std.specs.List.{slice_get}
 use Rattle.std.specs.Option.{is_some, option_and_then}
 use Rattle.std.proofs.Math.Bool.{and-false}
@@ -39,11 +40,13 @@ corner-there : {M : Type 0} (w : ℕ) (xs : List M) → IsTrue (is_some (last_co
 unfolding last_corner
 corner-there w xs h = (some-before (length xs % w) _ h, go (length xs % w) h)
   where
-    go : (c : ℕ) → IsTrue (is_some (option_and_then (λ c. option_and_then (λ r. slice_get xs (r * w + c)) (before (length xs / w))) (before c))) → 0 < length xs / w
+    go : (c : ℕ) → IsTrue (is_some (option_and_then (λ c. option_and_then (λ r. slice_get xs (r * w + c)) (before (length xs / w))) (before c))) →
+        0 < length xs / w
     go zero h = absurd (grind (arith, h))
     go (suc c) h = some-before (length xs / w) (λ r. slice_get xs (r * w + c)) h
 
-pub within : (w : ℕ) (xs : List CodedMacroblock) (slice : ℕ) (constrained : Bool) (c r : ℕ) → length xs ≡ r * w + c → c < w → IsWithin (available w xs slice constrained) w c r
+pub within : (w : ℕ) (xs : List CodedMacroblock) (slice : ℕ) (constrained : Bool) (c r : ℕ) → length xs ≡ r * w + c → c < w →
+    IsWithin (available w xs slice constrained) w c r
 unfolding available macroblock_samples block_samples around column_of row_of
 within w xs slice constrained c r e k =
     let column : length xs % w ≡ c = remainder (length xs) w r c k e in
@@ -80,11 +83,13 @@ used-within (coded.Intra16x16 mode chroma) a w c r h = h
 used-within (coded.Pcm samples) a w c r h = none-within w c r
 used-within (coded.Inter motions) a w c r h = none-within w c r
 
-pub used-4x4 : (p : coded.Prediction) (modes : List Intra4x4PredMode) (chroma : IntraChromaPredMode) (a : Available) → p ≡ coded.Intra4x4 modes chroma → a ≡ used_by p a
+pub used-4x4 : (p : coded.Prediction) (modes : List Intra4x4PredMode) (chroma : IntraChromaPredMode) (a : Available) → p ≡ coded.Intra4x4 modes chroma →
+    a ≡ used_by p a
 unfolding used_by
 used-4x4 p modes chroma a e = rw e refl
 
-pub used-16x16 : (p : coded.Prediction) (mode : Intra16x16PredMode) (chroma : IntraChromaPredMode) (a : Available) → p ≡ coded.Intra16x16 mode chroma → a ≡ used_by p a
+pub used-16x16 : (p : coded.Prediction) (mode : Intra16x16PredMode) (chroma : IntraChromaPredMode) (a : Available) → p ≡ coded.Intra16x16 mode chroma →
+    a ≡ used_by p a
 unfolding used_by
 used-16x16 p mode chroma a e = rw e refl
 
@@ -123,8 +128,10 @@ abbrev pub assembled : Bool → Bool → Bool → Bool → Available
 assembled left above right corner = record { left = left; above = above; above_right = right; corner = corner }
 
 -- what lies in the picture is all that is available
-pub available-is : (w : ℕ) (xs : List CodedMacroblock) (slice : ℕ) (constrained : Bool) (c r m : ℕ) (s : Sides) (right left above above_right corner : Bool) → length xs ≡ r * w + c → c < w → m ≡ w → s ≡ macroblock_samples w xs slice constrained →
-    right ≡ is_some (around 4 (mode_part slice constrained) w xs (with_modes slice []) 5 0) → left ≡ (nat_lt 0 c && s.left) → above ≡ (nat_lt 0 r && s.above) → above_right ≡ (nat_lt 0 r && (nat_lt (c + 1) m && right)) →
+pub available-is : (w : ℕ) (xs : List CodedMacroblock) (slice : ℕ) (constrained : Bool) (c r m : ℕ) (s : Sides) (right left above above_right corner : Bool) →
+    length xs ≡ r * w + c → c < w → m ≡ w → s ≡ macroblock_samples w xs slice constrained →
+    right ≡ is_some (around 4 (mode_part slice constrained) w xs (with_modes slice []) 5 0) → left ≡ (nat_lt 0 c && s.left) →
+    above ≡ (nat_lt 0 r && s.above) → above_right ≡ (nat_lt 0 r && (nat_lt (c + 1) m && right)) →
     corner ≡ (nat_lt 0 c && (nat_lt 0 r && s.corner)) → assembled left above above_right corner ≡ available w xs slice constrained
 unfolding available
 available-is w xs slice constrained c r m s right left above above_right corner e k ms is rs el ea er ec =

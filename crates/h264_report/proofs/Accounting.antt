@@ -24,13 +24,19 @@ none-account terms bytes =
     accounted j tt tt
 
 -- the stream stops within its bytes
-pub stopped-account : {S : Type 0} {failures : S → ℕ} {terms : Terms} {bytes : List ℕ} {s s' : S} {answer : Result Summary Stop} → ((later : List ℕ) → Judged terms (span (λ (x : S) (calls : List Call). Unit {0}) failures s s') (bytes ++ later) (λ k. no_frame) [] answer) → Account terms bytes answer
+pub stopped-account : {S : Type 0} {failures : S → ℕ} {terms : Terms} {bytes : List ℕ} {s s' : S} {answer : Result Summary Stop} →
+    ((later : List ℕ) → Judged terms (span (λ (x : S) (calls : List Call). Unit {0}) failures s s') (bytes ++ later) (λ k. no_frame) [] answer) →
+    Account terms bytes answer
 stopped-account {terms = terms} {bytes = bytes} {answer = answer} j = subst (λ b. Account terms b answer) (append-nil bytes) (accounted (j []) tt tt)
 
-fed-decoded : {S : Type 0} {failures : S → ℕ} {terms : Terms} {session : Progress} {bytes : List ℕ} {s s' : S} (f : IsFed terms (span (λ (x : S) (calls : List Call). Unit {0}) failures s s') session bytes (λ k. no_frame) []) → AreDecoded f.made f.more
+fed-decoded : {S : Type 0} {failures : S → ℕ} {terms : Terms} {session : Progress} {bytes : List ℕ} {s s' : S}
+    (f : IsFed terms (span (λ (x : S) (calls : List Call). Unit {0}) failures s s') session bytes (λ k. no_frame) []) → AreDecoded f.made f.more
 unfolding took_with
 fed-decoded f = (f.tells.told [] (tt, tt)).0
 
 -- and goes on to its end
-pub fed-account : {S : Type 0} {failures : S → ℕ} {terms : Terms} {session : Progress} {bytes : List ℕ} {s s' s'' : S} {answer : Result Summary Stop} → IsFed terms (span (λ (x : S) (calls : List Call). Unit {0}) failures s s') session bytes (λ k. no_frame) [] → ((frames : ℕ → Frame) (told : List Told) → WasFed terms session bytes frames told → Judged terms (span (λ (x : S) (calls : List Call). Unit {0}) failures s' s'') bytes frames told answer) → Account terms bytes answer
+pub fed-account : {S : Type 0} {failures : S → ℕ} {terms : Terms} {session : Progress} {bytes : List ℕ} {s s' s'' : S} {answer : Result Summary Stop} →
+    IsFed terms (span (λ (x : S) (calls : List Call). Unit {0}) failures s s') session bytes (λ k. no_frame) [] →
+    ((frames : ℕ → Frame) (told : List Told) → WasFed terms session bytes frames told →
+    Judged terms (span (λ (x : S) (calls : List Call). Unit {0}) failures s' s'') bytes frames told answer) → Account terms bytes answer
 fed-account f j = accounted (j f.made f.more f.fed) (fed-decoded f) tt

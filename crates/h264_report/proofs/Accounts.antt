@@ -30,31 +30,48 @@ use Rattle.h264_verify.proofs.Verdicts.{judges-judged, none-judged}
 -- ---- from a sink's account
 
 -- A sink that had taken nothing took this.
-pub taken : {S : Type 0} (frames : ℕ → Frame) (took : S → List Call → Type 0) (s s' : S) (more : List Told) → took s [] → Tells (took_with frames took) s s' more → AreDecoded frames more × took s' (calls_of frames more)
+pub taken : {S : Type 0} (frames : ℕ → Frame) (took : S → List Call → Type 0) (s s' : S) (more : List Told) → took s [] →
+    Tells (took_with frames took) s s' more → AreDecoded frames more × took s' (calls_of frames more)
 unfolding took_with
 taken frames took s s' more h t = t.told [] (tt, h)
 
 module _ {S : Type 0} (took : S → List Call → Type 0) (failures : S → ℕ) (terms : Terms) (bytes : List ℕ) (s s' : S) where
   -- what the sink took
-  account : (none : took s []) (frames : ℕ → Frame) (answer : Result Summary Stop) → JudgedBy terms (span (took_with frames took) failures s s') bytes [] answer → (a : Account terms bytes answer) × took s' (calls_in a)
-  account none frames (Ok summary) j = let t = taken frames took s s' j.0.more none j.0.tells in (record { frames = frames; told = j.0.more; decoded = t.0; answers = j.0.verdict }, t.1)
-  account none frames (Err (No bit rule)) j = let t = taken frames took s s' j.0.more none j.0.tells in (record { frames = frames; told = j.0.more; decoded = t.0; answers = j.0.verdict }, t.1)
-  account none frames (Err (Outside bit feature)) j = let t = taken frames took s s' j.0.more none j.0.tells in (record { frames = frames; told = j.0.more; decoded = t.0; answers = j.0.verdict }, t.1)
-  account none frames (Err Memory) j = let t = taken frames took s s' j.0.more none j.0.tells in (record { frames = frames; told = j.0.more; decoded = t.0; answers = record { rest = j.0.rest; answer = j.0.answer; verdict = j.0.verdict } }, t.1)
-  account none frames (Err Read) j = let t = taken frames took s s' j.0.more none j.0.tells in (record { frames = frames; told = j.0.more; decoded = t.0; answers = record { rest = j.0.rest; answer = j.0.answer; verdict = j.0.verdict } }, t.1)
-  account none frames (Err Write) j = let t = taken frames took s s' j.0.more none j.0.tells in (record { frames = frames; told = j.0.more; decoded = t.0; answers = record { rest = j.0.rest; answer = j.0.answer; verdict = j.0.verdict } }, t.1)
+  account : (none : took s []) (frames : ℕ → Frame) (answer : Result Summary Stop) →
+      JudgedBy terms (span (took_with frames took) failures s s') bytes [] answer → (a : Account terms bytes answer) × took s' (calls_in a)
+  account none frames (Ok summary) j = let t = taken frames took s s' j.0.more none j.0.tells in
+      (record { frames = frames; told = j.0.more; decoded = t.0; answers = j.0.verdict }, t.1)
+  account none frames (Err (No bit rule)) j = let t = taken frames took s s' j.0.more none j.0.tells in
+      (record { frames = frames; told = j.0.more; decoded = t.0; answers = j.0.verdict }, t.1)
+  account none frames (Err (Outside bit feature)) j = let t = taken frames took s s' j.0.more none j.0.tells in
+      (record { frames = frames; told = j.0.more; decoded = t.0; answers = j.0.verdict }, t.1)
+  account none frames (Err Memory) j = let t = taken frames took s s' j.0.more none j.0.tells in
+      (record { frames = frames; told = j.0.more; decoded = t.0; answers = record { rest = j.0.rest; answer = j.0.answer; verdict = j.0.verdict } }, t.1)
+  account none frames (Err Read) j = let t = taken frames took s s' j.0.more none j.0.tells in
+      (record { frames = frames; told = j.0.more; decoded = t.0; answers = record { rest = j.0.rest; answer = j.0.answer; verdict = j.0.verdict } }, t.1)
+  account none frames (Err Write) j = let t = taken frames took s s' j.0.more none j.0.tells in
+      (record { frames = frames; told = j.0.more; decoded = t.0; answers = record { rest = j.0.rest; answer = j.0.answer; verdict = j.0.verdict } }, t.1)
 
 -- what the sink took
-pub accounts : {S : Type 0} {took : S → List Call → Type 0} {failures : S → ℕ} {terms : Terms} {bytes : List ℕ} {frames : ℕ → Frame} {s s' : S} {answer : Result Summary Stop} → Judged terms (span took failures s s') bytes frames [] answer → took s [] → (a : Account terms bytes answer) × took s' (calls_in a)
+pub accounts : {S : Type 0} {took : S → List Call → Type 0} {failures : S → ℕ} {terms : Terms} {bytes : List ℕ} {frames : ℕ → Frame} {s s' : S}
+    {answer : Result Summary Stop} → Judged terms (span took failures s s') bytes frames [] answer → took s [] → (a : Account terms bytes answer) ×
+    took s' (calls_in a)
 accounts {S} {took} {failures} {terms} {bytes} {frames} {s} {s'} {answer} j none = account took failures terms bytes s s' none j.made answer j.judged
 
 -- ---- with another answer
 
 -- what was told up to any answer is the first of the stream's
 pub front-of : (terms : Terms) (bytes : List ℕ) (told : List Told) (answer : Result Summary Stop) → Answers terms bytes told answer → IsFront terms bytes told
-front-of terms bytes told (Ok summary) v = record { rest = []; answer = Ok summary; verdict = subst (λ l. Verdict terms bytes l (Ok summary)) (sym (append-nil told)) v }
-front-of terms bytes told (Err (No bit rule)) v = record { rest = []; answer = Err (No bit rule); verdict = subst (λ l. Verdict terms bytes l (Err (No bit rule))) (sym (append-nil told)) v }
-front-of terms bytes told (Err (Outside bit feature)) v = record { rest = []; answer = Err (Outside bit feature); verdict = subst (λ l. Verdict terms bytes l (Err (Outside bit feature))) (sym (append-nil told)) v }
+front-of terms bytes told (Ok summary) v =
+    record { rest = []; answer = Ok summary; verdict = subst (λ l. Verdict terms bytes l (Ok summary)) (sym (append-nil told)) v }
+front-of terms bytes told (Err (No bit rule)) v =
+    record { rest = []; answer = Err (No bit rule); verdict = subst (λ l. Verdict terms bytes l (Err (No bit rule))) (sym (append-nil told)) v }
+front-of terms bytes told (Err (Outside bit feature)) v =
+    record {
+      rest = [];
+      answer = Err (Outside bit feature);
+      verdict = subst (λ l. Verdict terms bytes l (Err (Outside bit feature))) (sym (append-nil told)) v;
+    }
 front-of terms bytes told (Err Memory) v = v
 front-of terms bytes told (Err Read) v = v
 front-of terms bytes told (Err Write) v = v
@@ -70,7 +87,8 @@ module _ {terms : Terms} {bytes : List ℕ} where
 
   module _ {make : List Call → List ℕ} {start known : Option (List ℕ)} where
     -- What is told of a stream of which a writer took this.
-    took-writes : (broke_off : Bool) (answer : Result Summary Stop) (a : Account terms bytes answer) → HoldsCalls broke_off make start known (calls_in a) → Writes make terms bytes (told_of broke_off answer) start known
+    took-writes : (broke_off : Bool) (answer : Result Summary Stop) (a : Account terms bytes answer) → HoldsCalls broke_off make start known (calls_in a) →
+        Writes make terms bytes (told_of broke_off answer) start known
     took-writes true answer a h = record { account = up-to-write answer a; text = h.bytes; is_written = inr h.breaks_off; sends = h.sends }
     took-writes false (Ok summary) a h = record { account = a; text = make (calls_in a); is_written = refl; sends = h }
     took-writes false (Err (No bit rule)) a h = record { account = a; text = make (calls_in a); is_written = refl; sends = h }
@@ -80,10 +98,17 @@ module _ {terms : Terms} {bytes : List ℕ} where
     took-writes false (Err Write) a h = record { account = up-to-memory (Err Write) a; text = make (calls_in a); is_written = refl; sends = h }
 
     -- With memory wanting for what was to come.
-    short : (answer : Result Summary Stop) → (answer ≡ Err Write → ⊥) → Writes make terms bytes answer start known → Writes make terms bytes (Err Memory) start known
+    short : (answer : Result Summary Stop) → (answer ≡ Err Write → ⊥) → Writes make terms bytes answer start known →
+        Writes make terms bytes (Err Memory) start known
     short (Ok summary) never w = record { account = up-to-memory (Ok summary) w.account; text = w.text; is_written = w.is_written; sends = w.sends }
-    short (Err (No bit rule)) never w = record { account = up-to-memory (Err (No bit rule)) w.account; text = w.text; is_written = w.is_written; sends = w.sends }
-    short (Err (Outside bit feature)) never w = record { account = up-to-memory (Err (Outside bit feature)) w.account; text = w.text; is_written = w.is_written; sends = w.sends }
+    short (Err (No bit rule)) never w = record {
+      account = up-to-memory (Err (No bit rule)) w.account;
+      text = w.text;
+      is_written = w.is_written;
+      sends = w.sends;
+    }
+    short (Err (Outside bit feature)) never w =
+        record { account = up-to-memory (Err (Outside bit feature)) w.account; text = w.text; is_written = w.is_written; sends = w.sends }
     short (Err Memory) never w = w
     short (Err Read) never w = record { account = up-to-memory (Err Read) w.account; text = w.text; is_written = w.is_written; sends = w.sends }
     short (Err Write) never w = absurd (never refl)
@@ -92,27 +117,37 @@ module _ {terms : Terms} {bytes : List ℕ} where
     pub failed : (answer : Result Summary Stop) → Writes make terms bytes answer start known → Writes make terms bytes (Err Write) start known
     failed (Ok summary) w = record { account = up-to-write (Ok summary) w.account; text = w.text; is_written = inl w.is_written; sends = w.sends }
     failed (Err (No bit rule)) w = record { account = up-to-write (Err (No bit rule)) w.account; text = w.text; is_written = inl w.is_written; sends = w.sends }
-    failed (Err (Outside bit feature)) w = record { account = up-to-write (Err (Outside bit feature)) w.account; text = w.text; is_written = inl w.is_written; sends = w.sends }
+    failed (Err (Outside bit feature)) w = record {
+      account = up-to-write (Err (Outside bit feature)) w.account;
+      text = w.text;
+      is_written = inl w.is_written;
+      sends = w.sends;
+    }
     failed (Err Memory) w = record { account = up-to-write (Err Memory) w.account; text = w.text; is_written = inl w.is_written; sends = w.sends }
     failed (Err Read) w = record { account = up-to-write (Err Read) w.account; text = w.text; is_written = inl w.is_written; sends = w.sends }
     failed (Err Write) w = w
 
     -- the answer that is said, where there was no memory for the last line of a verdict
-    pub said-answer : (answer said : Result Summary Stop) → (said ≡ answer) ⊎ (said ≡ Err Memory) → (answer ≡ Err Write → said ≡ Err Write) → Writes make terms bytes answer start known → Writes make terms bytes said start known
+    pub said-answer : (answer said : Result Summary Stop) → (said ≡ answer) ⊎ (said ≡ Err Memory) → (answer ≡ Err Write → said ≡ Err Write) →
+        Writes make terms bytes answer start known → Writes make terms bytes said start known
     said-answer answer said (inl e) stays w = subst (λ a. Writes make terms bytes a start known) (sym e) w
     said-answer answer said (inr e) stays w = subst (λ a. Writes make terms bytes a start known) (sym e) (short answer (λ is. let d = sym e ∙ stays is in cc) w)
 
 -- What the writer after a sink took that had taken nothing.
-pub writes : {S : Type 0} {took : S → List Call → Type 0} {failures : S → ℕ} {terms : Terms} {bytes : List ℕ} {frames : ℕ → Frame} {s s' : S} {answer said : Result Summary Stop} (make : List Call → List ℕ) (start known : Option (List ℕ)) (broke_off : Bool) →
-    said ≡ told_of broke_off answer → Judged terms (span took failures s s') bytes frames [] answer → took s [] → ((calls : List Call) → took s' calls → HoldsCalls broke_off make start known calls) → Writes make terms bytes said start known
+pub writes : {S : Type 0} {took : S → List Call → Type 0} {failures : S → ℕ} {terms : Terms} {bytes : List ℕ} {frames : ℕ → Frame} {s s' : S}
+    {answer said : Result Summary Stop} (make : List Call → List ℕ) (start known : Option (List ℕ)) (broke_off : Bool) →
+    said ≡ told_of broke_off answer → Judged terms (span took failures s s') bytes frames [] answer → took s [] →
+    ((calls : List Call) → took s' calls → HoldsCalls broke_off make start known calls) → Writes make terms bytes said start known
 writes {terms = terms} {bytes = bytes} {answer = answer} make start known broke_off is j none holds =
     let a = accounts j none in
-    subst (λ x. Writes make terms bytes x start known) (sym is) (took-writes {make = make} {start = start} {known = known} broke_off answer a.0 (holds (calls_in a.0) a.1))
+    subst (λ x. Writes make terms bytes x start known) (sym is)
+    (took-writes {make = make} {start = start} {known = known} broke_off answer a.0 (holds (calls_in a.0) a.1))
 
 -- ---- which devices have failed
 
 -- Where a write is told to have failed, the device has.
-pub write-failed : (broke_off was failed : Bool) (answer : Result Summary Stop) {said : Result Summary Stop} → said ≡ told_of broke_off answer → IsBlamed broke_off was failed → said ≡ Err Write → failed ≡ true
+pub write-failed : (broke_off was failed : Bool) (answer : Result Summary Stop) {said : Result Summary Stop} → said ≡ told_of broke_off answer →
+    IsBlamed broke_off was failed → said ≡ Err Write → failed ≡ true
 write-failed true was failed answer is b w = b
 write-failed false was failed (Ok summary) is b w = absurd (let d = sym is ∙ w in cc)
 write-failed false was failed (Err (No bit rule)) is b w = absurd (let d = sym is ∙ w in cc)
@@ -122,12 +157,14 @@ write-failed false was failed (Err Read) is b w = absurd (let d = sym is ∙ w i
 write-failed false was failed (Err Write) is b w = absurd (let d = sym is ∙ w in cc)
 
 -- Where none is, the device is as it was.
-pub none-failed : (broke_off was failed : Bool) (answer : Result Summary Stop) {said : Result Summary Stop} → said ≡ told_of broke_off answer → IsBlamed broke_off was failed → (said ≡ Err Write → ⊥) → failed ≡ was
+pub none-failed : (broke_off was failed : Bool) (answer : Result Summary Stop) {said : Result Summary Stop} → said ≡ told_of broke_off answer →
+    IsBlamed broke_off was failed → (said ≡ Err Write → ⊥) → failed ≡ was
 none-failed true was failed answer is b never = absurd (never is)
 none-failed false was failed answer is b never = b
 
 -- a read that is told to have failed did
-pub read-told : (broke_off : Bool) (answer : Result Summary Stop) {said : Result Summary Stop} → said ≡ told_of broke_off answer → said ≡ Err Read → answer ≡ Err Read
+pub read-told : (broke_off : Bool) (answer : Result Summary Stop) {said : Result Summary Stop} → said ≡ told_of broke_off answer → said ≡ Err Read →
+    answer ≡ Err Read
 read-told true answer is r = absurd (let d = sym is ∙ r in cc)
 read-told false (Ok summary) is r = absurd (let d = sym is ∙ r in cc)
 read-told false (Err (No bit rule)) is r = absurd (let d = sym is ∙ r in cc)
@@ -141,40 +178,47 @@ pub never-write : {answer said : Result Summary Stop} → (answer ≡ Err Write 
 never-write stays never is = never (stays is)
 
 -- a read that failed is told, or that a write did
-pub still-told : {Quiet : Type 0} (broke_off : Bool) (answer : Result Summary Stop) {said : Result Summary Stop} → said ≡ told_of broke_off answer → Quiet ⊎ (answer ≡ Err Read) → Quiet ⊎ ((said ≡ Err Read) ⊎ (said ≡ Err Write))
+pub still-told : {Quiet : Type 0} (broke_off : Bool) (answer : Result Summary Stop) {said : Result Summary Stop} → said ≡ told_of broke_off answer → Quiet ⊎
+    (answer ≡ Err Read) → Quiet ⊎ ((said ≡ Err Read) ⊎ (said ≡ Err Write))
 still-told true answer is (inl q) = inl q
 still-told true answer is (inr r) = inr (inr is)
 still-told false answer is (inl q) = inl q
 still-told false answer is (inr r) = inr (inl (is ∙ ap (told_of false) r))
 
 -- and stays so in the last line
-pub said-told : {Quiet : Type 0} (answer said : Result Summary Stop) → (answer ≡ Err Read → said ≡ Err Read) → (answer ≡ Err Write → said ≡ Err Write) → Quiet ⊎ ((answer ≡ Err Read) ⊎ (answer ≡ Err Write)) → Quiet ⊎ ((said ≡ Err Read) ⊎ (said ≡ Err Write))
+pub said-told : {Quiet : Type 0} (answer said : Result Summary Stop) → (answer ≡ Err Read → said ≡ Err Read) → (answer ≡ Err Write → said ≡ Err Write) →
+    Quiet ⊎ ((answer ≡ Err Read) ⊎ (answer ≡ Err Write)) → Quiet ⊎ ((said ≡ Err Read) ⊎ (said ≡ Err Write))
 said-told answer said read write (inl q) = inl q
 said-told answer said read write (inr (inl r)) = inr (inl (read r))
 said-told answer said read write (inr (inr w)) = inr (inr (write w))
 
 -- ---- one text after another
 
-pub takes-after : (written : Bool) {a b : Option (List ℕ)} (c : Option (List ℕ)) {bs : List ℕ} (cs : List ℕ) → Sends a b bs → Takes written b c cs → Takes written a c (bs ++ cs)
+pub takes-after : (written : Bool) {a b : Option (List ℕ)} (c : Option (List ℕ)) {bs : List ℕ} (cs : List ℕ) → Sends a b bs → Takes written b c cs →
+    Takes written a c (bs ++ cs)
 takes-after true c cs p q = sends-more p q
 takes-after false {a} {b} c {bs} cs p q = some-after p q
 
 -- ---- sinks that were told nothing
 
-pub none-lines : {name reference : ℕ} {head begins : Opening} {listing l : Listing} {start known : Option (List ℕ)} {was : Bool} {frames : ℕ} {broke_off broken : Bool} → reference ≡ name → begins ≡ head → l ≡ listing → known ≡ start → broken ≡ was → frames ≡ 0 → broke_off ≡ false → TookLines (lent name start was) head listing (lined begins l (lent reference known broken) frames broke_off) []
+pub none-lines : {name reference : ℕ} {head begins : Opening} {listing l : Listing} {start known : Option (List ℕ)} {was : Bool} {frames : ℕ}
+    {broke_off broken : Bool} → reference ≡ name → begins ≡ head → l ≡ listing → known ≡ start → broken ≡ was → frames ≡ 0 → broke_off ≡ false →
+    TookLines (lent name start was) head listing (lined begins l (lent reference known broken) frames broke_off) []
 unfolding lines_of
-none-lines {name} {reference} {head} {begins} {listing} {l} {start} {known} {was} {frames} {broke_off} {broken} same heads lists unwritten quiet zero whole = record {
-  same_reference = same;
-  same_opening = heads;
-  same_listing = lists;
-  lines = record {
-    counts = zero;
-    holds = subst (λ b. HoldsCalls b (lines_of begins l 0) start known []) (sym whole) (subst (λ k. Sends start k []) (sym unwritten) (sends-none start));
-    blamed = subst (λ b. IsBlamed b was broken) (sym whole) quiet;
-  };
-}
+none-lines {name} {reference} {head} {begins} {listing} {l} {start} {known} {was} {frames} {broke_off} {broken} same heads lists unwritten quiet zero whole =
+    record {
+      same_reference = same;
+      same_opening = heads;
+      same_listing = lists;
+      lines = record {
+        counts = zero;
+        holds = subst (λ b. HoldsCalls b (lines_of begins l 0) start known []) (sym whole) (subst (λ k. Sends start k []) (sym unwritten) (sends-none start));
+        blamed = subst (λ b. IsBlamed b was broken) (sym whole) quiet;
+      };
+    }
 
-pub none-frames : {name reference : ℕ} {start known : Option (List ℕ)} {was broke_off broken : Bool} → reference ≡ name → known ≡ start → broken ≡ was → broke_off ≡ false → TookFrames (lent name start was) broke_off (lent reference known broken) []
+pub none-frames : {name reference : ℕ} {start known : Option (List ℕ)} {was broke_off broken : Bool} → reference ≡ name → known ≡ start → broken ≡ was →
+    broke_off ≡ false → TookFrames (lent name start was) broke_off (lent reference known broken) []
 unfolding bytes_of
 none-frames {name} {reference} {start} {known} {was} {broke_off} {broken} same unwritten quiet whole = record {
   same_reference = same;
@@ -183,8 +227,11 @@ none-frames {name} {reference} {start} {known} {was} {broke_off} {broken} same u
 }
 
 -- what a sink holds is that of the listing for which it was made
-pub of-listing : {start : LentWriter} {head : Opening} {listing : Listing} {s : LineSinkState} {calls : List Call} → TookLines start head listing s calls → HoldsCalls s.broke_off (lines_of head listing 0) start.bytes s.writer.bytes calls
-of-listing {start} {head} {listing} {s} {calls} h = subst (λ b. HoldsCalls s.broke_off (lines_of b listing 0) start.bytes s.writer.bytes calls) h.same_opening (subst (λ x. HoldsCalls s.broke_off (lines_of s.opening x 0) start.bytes s.writer.bytes calls) h.same_listing h.lines.holds)
+pub of-listing : {start : LentWriter} {head : Opening} {listing : Listing} {s : LineSinkState} {calls : List Call} → TookLines start head listing s calls →
+    HoldsCalls s.broke_off (lines_of head listing 0) start.bytes s.writer.bytes calls
+of-listing {start} {head} {listing} {s} {calls} h =
+    subst (λ b. HoldsCalls s.broke_off (lines_of b listing 0) start.bytes s.writer.bytes calls) h.same_opening
+    (subst (λ x. HoldsCalls s.broke_off (lines_of s.opening x 0) start.bytes s.writer.bytes calls) h.same_listing h.lines.holds)
 
 -- what has failed stays so
 pub still-failed : (written mid new : Bool) → (written ≡ true → new ≡ mid) → (written ≡ false → new ≡ true) → mid ≡ true → new ≡ true
@@ -200,12 +247,16 @@ pub was-read : (answer said : Result Summary Stop) → (said ≡ answer) ⊎ (sa
 was-read answer said t r = ⊎_elim (λ e. sym e ∙ r) (λ e. absurd (let d = sym e ∙ r in cc)) t
 
 -- what was told up to the answer in whose place another is told
-pub told-account : {terms : Terms} {bytes : List ℕ} (answer said : Result Summary Stop) → (said ≡ answer) ⊎ (said ≡ Err Memory) → (a : Account terms bytes answer) → (b : Account terms bytes said) × (calls_in b ≡ calls_in a)
+pub told-account : {terms : Terms} {bytes : List ℕ} (answer said : Result Summary Stop) → (said ≡ answer) ⊎ (said ≡ Err Memory) →
+    (a : Account terms bytes answer) → (b : Account terms bytes said) × (calls_in b ≡ calls_in a)
 told-account {terms} {bytes} answer said (inl e) a = subst (λ x. (b : Account terms bytes x) × (calls_in b ≡ calls_in a)) (sym e) (a, refl)
-told-account {terms} {bytes} answer said (inr e) a = subst (λ x. (b : Account terms bytes x) × (calls_in b ≡ calls_in a)) (sym e) (record { frames = a.frames; told = a.told; decoded = a.decoded; answers = front-of terms bytes a.told answer a.answers }, refl)
+told-account {terms} {bytes} answer said (inr e) a =
+    subst (λ x. (b : Account terms bytes x) × (calls_in b ≡ calls_in a)) (sym e)
+    (record { frames = a.frames; told = a.told; decoded = a.decoded; answers = front-of terms bytes a.told answer a.answers }, refl)
 
 -- and then what was held back was written
-pub kept : {make : List Call → List ℕ} {terms : Terms} {bytes : List ℕ} {answer : Result Summary Stop} {old mid new : Option (List ℕ)} → Writes make terms bytes answer old mid → Keeps mid new → Writes make terms bytes answer old new
+pub kept : {make : List Call → List ℕ} {terms : Terms} {bytes : List ℕ} {answer : Result Summary Stop} {old mid new : Option (List ℕ)} →
+    Writes make terms bytes answer old mid → Keeps mid new → Writes make terms bytes answer old new
 kept w k = record { account = w.account; text = w.text; is_written = w.is_written; sends = sends-keeps w.sends k }
 
 -- ---- the last elements after a no
@@ -228,7 +279,8 @@ module _ (es : List Element) where
   trail-of-no (Err Write) e = absurd (let d : false ≡ true = e in cc)
 
   -- without them the last line stands alone
-  pub takes-bare : (answer said : Result Summary Stop) (written : Bool) (old new : Option (List ℕ)) → is_no answer ≡ false → (said ≡ answer) ⊎ (said ≡ Err Memory) → Takes written old new (last_line Full said) → Takes written old new (trail_text es said ++ last_line Full said)
+  pub takes-bare : (answer said : Result Summary Stop) (written : Bool) (old new : Option (List ℕ)) → is_no answer ≡ false → (said ≡ answer) ⊎
+      (said ≡ Err Memory) → Takes written old new (last_line Full said) → Takes written old new (trail_text es said ++ last_line Full said)
   takes-bare answer said written old new e t takes =
       let none : trail_text es said ≡ [] = ⊎_elim (λ same. ap (trail_text es) same ∙ bare-answer answer e) (λ memory. ap (trail_text es) memory) t in
       subst (λ l. Takes written old new (l ++ last_line Full said)) (sym none) takes
@@ -243,14 +295,25 @@ none-elements s e = e
 -- ---- the commands
 
 -- the lines and the last line
-pub listed : {terms : Terms} {listing : Listing} {bytes : List ℕ} (answer : Result Summary Stop) (ending : Ending) (old mid new : Option (List ℕ)) → (ending.answer ≡ answer) ⊎ (ending.answer ≡ Err Memory) → (answer ≡ Err Write → ending.answer ≡ Err Write) → Writes (lines_of bare listing 0) terms bytes answer old mid → Takes ending.written mid new (last_line terms.mode ending.answer) → Lists terms listing bytes ending (wrote old new)
+pub listed : {terms : Terms} {listing : Listing} {bytes : List ℕ} (answer : Result Summary Stop) (ending : Ending) (old mid new : Option (List ℕ)) →
+    (ending.answer ≡ answer) ⊎ (ending.answer ≡ Err Memory) → (answer ≡ Err Write → ending.answer ≡ Err Write) →
+    Writes (lines_of bare listing 0) terms bytes answer old mid → Takes ending.written mid new (last_line terms.mode ending.answer) →
+    Lists terms listing bytes ending (wrote old new)
 listed {terms} {listing} answer ending old mid new e stays w t =
     let v = said-answer answer ending.answer e stays w in
-    record { account = v.account; lines = v.text; are_lines = v.is_written; text = takes-after ending.written new (last_line terms.mode ending.answer) v.sends t }
+    record {
+      account = v.account;
+      lines = v.text;
+      are_lines = v.is_written;
+      text = takes-after ending.written new (last_line terms.mode ending.answer) v.sends t;
+    }
 
 -- the last elements of what a sink took, and the last line
-pub checked : {S : Type 0} {target : Target} {took : S → List Call → Type 0} {failures : S → ℕ} {bytes : List ℕ} {frames : ℕ → Frame} {s s' : S} {answer : Result Summary Stop} {ending : Ending} (trail : S → List Element) (old new : Option (List ℕ)) →
-    Judged (terms_of Full target) (span took failures s s') bytes frames [] answer → took s [] → ((calls : List Call) → took s' calls → trail s' ≡ keep_last 16 (elements_of calls)) → (ending.answer ≡ answer) ⊎ (ending.answer ≡ Err Memory) → Takes ending.written old new (trail_text (trail s') ending.answer ++ last_line Full ending.answer) → Checks target bytes ending (wrote old new)
+pub checked : {S : Type 0} {target : Target} {took : S → List Call → Type 0} {failures : S → ℕ} {bytes : List ℕ} {frames : ℕ → Frame} {s s' : S}
+    {answer : Result Summary Stop} {ending : Ending} (trail : S → List Element) (old new : Option (List ℕ)) →
+    Judged (terms_of Full target) (span took failures s s') bytes frames [] answer → took s [] →
+    ((calls : List Call) → took s' calls → trail s' ≡ keep_last 16 (elements_of calls)) → (ending.answer ≡ answer) ⊎ (ending.answer ≡ Err Memory) →
+    Takes ending.written old new (trail_text (trail s') ending.answer ++ last_line Full ending.answer) → Checks target bytes ending (wrote old new)
 checked {s' = s'} {answer = answer} {ending = ending} trail old new j none holds e t =
     let a = accounts j none in
     let b = told-account answer ending.answer e a.0 in
@@ -258,22 +321,28 @@ checked {s' = s'} {answer = answer} {ending = ending} trail old new j none holds
     record { account = b.0; text = subst (λ es. Takes ending.written old new (trail_text es ending.answer ++ last_line Full ending.answer)) is t }
 
 -- there was no memory for a sink
-pub none-checked : (target : Target) (bytes : List ℕ) (ending : Ending) (old new : Option (List ℕ)) → ending.answer ≡ Err Memory → Takes ending.written old new (last_line Full (Err Memory)) → Checks target bytes ending (wrote old new)
+pub none-checked : (target : Target) (bytes : List ℕ) (ending : Ending) (old new : Option (List ℕ)) → ending.answer ≡ Err Memory →
+    Takes ending.written old new (last_line Full (Err Memory)) → Checks target bytes ending (wrote old new)
 none-checked target bytes ending old new e t =
     let none : ℕ = 0 in
     let took : Unit {0} → List Call → Type 0 = λ s calls. Unit {0} in
-    let j = judges-judged (terms_of Full target) took (λ s. none) bytes (λ k. no_frame) tt tt (Err Memory) (none-judged (terms_of Full target) took (λ s. none) bytes (λ k. no_frame) tt) in
+    let j = judges-judged (terms_of Full target) took (λ s. none) bytes (λ k. no_frame) tt tt (Err Memory)
+    (none-judged (terms_of Full target) took (λ s. none) bytes (λ k. no_frame) tt) in
     let a = (accounts j tt).0 in
     let c : Checks target bytes (record { answer = Err Memory; written = ending.written }) (wrote old new) = record { account = a; text = t } in
     subst (λ x. Checks target bytes (record { answer = x; written = ending.written }) (wrote old new)) (sym e) c
 
 -- the frames, and the last line elsewhere
-pub decoded : {target : Target} {bytes : List ℕ} (answer : Result Summary Stop) (ending : Ending) (old mid new err_old err_new : Option (List ℕ)) → (ending.answer ≡ answer) ⊎ (ending.answer ≡ Err Memory) → (answer ≡ Err Write → ending.answer ≡ Err Write) → Writes bytes_of (terms_of Full target) bytes answer old mid → Keeps mid new → Takes ending.written err_old err_new (last_line Full ending.answer) → Decodes target bytes ending (wrote old new) (wrote err_old err_new)
+pub decoded : {target : Target} {bytes : List ℕ} (answer : Result Summary Stop) (ending : Ending) (old mid new err_old err_new : Option (List ℕ)) →
+    (ending.answer ≡ answer) ⊎ (ending.answer ≡ Err Memory) → (answer ≡ Err Write → ending.answer ≡ Err Write) →
+    Writes bytes_of (terms_of Full target) bytes answer old mid → Keeps mid new → Takes ending.written err_old err_new (last_line Full ending.answer) →
+    Decodes target bytes ending (wrote old new) (wrote err_old err_new)
 decoded answer ending old mid new err_old err_new e stays w k t = record { frames = kept (said-answer answer ending.answer e stays w) k; text = t }
 
 -- ---- what is known of a source
 
-pub of-bytes : (known : Option (List ℕ)) (Is : List ℕ → Type 0) → ((bytes : List ℕ) → known ≡ Some bytes → Is bytes) → (bytes : List ℕ) × Is bytes → OfBytes known Is
+pub of-bytes : (known : Option (List ℕ)) (Is : List ℕ → Type 0) → ((bytes : List ℕ) → known ≡ Some bytes → Is bytes) → (bytes : List ℕ) × Is bytes →
+    OfBytes known Is
 of-bytes None Is p q = q
 of-bytes (Some bytes) Is p q = p bytes refl
 

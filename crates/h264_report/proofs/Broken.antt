@@ -1,5 +1,6 @@
 -- What the further rules find of some calls, and of one more.
-use Rattle.std.proofs.Common.{◌≡◌, ◌≢◌, ◌<◌, ◌==◌, if◌then◌else◌, ℕ, ℤ, ◌∷◌, List, [], ◌++◌, length, get_or, slice_set, Option, None, Some, true, false, refl, sym, ap, ap₂, ◌∙◌, ◌⊎◌, inl, inr}
+use Rattle.std.proofs.Common.{◌≡◌, ◌≢◌, ◌<◌, ◌==◌, if◌then◌else◌, ℕ, ℤ, ◌∷◌, List, [], ◌++◌, length, get_or, slice_set, Option, None, Some, true, false, refl}
+use Rattle.std.proofs.Common.{sym, ap, ap₂, ◌∙◌, ◌⊎◌, inl, inr}
 use Rattle.std.proofs.lemmas.Bool.{cond-true, cond-false}
 use Rattle.std.proofs.lemmas.Bool.Decides.{eqb_tells}
 use Rattle.std.proofs.lemmas.Grind.{get_or-set_at}
@@ -23,12 +24,14 @@ unfolding standing_after
 standing-more s [] call = refl
 standing-more s (c ∷ calls) call = standing-more (after s c) calls call
 
-places-more : (rule : StrictRule) (s : Standing) (calls : List Call) (call : Call) → places rule s (calls ++ call ∷ []) ≡ places rule s calls ++ bits_for rule (bit_of call) (broken_by (standing_after s calls) call)
+places-more : (rule : StrictRule) (s : Standing) (calls : List Call) (call : Call) → places rule s (calls ++ call ∷ []) ≡ places rule s calls ++
+    bits_for rule (bit_of call) (broken_by (standing_after s calls) call)
 unfolding places standing_after
 places-more rule s [] call = append-nil (bits_for rule (bit_of call) (broken_by s call))
 places-more rule s (c ∷ calls) call =
     ap (λ l. bits_for rule (bit_of c) (broken_by s c) ++ l) (places-more rule (after s c) calls call)
-    ∙ sym (append_assoc (bits_for rule (bit_of c) (broken_by s c)) (places rule (after s c) calls) (bits_for rule (bit_of call) (broken_by (standing_after (after s c) calls) call)))
+    ∙ sym (append_assoc (bits_for rule (bit_of c) (broken_by s c)) (places rule (after s c) calls)
+    (bits_for rule (bit_of call) (broken_by (standing_after (after s c) calls) call)))
 
 pub with-more : (xs ys : List ℕ) (p : Option Places) → with_places p (xs ++ ys) ≡ with_places (with_places p xs) ys
 unfolding with_places
@@ -57,22 +60,30 @@ module _ (found : List (Option Places)) (rule r : StrictRule) (bit : ℕ) (withi
   abbrev pub noted : Option Places
   noted = Some (with_place (get_or found (place_of rule) None) bit)
 
-  here : place_of rule == place_of r ≡ true → Some (with_place (get_or found (place_of r) None) bit) ≡ with_places (get_or found (place_of r) None) (bits_for r bit (listed (Some rule)))
+  here : place_of rule == place_of r ≡ true →
+      Some (with_place (get_or found (place_of r) None) bit) ≡ with_places (get_or found (place_of r) None) (bits_for r bit (listed (Some rule)))
   unfolding with_places bits_for
   here t = sym (ap (λ l. with_places (get_or found (place_of r) None) (l ++ [])) (cond-true _ _ _ t))
 
-  elsewhere : place_of rule == place_of r ≡ false → get_or found (place_of r) None ≡ with_places (get_or found (place_of r) None) (bits_for r bit (listed (Some rule)))
+  elsewhere : place_of rule == place_of r ≡ false →
+      get_or found (place_of r) None ≡ with_places (get_or found (place_of r) None) (bits_for r bit (listed (Some rule)))
   unfolding with_places bits_for
   elsewhere f = sym (ap (λ l. with_places (get_or found (place_of r) None) (l ++ [])) (cond-false _ _ _ f))
 
-  pub note-one : get_or (slice_set found (place_of rule) noted) (place_of r) None ≡ with_places (get_or found (place_of r) None) (bits_for r bit (listed (Some rule)))
+  pub note-one : get_or (slice_set found (place_of rule) noted) (place_of r) None ≡
+      with_places (get_or found (place_of r) None) (bits_for r bit (listed (Some rule)))
   note-one = go (eqb_tells (place_of rule) (place_of r)) where
-    go : ((place_of rule == place_of r ≡ true) × (place_of rule ≡ place_of r)) ⊎ ((place_of rule == place_of r ≡ false) × (place_of rule ≢ place_of r)) → get_or (slice_set found (place_of rule) noted) (place_of r) None ≡ with_places (get_or found (place_of r) None) (bits_for r bit (listed (Some rule)))
-    go (inl e) = get_or-set_at found (place_of rule) (place_of r) noted None (sym e.1) within ∙ ap (λ k. Some (with_place (get_or found k None) bit)) e.1 ∙ here e.0
+    go : ((place_of rule == place_of r ≡ true) × (place_of rule ≡ place_of r)) ⊎ ((place_of rule == place_of r ≡ false) × (place_of rule ≢ place_of r)) →
+        get_or (slice_set found (place_of rule) noted) (place_of r) None ≡ with_places (get_or found (place_of r) None) (bits_for r bit (listed (Some rule)))
+    go (inl e) = get_or-set_at found (place_of rule) (place_of r) noted None (sym e.1) within ∙ ap (λ k. Some (with_place (get_or found k None) bit)) e.1 ∙
+        here e.0
     go (inr e) = get_or-set_other found (place_of rule) (place_of r) noted None (λ q. e.1 (sym q)) ∙ elsewhere e.0
 
 -- the places of no calls
-pub none-found : (r : StrictRule) → get_or (None ∷ None ∷ None ∷ None ∷ None ∷ None ∷ None ∷ None ∷ None ∷ None ∷ None ∷ None ∷ None ∷ None ∷ None ∷ None ∷ None ∷ None ∷ None ∷ None ∷ None ∷ None ∷ None ∷ None ∷ None ∷ None ∷ None ∷ None ∷ None ∷ None ∷ None ∷ None ∷ None ∷ None ∷ None ∷ None ∷ None ∷ None ∷ None ∷ None ∷ None ∷ None ∷ None ∷ []) (place_of r) None ≡ with_places None (places r start [])
+pub none-found : (r : StrictRule) → get_or
+    (None ∷ None ∷ None ∷ None ∷ None ∷ None ∷ None ∷ None ∷ None ∷ None ∷ None ∷ None ∷ None ∷ None ∷ None ∷ None ∷ None ∷ None ∷ None ∷ None ∷ None ∷ None ∷
+    None ∷ None ∷ None ∷ None ∷ None ∷ None ∷ None ∷ None ∷ None ∷ None ∷ None ∷ None ∷ None ∷ None ∷ None ∷ None ∷ None ∷ None ∷ None ∷ None ∷ None ∷ [])
+    (place_of r) None ≡ with_places None (places r start [])
 unfolding with_places places place_of
 none-found rules.ReservedBits = refl
 none-found rules.AspectRatio = refl
@@ -124,7 +135,9 @@ none-stands = refl
 
 -- ---- each kind of call
 
-pub element-advances : (old new : Strict) (name : ElementName) (bit : ℕ) (v : ℤ) → new.standing ≡ after_element old.standing name (count_in v) → ((r : StrictRule) → found_of new r ≡ with_places (found_of old r) (bits_for r bit (broken_by_element old.standing name (count_in v)))) → Advances (OfElement name bit v) old new
+pub element-advances : (old new : Strict) (name : ElementName) (bit : ℕ) (v : ℤ) → new.standing ≡ after_element old.standing name (count_in v) →
+    ((r : StrictRule) → found_of new r ≡ with_places (found_of old r) (bits_for r bit (broken_by_element old.standing name (count_in v)))) →
+    Advances (OfElement name bit v) old new
 unfolding after broken_by
 element-advances old new name bit v stands found = (stands, found)
 
@@ -136,7 +149,8 @@ bits-more r bit (x ∷ xs) ys =
     ap (λ l. first ++ l) (bits-more r bit xs ys) ∙ sym (append_assoc first (bits_for r bit xs) (bits_for r bit ys))
 
 -- these rules are broken, and then those
-pub noted-more : (r : StrictRule) (bit : ℕ) (old mid new : Option Places) (xs ys : List StrictRule) → mid ≡ with_places old (bits_for r bit xs) → new ≡ with_places mid (bits_for r bit ys) → new ≡ with_places old (bits_for r bit (xs ++ ys))
+pub noted-more : (r : StrictRule) (bit : ℕ) (old mid new : Option Places) (xs ys : List StrictRule) → mid ≡ with_places old (bits_for r bit xs) →
+    new ≡ with_places mid (bits_for r bit ys) → new ≡ with_places old (bits_for r bit (xs ++ ys))
 noted-more r bit old mid new xs ys first second =
     second
     ∙ ap (λ p. with_places p (bits_for r bit ys)) first
@@ -198,5 +212,6 @@ unfolding after broken_by bits_for with_places
 frame-advances s count width height bytes = (refl, λ r. refl)
 
 -- a sink inside that took a call, and the further rules with it
-pub both-more : {S : Type 0} (took : S → List Call → Type 0) (s s' : S) (call : Call) (x x' : Strict) → Tells took s s' (call ∷ []) → Advances call x x' → (before : List Call) → took s before × TookStrict x before → took s' (before ++ call ∷ []) × TookStrict x' (before ++ call ∷ [])
+pub both-more : {S : Type 0} (took : S → List Call → Type 0) (s s' : S) (call : Call) (x x' : Strict) → Tells took s s' (call ∷ []) → Advances call x x' →
+    (before : List Call) → took s before × TookStrict x before → took s' (before ++ call ∷ []) × TookStrict x' (before ++ call ∷ [])
 both-more took s s' call x x' inner step before h = (inner.told before h.0, took-more call x x' before step h.1)

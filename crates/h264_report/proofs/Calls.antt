@@ -17,13 +17,18 @@ bytes-more (c ∷ calls) call = ap (λ l. bytes_in c ++ l) (bytes-more calls cal
 pub elements-more : (calls : List Call) (call : Call) → elements_of (calls ++ call ∷ []) ≡ elements_of calls ++ elements_in call
 unfolding elements_of
 elements-more [] call = append-nil (elements_in call)
-elements-more (c ∷ calls) call = ap (λ l. elements_in c ++ l) (elements-more calls call) ∙ sym (append_assoc (elements_in c) (elements_of calls) (elements_in call))
+elements-more (c ∷ calls) call = ap (λ l. elements_in c ++ l) (elements-more calls call) ∙
+    sym (append_assoc (elements_in c) (elements_of calls) (elements_in call))
 
-pub counted-more : (listing : Listing) (calls : List Call) (call : Call) → counted_of listing (calls ++ call ∷ []) ≡ counted_of listing calls + counted listing call
+pub counted-more : (listing : Listing) (calls : List Call) (call : Call) → counted_of listing (calls ++ call ∷ []) ≡
+    counted_of listing calls + counted listing call
 counted-more listing [] call = let e : counted listing call + 0 ≡ 0 + counted listing call = omega arith in e
-counted-more listing (c ∷ calls) call = let e = counted-more listing calls call in let d : counted listing c + counted_of listing (calls ++ call ∷ []) ≡ counted listing c + counted_of listing calls + counted listing call = omega (arith, e) in d
+counted-more listing (c ∷ calls) call = let e = counted-more listing calls call in
+    let d : counted listing c + counted_of listing (calls ++ call ∷ []) ≡ counted listing c + counted_of listing calls + counted listing call =
+    omega (arith, e) in d
 
-pub lines-more : (head : Opening) (listing : Listing) (n m : ℕ) (calls : List Call) (call : Call) → n + counted_of listing calls ≡ m → lines_of head listing n (calls ++ call ∷ []) ≡ lines_of head listing n calls ++ line_of head listing m call
+pub lines-more : (head : Opening) (listing : Listing) (n m : ℕ) (calls : List Call) (call : Call) → n + counted_of listing calls ≡ m →
+    lines_of head listing n (calls ++ call ∷ []) ≡ lines_of head listing n calls ++ line_of head listing m call
 unfolding lines_of
 lines-more head listing n m [] call e = append-nil (line_of head listing n call) ∙ ap (λ k. line_of head listing k call) (let d : n ≡ m = omega arith in d)
 lines-more head listing n m (c ∷ calls) call e =
@@ -33,4 +38,5 @@ lines-more head listing n m (c ∷ calls) call e =
 pub element-lines-more : (es : List Element) (e : Element) → element_lines (es ++ e ∷ []) ≡ element_lines es ++ ended (element_text e.name e.bit e.value)
 unfolding element_lines
 element-lines-more [] e = append-nil (ended (element_text e.name e.bit e.value))
-element-lines-more (x ∷ es) e = ap (λ l. ended (element_text x.name x.bit x.value) ++ l) (element-lines-more es e) ∙ sym (append_assoc (ended (element_text x.name x.bit x.value)) (element_lines es) (ended (element_text e.name e.bit e.value)))
+element-lines-more (x ∷ es) e = ap (λ l. ended (element_text x.name x.bit x.value) ++ l) (element-lines-more es e) ∙
+    sym (append_assoc (ended (element_text x.name x.bit x.value)) (element_lines es) (ended (element_text e.name e.bit e.value)))

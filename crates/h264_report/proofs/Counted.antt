@@ -11,20 +11,24 @@ use Rattle.h264_report.specs.Rows.{row_count, row_at, part_count, parts_before}
 use Rattle.h264_report.specs.declared.rows.TheConstants.{PLANES}
 
 -- so many numbers from a on, in two parts
-pub flat_split : (f : ℕ → List ℕ) (a n m t b : ℕ) → n + m ≡ t → a + n ≡ b → flat_map f (range_with_len a t) ≡ flat_map f (range_with_len a n) ++ flat_map f (range_with_len b m)
+pub flat_split : (f : ℕ → List ℕ) (a n m t b : ℕ) → n + m ≡ t → a + n ≡ b →
+    flat_map f (range_with_len a t) ≡ flat_map f (range_with_len a n) ++ flat_map f (range_with_len b m)
 flat_split f a zero m t b e d =
     let begin : a ≡ b = omega arith in
     let count : t ≡ m = omega arith in
     ap₂ (λ i k. flat_map f (range_with_len i k)) begin count
 flat_split f a (suc n) m zero b e d = let none : 0 < 0 = omega arith in absurd (omega arith)
 flat_split f a (suc n) m (suc t) b e d =
-    ap (λ l. f a ++ l) (flat_split f (a + 1) n m t b (omega arith) (omega arith)) ∙ sym (append_assoc (f a) (flat_map f (range_with_len (a + 1) n)) (flat_map f (range_with_len b m)))
+    ap (λ l. f a ++ l) (flat_split f (a + 1) n m t b (omega arith) (omega arith)) ∙
+    sym (append_assoc (f a) (flat_map f (range_with_len (a + 1) n)) (flat_map f (range_with_len b m)))
 
 -- two runs whose members go together
-pub flat_shift : (f g : ℕ → List ℕ) (a b n : ℕ) → ((i j : ℕ) → a ≤ i → i < a + n → i + b ≡ j + a → f i ≡ g j) → flat_map f (range_with_len a n) ≡ flat_map g (range_with_len b n)
+pub flat_shift : (f g : ℕ → List ℕ) (a b n : ℕ) → ((i j : ℕ) → a ≤ i → i < a + n → i + b ≡ j + a → f i ≡ g j) →
+    flat_map f (range_with_len a n) ≡ flat_map g (range_with_len b n)
 flat_shift f g a b zero same = refl
 flat_shift f g a b (suc n) same =
-    ap₂ (λ x l. x ++ l) (same a b (omega arith) (omega arith) (omega arith)) (flat_shift f g (a + 1) (b + 1) n (λ i j p q e. same i j (omega arith) (omega arith) (omega arith)))
+    ap₂ (λ x l. x ++ l) (same a b (omega arith) (omega arith) (omega arith))
+    (flat_shift f g (a + 1) (b + 1) n (λ i j p q e. same i j (omega arith) (omega arith) (omega arith)))
 
 -- the parts before the next one
 pub next-part : (f : ℕ → List ℕ) (k : ℕ) → flat_map f (range_with_len 0 k) ++ f k ≡ flat_map f (range_with_len 0 (k + 1))
@@ -33,7 +37,8 @@ next-part f k =
     ∙ sym (flat_split f 0 k 1 (k + 1) k (omega arith) (omega arith))
 
 -- the first parts, the next, and those after it
-pub part-between : (f : ℕ → List ℕ) (k n : ℕ) → k < n → flat_map f (range_with_len 0 n) ≡ flat_map f (range_with_len 0 k) ++ (f k ++ flat_map f (range_with_len (k + 1) (n - (k + 1))))
+pub part-between : (f : ℕ → List ℕ) (k n : ℕ) → k < n →
+    flat_map f (range_with_len 0 n) ≡ flat_map f (range_with_len 0 k) ++ (f k ++ flat_map f (range_with_len (k + 1) (n - (k + 1))))
 part-between f k n within = flat_split f 0 k (suc (n - (k + 1))) n k (omega arith) (omega arith)
 
 module _ (w h : ℕ) (s : Component → ℕ → ℕ → ℕ) where

@@ -13,28 +13,35 @@ use Rattle.h264_report.specs.declared.strict_rule.StrictRule.TheVariants as furt
 use Rattle.h264_report.specs.declared.strict_entries.StrictEntry.{StrictEntry}
 
 -- one more of these entries has another label
-pub one_more_label : (label : List ℕ) (es : List RuleEntry) (i : ℕ) (d : RuleEntry) → HaveOtherLabels label (take i es) → (label_of (get_or es i d).rule ≡ label → ⊥) → HaveOtherLabels label (take (i + 1) es)
+pub one_more_label : (label : List ℕ) (es : List RuleEntry) (i : ℕ) (d : RuleEntry) → HaveOtherLabels label (take i es) →
+    (label_of (get_or es i d).rule ≡ label → ⊥) → HaveOtherLabels label (take (i + 1) es)
 one_more_label label es i d h other = let up : suc i ≡ i + 1 = omega arith in subst (λ (n : ℕ). HaveOtherLabels label (take n es)) up (more es i h other)
   where
-    more : (es : List RuleEntry) (i : ℕ) → HaveOtherLabels label (take i es) → (label_of (get_or es i d).rule ≡ label → ⊥) → HaveOtherLabels label (take (suc i) es)
+    more : (es : List RuleEntry) (i : ℕ) → HaveOtherLabels label (take i es) → (label_of (get_or es i d).rule ≡ label → ⊥) →
+        HaveOtherLabels label (take (suc i) es)
     more [] i h other = tt
     more (e ∷ es) zero h other = (other, tt)
     more (e ∷ es) (suc i) h other = (h.0, more es i h.1 other)
 
 -- one more of these entries has another name
-pub one_more_name : (name : List ℕ) (es : List FeatureEntry) (i : ℕ) (d : FeatureEntry) → HaveOtherNames name (take i es) → (text_of (get_or es i d).feature ≡ name → ⊥) → HaveOtherNames name (take (i + 1) es)
+pub one_more_name : (name : List ℕ) (es : List FeatureEntry) (i : ℕ) (d : FeatureEntry) → HaveOtherNames name (take i es) →
+    (text_of (get_or es i d).feature ≡ name → ⊥) → HaveOtherNames name (take (i + 1) es)
 one_more_name name es i d h other = let up : suc i ≡ i + 1 = omega arith in subst (λ (n : ℕ). HaveOtherNames name (take n es)) up (more es i h other)
   where
-    more : (es : List FeatureEntry) (i : ℕ) → HaveOtherNames name (take i es) → (text_of (get_or es i d).feature ≡ name → ⊥) → HaveOtherNames name (take (suc i) es)
+    more : (es : List FeatureEntry) (i : ℕ) → HaveOtherNames name (take i es) → (text_of (get_or es i d).feature ≡ name → ⊥) →
+        HaveOtherNames name (take (suc i) es)
     more [] i h other = tt
     more (e ∷ es) zero h other = (other, tt)
     more (e ∷ es) (suc i) h other = (h.0, more es i h.1 other)
 
 -- one more of these entries has another label
-pub one_more_further : (label : List ℕ) (es : List StrictEntry) (i : ℕ) (d : StrictEntry) → HaveOtherFurtherLabels label (take i es) → (further_label_of (get_or es i d).rule ≡ label → ⊥) → HaveOtherFurtherLabels label (take (i + 1) es)
-one_more_further label es i d h other = let up : suc i ≡ i + 1 = omega arith in subst (λ (n : ℕ). HaveOtherFurtherLabels label (take n es)) up (more es i h other)
+pub one_more_further : (label : List ℕ) (es : List StrictEntry) (i : ℕ) (d : StrictEntry) → HaveOtherFurtherLabels label (take i es) →
+    (further_label_of (get_or es i d).rule ≡ label → ⊥) → HaveOtherFurtherLabels label (take (i + 1) es)
+one_more_further label es i d h other = let up : suc i ≡ i + 1 = omega arith in
+    subst (λ (n : ℕ). HaveOtherFurtherLabels label (take n es)) up (more es i h other)
   where
-    more : (es : List StrictEntry) (i : ℕ) → HaveOtherFurtherLabels label (take i es) → (further_label_of (get_or es i d).rule ≡ label → ⊥) → HaveOtherFurtherLabels label (take (suc i) es)
+    more : (es : List StrictEntry) (i : ℕ) → HaveOtherFurtherLabels label (take i es) → (further_label_of (get_or es i d).rule ≡ label → ⊥) →
+        HaveOtherFurtherLabels label (take (suc i) es)
     more [] i h other = tt
     more (e ∷ es) zero h other = (other, tt)
     more (e ∷ es) (suc i) h other = (h.0, more es i h.1 other)
@@ -42,9 +49,12 @@ one_more_further label es i d h other = let up : suc i ≡ i + 1 = omega arith i
 -- all rules, in the order of the table
 abbrev all_rules : List Rule
 all_rules =
-    rules.ByteStream ∷ rules.EmptyUnit ∷ rules.Emulation ∷ rules.ForbiddenBit ∷ rules.RefIdc ∷ rules.Partition ∷ rules.CodeWord ∷ rules.Range ∷ rules.Tool ∷ rules.Profile ∷ rules.FrameSize ∷ rules.Crop
-    ∷ rules.Vui ∷ rules.Trailing ∷ rules.NoSet ∷ rules.FirstPicture ∷ rules.SetChanged ∷ rules.FirstMb ∷ rules.SliceType ∷ rules.FrameNum ∷ rules.IdrPicId ∷ rules.Count ∷ rules.Qp ∷ rules.ListCommand
-    ∷ rules.MarkDiffers ∷ rules.SliceEmpty ∷ rules.MbPast ∷ rules.NoReference ∷ rules.IntraMode ∷ rules.ResidualWord ∷ rules.BlockSize ∷ rules.VectorRange ∷ rules.TransformRange ∷ rules.Incomplete ∷ rules.MarkCommand ∷ rules.NoPicture
+    rules.ByteStream ∷ rules.EmptyUnit ∷ rules.Emulation ∷ rules.ForbiddenBit ∷ rules.RefIdc ∷ rules.Partition ∷ rules.CodeWord ∷ rules.Range ∷ rules.Tool ∷
+    rules.Profile ∷ rules.FrameSize ∷ rules.Crop
+    ∷ rules.Vui ∷ rules.Trailing ∷ rules.NoSet ∷ rules.FirstPicture ∷ rules.SetChanged ∷ rules.FirstMb ∷ rules.SliceType ∷ rules.FrameNum ∷ rules.IdrPicId ∷
+    rules.Count ∷ rules.Qp ∷ rules.ListCommand
+    ∷ rules.MarkDiffers ∷ rules.SliceEmpty ∷ rules.MbPast ∷ rules.NoReference ∷ rules.IntraMode ∷ rules.ResidualWord ∷ rules.BlockSize ∷ rules.VectorRange ∷
+    rules.TransformRange ∷ rules.Incomplete ∷ rules.MarkCommand ∷ rules.NoPicture
     ∷ []
 
 -- these rules have other labels
@@ -94,8 +104,13 @@ no-rule label h rules.NoPicture = h.1.1.1.1.1.1.1.1.1.1.1.1.1.1.1.1.1.1.1.1.1.1.
 -- the further rules before those on the coded picture buffer, and those, in the order of their tables
 abbrev early_further : List StrictRule
 early_further =
-    further.ReservedBits ∷ further.AspectRatio ∷ further.VideoFormat ∷ further.ColourPrimaries ∷ further.TransferCharacteristics ∷ further.MatrixCoefficients ∷ further.ChromaLocation ∷ further.Timing ∷ further.Restriction ∷ further.OperationsExclude ∷ further.IdrCount ∷ further.SetRefIdc ∷ further.DelimiterFirst ∷ further.FillerFirst ∷ further.AfterEndOfStream
-    ∷ further.Level1b ∷ further.ReservedConstraint ∷ further.DirectInference ∷ further.LowDelay ∷ further.UnitLength ∷ further.EndFirst ∷ further.LongTermReference ∷ further.Weights ∷ further.FrameNumRepeated ∷ further.CountRepeated ∷ further.Reorder ∷ further.VectorCount ∷ further.FrameRate ∷ further.ScheduleOrder ∷ further.ScheduleLimits ∷ further.CommonFactor ∷ further.PictureBytes ∷ further.SeiSizes ∷ further.DelimiterBits ∷ further.FillerBytes ∷ further.ZeroByte ∷ further.DelimiterType ∷ further.SeiContent
+    further.ReservedBits ∷ further.AspectRatio ∷ further.VideoFormat ∷ further.ColourPrimaries ∷ further.TransferCharacteristics ∷ further.MatrixCoefficients
+    ∷ further.ChromaLocation ∷ further.Timing ∷ further.Restriction ∷ further.OperationsExclude ∷ further.IdrCount ∷ further.SetRefIdc ∷
+    further.DelimiterFirst ∷ further.FillerFirst ∷ further.AfterEndOfStream
+    ∷ further.Level1b ∷ further.ReservedConstraint ∷ further.DirectInference ∷ further.LowDelay ∷ further.UnitLength ∷ further.EndFirst ∷
+    further.LongTermReference ∷ further.Weights ∷ further.FrameNumRepeated ∷ further.CountRepeated ∷ further.Reorder ∷ further.VectorCount ∷
+    further.FrameRate ∷ further.ScheduleOrder ∷ further.ScheduleLimits ∷ further.CommonFactor ∷ further.PictureBytes ∷ further.SeiSizes ∷
+    further.DelimiterBits ∷ further.FillerBytes ∷ further.ZeroByte ∷ further.DelimiterType ∷ further.SeiContent
     ∷ []
 
 abbrev buffer_further : List StrictRule
@@ -211,7 +226,8 @@ buffer-none A (Some a) label h = tt
 
 -- where none of either was found, no further rule has that label
 pub further-none : (A : Type 0) (found : Option A) (label : List ℕ) → ((rule : StrictRule) → place_of rule < 38 → further_label_of rule ≡ label → ⊥) →
-    IfNone found ((rule : StrictRule) → 38 ≤ place_of rule → further_label_of rule ≡ label → ⊥) → IfNone found ((rule : StrictRule) → further_label_of rule ≡ label → ⊥)
+    IfNone found ((rule : StrictRule) → 38 ≤ place_of rule → further_label_of rule ≡ label → ⊥) →
+    IfNone found ((rule : StrictRule) → further_label_of rule ≡ label → ⊥)
 further-none A None label early late = λ rule e. go rule e (cases_lt (place_of rule) 38) where
   go : (rule : StrictRule) → further_label_of rule ≡ label → (place_of rule < 38) ⊎ (38 ≤ place_of rule) → ⊥
   go rule e (inl few) = early rule few e
@@ -219,6 +235,7 @@ further-none A None label early late = λ rule e. go rule e (cases_lt (place_of 
 further-none A (Some a) label early late = tt
 
 -- where none was found, no rule has that label
-pub found-none : (A : Type 0) (found : Option A) (label : List ℕ) → IfNone found (HaveOthers label all_rules) → IfNone found ((rule : Rule) → label_of rule ≡ label → ⊥)
+pub found-none : (A : Type 0) (found : Option A) (label : List ℕ) → IfNone found (HaveOthers label all_rules) →
+    IfNone found ((rule : Rule) → label_of rule ≡ label → ⊥)
 found-none A None label h = no-rule label h
 found-none A (Some a) label h = tt

@@ -41,7 +41,8 @@ module _ (n k g : ℕ) (above : 0 < n) (is : IsGcd n k g) where
   none-above d h =
       false_from_ne_true _ (λ t.
       let both = and_parts (n % d == 0) (k % d == 0) t in
-      let most : d ≤ g = le_from_IsGcd n k g d is positive (dvd_of_mod-eq-zero d (eqb-true (n % d) 0 both.0)) (dvd_of_mod-eq-zero d (eqb-true (k % d) 0 both.1)) in
+      let most : d ≤ g = le_from_IsGcd n k g d is positive (dvd_of_mod-eq-zero d (eqb-true (n % d) 0 both.0))
+      (dvd_of_mod-eq-zero d (eqb-true (k % d) 0 both.1)) in
       omega arith)
 
   pub factor-gcd : have_common_factor n k ≡ nat_lt 1 g

@@ -16,5 +16,7 @@ session_or default (Fallen answer) = default
 pub same-session : {a b : Progress} → Running a ≡ Running b → a ≡ b
 same-session {a} e = ap (session_or a) e
 
-pub given-decoding : {terms : Terms} {d : Decoder} {bytes : List ℕ} {session : Progress} → d.standing ≡ Running session → IsGiven terms d bytes → IsDecoding terms session bytes d.queue.handed_out d.queue.waiting.items
-given-decoding {terms} {d} {bytes} is v = subst (λ s. IsDecoding terms s bytes d.queue.handed_out d.queue.waiting.items) (same-session (sym v.runs ∙ is)) v.decoding
+pub given-decoding : {terms : Terms} {d : Decoder} {bytes : List ℕ} {session : Progress} → d.standing ≡ Running session → IsGiven terms d bytes →
+    IsDecoding terms session bytes d.queue.handed_out d.queue.waiting.items
+given-decoding {terms} {d} {bytes} is v =
+    subst (λ s. IsDecoding terms s bytes d.queue.handed_out d.queue.waiting.items) (same-session (sym v.runs ∙ is)) v.decoding

@@ -86,10 +86,20 @@ pub some-front : {a b : Option (List ℕ)} {bs : List ℕ} → SendsFront a b bs
 some-front p = record { part = p.part; rest = p.proper.rest; whole = p.proper.whole; appends = p.appends }
 
 pub some-longer : {a b : Option (List ℕ)} {bs : List ℕ} (cs : List ℕ) → SendsSome a b bs → SendsSome a b (bs ++ cs)
-some-longer {a} {b} {bs} cs p = record { part = p.part; rest = p.rest ++ cs; whole = ap (λ l. l ++ cs) p.whole ∙ append_assoc p.part p.rest cs; appends = p.appends }
+some-longer {a} {b} {bs} cs p = record {
+  part = p.part;
+  rest = p.rest ++ cs;
+  whole = ap (λ l. l ++ cs) p.whole ∙ append_assoc p.part p.rest cs;
+  appends = p.appends;
+}
 
 pub some-after : {a b c : Option (List ℕ)} {bs cs : List ℕ} → Sends a b bs → SendsSome b c cs → SendsSome a c (bs ++ cs)
-some-after {a} {b} {c} {bs} {cs} p q = record { part = bs ++ q.part; rest = q.rest; whole = ap (λ l. bs ++ l) q.whole ∙ sym (append_assoc bs q.part q.rest); appends = appends-appends a b c bs q.part p.appends q.appends }
+some-after {a} {b} {c} {bs} {cs} p q = record {
+  part = bs ++ q.part;
+  rest = q.rest;
+  whole = ap (λ l. bs ++ l) q.whole ∙ sym (append_assoc bs q.part q.rest);
+  appends = appends-appends a b c bs q.part p.appends q.appends;
+}
 
 -- ---- what a call answered
 

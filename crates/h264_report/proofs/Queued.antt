@@ -8,7 +8,8 @@ use Rattle.h264_report.specs.declared.queue.ShownFrame.{ShownFrame}
 pub frames-append : (calls others : List Call) → frames_of (calls ++ others) ≡ frames_of calls ++ frames_of others
 unfolding frames_of
 frames-append [] others = refl
-frames-append (c ∷ calls) others = ap (λ l. frames_in c ++ l) (frames-append calls others) ∙ sym (append_assoc (frames_in c) (frames_of calls) (frames_of others))
+frames-append (c ∷ calls) others = ap (λ l. frames_in c ++ l) (frames-append calls others) ∙
+    sym (append_assoc (frames_in c) (frames_of calls) (frames_of others))
 
 pub frames-one : (call : Call) → frames_of (call ∷ []) ≡ frames_in call
 unfolding frames_of
@@ -41,7 +42,8 @@ pub waits-begun : {n : ℕ} {waiting : List ShownFrame} → n ≡ 0 → waiting 
 waits-begun {n} {waiting} none empty = record { out = []; counted = sym none; whole = frames-none ∙ sym (ap told_of_frames empty ∙ told-none) }
 
 -- a frame is handed out
-pub waits-taken : {n m : ℕ} {waiting later : List ShownFrame} (calls : List Call) (frame : ShownFrame) → waiting ≡ frame ∷ later → m ≡ n + 1 → Waits n waiting calls → Waits m later calls
+pub waits-taken : {n m : ℕ} {waiting later : List ShownFrame} (calls : List Call) (frame : ShownFrame) → waiting ≡ frame ∷ later → m ≡ n + 1 →
+    Waits n waiting calls → Waits m later calls
 waits-taken {n} {m} {waiting} {later} calls frame first count h = record {
   out = h.out ++ told_of_frame frame ∷ [];
   counted = let a = length-append h.out (told_of_frame frame ∷ []) in let b = h.counted in omega (arith, a, b, count);
@@ -51,7 +53,8 @@ waits-taken {n} {m} {waiting} {later} calls frame first count h = record {
 }
 
 -- frames more wait
-pub waits-filled : {n m : ℕ} {waiting later : List ShownFrame} (calls others : List Call) → Waits n waiting calls → IsFilled n (told_of_frames waiting) m later others → Waits m later (calls ++ others)
+pub waits-filled : {n m : ℕ} {waiting later : List ShownFrame} (calls others : List Call) → Waits n waiting calls →
+    IsFilled n (told_of_frames waiting) m later others → Waits m later (calls ++ others)
 waits-filled {n} {m} {waiting} {later} calls others h f = record {
   out = h.out;
   counted = h.counted ∙ sym f.none_out;
@@ -73,14 +76,17 @@ module _ {out : ℕ} {before : List Call} {n : ℕ} {waiting : List ShownFrame} 
   filled-still calls h = subst (IsFilled out before n waiting) (sym (append-nil calls)) h
 
   -- a call that is no frame
-  pub filled-passed : (calls : List Call) (call : Call) → frames_in call ≡ [] → IsFilled out before n waiting calls → IsFilled out before n waiting (calls ++ call ∷ [])
+  pub filled-passed : (calls : List Call) (call : Call) → frames_in call ≡ [] → IsFilled out before n waiting calls →
+      IsFilled out before n waiting (calls ++ call ∷ [])
   filled-passed calls call none h = record {
     none_out = h.none_out;
     added = h.added ∙ ap (λ l. before ++ l) (sym (append-nil (frames_of calls)) ∙ ap (λ l. frames_of calls ++ l) (sym none) ∙ sym (frames-more calls call));
   }
 
   -- a frame more
-  pub filled-more : {m : ℕ} {later : List ShownFrame} (calls : List Call) (call : Call) (frame : ShownFrame) → frames_in call ≡ call ∷ [] → told_of_frame frame ≡ call → later ≡ waiting ++ frame ∷ [] → m ≡ n → IsFilled out before n waiting calls → IsFilled out before m later (calls ++ call ∷ [])
+  pub filled-more : {m : ℕ} {later : List ShownFrame} (calls : List Call) (call : Call) (frame : ShownFrame) → frames_in call ≡ call ∷ [] →
+      told_of_frame frame ≡ call → later ≡ waiting ++ frame ∷ [] → m ≡ n → IsFilled out before n waiting calls →
+      IsFilled out before m later (calls ++ call ∷ [])
   filled-more {m} {later} calls call frame one is more same h = record {
     none_out = same ∙ h.none_out;
     added =
@@ -91,5 +97,7 @@ module _ {out : ℕ} {before : List Call} {n : ℕ} {waiting : List ShownFrame} 
   }
 
   -- a frame for which there was no memory
-  pub filled-failed : {m : ℕ} {later : List ShownFrame} (calls : List Call) → later ≡ waiting → m ≡ n → IsFilled out before n waiting calls → IsFilled out before m later (calls ++ [])
-  filled-failed {m} {later} calls kept same h = record { none_out = same ∙ h.none_out; added = ap told_of_frames kept ∙ h.added ∙ ap (λ l. before ++ frames_of l) (sym (append-nil calls)) }
+  pub filled-failed : {m : ℕ} {later : List ShownFrame} (calls : List Call) → later ≡ waiting → m ≡ n → IsFilled out before n waiting calls →
+      IsFilled out before m later (calls ++ [])
+  filled-failed {m} {later} calls kept same h =
+      record { none_out = same ∙ h.none_out; added = ap told_of_frames kept ∙ h.added ∙ ap (λ l. before ++ frames_of l) (sym (append-nil calls)) }

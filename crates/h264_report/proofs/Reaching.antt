@@ -5,7 +5,8 @@ use Rattle.h264_base.specs.declared.element_name.ElementName.TheVariants.{FirstM
 use Rattle.h264_report.specs.declared.survey.reading.Reading.{Reading}
 use Rattle.h264_report.specs.Chosen.{after_element}
 
-pub others-stay : (name : ElementName) (v : ℤ) (r : Reading) → (name ≡ FirstMbInSlice → ⊥) → (name ≡ MbSkipRun → ⊥) → (name ≡ MbType → ⊥) → after_element name v r ≡ r
+pub others-stay : (name : ElementName) (v : ℤ) (r : Reading) → (name ≡ FirstMbInSlice → ⊥) → (name ≡ MbSkipRun → ⊥) → (name ≡ MbType → ⊥) →
+    after_element name v r ≡ r
 unfolding after_element
 others-stay FirstMbInSlice v r a b c = absurd (a refl)
 others-stay MbSkipRun v r a b c = absurd (b refl)

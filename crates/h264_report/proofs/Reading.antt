@@ -12,7 +12,8 @@ filler-is (b ∷ bytes) = go (filler-is bytes) (cases_eq b 255) where
   dropped : (n : ℕ) → is_trailing (drop (1 + n) (b ∷ bytes)) ≡ is_trailing (drop n bytes)
   dropped n = let up : 1 + n ≡ suc n = omega arith in ap (λ m. is_trailing (drop m (b ∷ bytes))) up
 
-  go : is_filler bytes ≡ is_trailing (drop (ff_bytes bytes) bytes) → (b ≡ 255) ⊎ (b ≡ 255 → ⊥) → is_filler (b ∷ bytes) ≡ is_trailing (drop (ff_bytes (b ∷ bytes)) (b ∷ bytes))
+  go : is_filler bytes ≡ is_trailing (drop (ff_bytes bytes) bytes) → (b ≡ 255) ⊎ (b ≡ 255 → ⊥) →
+      is_filler (b ∷ bytes) ≡ is_trailing (drop (ff_bytes (b ∷ bytes)) (b ∷ bytes))
   go later (inl e) =
       let other : b ≢ 128 = λ h. omega arith in
       ap (λ t. (t && (length bytes == 0)) || (b == 255) && is_filler bytes) (ne_eqb b 128 other)

@@ -1,5 +1,6 @@
 -- The end of a payload, by the places of its bits.
-use Rattle.std.proofs.Common.{◌≡◌, ◌≢◌, ℕ, zero, suc, ◌+◌, ◌-◌, ◌*◌, ◌/◌, ◌%◌, ◌^◌, ◌<◌, ◌≤◌, ◌==◌, ◌&&◌, ◌||◌, Bool, List, Some, None, true, false, nat_lt, nat_le, ◌⊎◌, inl, inr, refl, sym, ap, ◌∙◌, arith}
+use Rattle.std.proofs.Common.{◌≡◌, ◌≢◌, ℕ, zero, suc, ◌+◌, ◌-◌, ◌*◌, ◌/◌, ◌%◌, ◌^◌, ◌<◌, ◌≤◌, ◌==◌, ◌&&◌, ◌||◌, Bool, List, Some, None, true, false, nat_lt}
+use Rattle.std.proofs.Common.{nat_le, ◌⊎◌, inl, inr, refl, sym, ap, ◌∙◌, arith}
 use Rattle.std.specs.List.{count_by}
 use Rattle.std.proofs.lemmas.Bool.{eq-eqb, ne_eqb, lt-ltb, le-ltb, cases_lt}
 use Rattle.std.proofs.Math.Bool.{and-false}
@@ -48,7 +49,8 @@ left-is body at end byte some past near =
 pub outside-before : (body : Body) (at end : ℕ) → place body at ≤ place body (end - 8) → at ≤ end - 8
 outside-before body at end h = not-after body at (end - 8) h
 
-pub outside-after : (body : Body) (at end : ℕ) → end % 8 ≡ 0 → 8 ≤ end → place body (end - 8) < place body at → 8 ≤ place body at - place body (end - 8) → end ≤ at
+pub outside-after : (body : Body) (at end : ℕ) → end % 8 ≡ 0 → 8 ≤ end → place body (end - 8) < place body at → 8 ≤ place body at - place body (end - 8) →
+    end ≤ at
 outside-after body at end byte some past far = go (cases_lt at end) where
   go : (at < end) ⊎ (end ≤ at) → end ≤ at
   go (inl less) =
@@ -60,7 +62,8 @@ outside-after body at end byte some past far = go (cases_lt at end) where
 
 pub closed-here : (body : Body) (bytes : List ℕ) (at end : ℕ) → place body at ≡ place body end → true ≡ is_closed bytes at end
 closed-here body bytes at end e =
-    sym (ap (λ t. t || nat_lt (end - 8) at && nat_lt at end && has_value (2 ^ (end - at - 1)) (u (end - at) bytes at)) (eq-eqb at end (one-place body at end e)))
+    sym (ap (λ t. t || nat_lt (end - 8) at && nat_lt at end && has_value (2 ^ (end - at - 1)) (u (end - at) bytes at))
+    (eq-eqb at end (one-place body at end e)))
 
 -- a bit in 32 bits
 small : (k : ℕ) → k < 7 → 1 * 2 ^ k % 4294967296 ≡ 2 ^ k

@@ -1,6 +1,8 @@
 -- Messages of SEI are those that a reader finds.
-use Rattle.std.proofs.Common.{◌≡◌, ◌≢◌, ℕ, zero, suc, ◌+◌, ◌*◌, ◌<◌, ◌≤◌, ◌==◌, ◌&&◌, ◌||◌, List, [], ◌∷◌, ◌++◌, length, take, drop, slice_index, arith, Bool, true, false, Option, None, Some, if◌then◌else◌, nat_lt, nat_le, refl, sym, ap, ap₂, subst, ◌∙◌, ◌⊎◌, inl, inr}
-use Rattle.std.proofs.lemmas.Bool.{cases_eq, cond-true, cond-false, eq-eqb, ne_eqb, eqb-true, false≢true, lt-ltb, ltb-true, le-leb, leb-true, and_from, and_parts}
+use Rattle.std.proofs.Common.{◌≡◌, ◌≢◌, ℕ, zero, suc, ◌+◌, ◌*◌, ◌<◌, ◌≤◌, ◌==◌, ◌&&◌, ◌||◌, List, [], ◌∷◌, ◌++◌, length, take, drop, slice_index, arith, Bool}
+use Rattle.std.proofs.Common.{true, false, Option, None, Some, if◌then◌else◌, nat_lt, nat_le, refl, sym, ap, ap₂, subst, ◌∙◌, ◌⊎◌, inl, inr}
+use Rattle.std.proofs.lemmas.Bool.{cases_eq, cond-true, cond-false, eq-eqb, ne_eqb, eqb-true, false≢true, lt-ltb, ltb-true, le-leb, leb-true, and_from}
+use Rattle.std.proofs.lemmas.Bool.{and_parts}
 use Rattle.std.proofs.Math.Bool.{or-true}
 use Rattle.std.proofs.Math.Seq.{drop-append_seam}
 use Rattle.std.proofs.lemmas.List.{take-append-drop, length-append, length-take-le}
@@ -88,7 +90,8 @@ length-is bytes xs k first past inside within fits =
     cond-true (nat_lt (ff_bytes bytes) (length bytes)) (message_of (ff_bytes bytes) (drop (ff_bytes bytes + 1) bytes) bytes) None some
     ∙ ap (λ n. message_of n (drop (n + 1) bytes) bytes) first
     ∙ ap (λ l. message_of k l bytes) past
-    ∙ cond-true (nat_lt (ff_bytes xs) (length xs) && nat_le (k + 1 + (ff_bytes xs + 1) + payload_value xs) (length bytes)) (Some (k + 1 + (ff_bytes xs + 1) + payload_value xs)) None
+    ∙ cond-true (nat_lt (ff_bytes xs) (length xs) && nat_le (k + 1 + (ff_bytes xs + 1) + payload_value xs) (length bytes))
+    (Some (k + 1 + (ff_bytes xs + 1) + payload_value xs)) None
     (and_from _ _ (lt-ltb (ff_bytes xs) (length xs) within) (le-leb (k + 1 + (ff_bytes xs + 1) + payload_value xs) (length bytes) fits))
 
 message-read : (m : SeiMessage) (rest : List ℕ) → IsMessage m → message_length (message_before m rest) ≡ Some (size_of m)
@@ -115,14 +118,16 @@ some-if false o y e = cc
 some-is : (x y : ℕ) → Some x ≡ Some y → x ≡ y
 some-is x y e = cc
 
-message-found : (bytes : List ℕ) (whole : ℕ) → message_length bytes ≡ Some whole → (m : SeiMessage) × IsMessage m × (bytes ≡ message_before m (drop whole bytes))
+message-found : (bytes : List ℕ) (whole : ℕ) → message_length bytes ≡ Some whole → (m : SeiMessage) × IsMessage m ×
+    (bytes ≡ message_before m (drop whole bytes))
 unfolding message_length
 message-found bytes whole e =
     let k = ff_bytes bytes in
     let sized = drop (k + 1) bytes in
     let f = ff_bytes sized in
     let one = some-if (nat_lt k (length bytes)) (message_of k sized bytes) whole e in
-    let two = some-if (nat_lt f (length sized) && nat_le (k + 1 + (f + 1) + payload_value sized) (length bytes)) (Some (k + 1 + (f + 1) + payload_value sized)) whole one.1 in
+    let two = some-if (nat_lt f (length sized) && nat_le (k + 1 + (f + 1) + payload_value sized) (length bytes))
+    (Some (k + 1 + (f + 1) + payload_value sized)) whole one.1 in
     let both = and_parts (nat_lt f (length sized)) (nat_le (k + 1 + (f + 1) + payload_value sized) (length bytes)) two.0 in
     let p = split-coded bytes (ltb-true k (length bytes) one.0) in
     let q = split-coded sized (ltb-true f (length sized) both.0) in
@@ -132,7 +137,13 @@ message-found bytes whole e =
     let a : length bytes ≡ (k + 1) + length p.2 = ap length p.3 ∙ length-coded k p.0 p.2 in
     let b : length p.2 ≡ (f + 1) + length q.2 = ap length (sym sized-is ∙ q.3) ∙ length-coded f q.0 q.2 in
     let enough : 255 * f + q.0 ≤ length q.2 = omega (arith, fits, value, a, b) in
-    let m : SeiMessage = record { type_ffs = k; last_payload_type_byte = p.0; size_ffs = f; last_payload_size_byte = q.0; payload = take (255 * f + q.0) q.2 } in
+    let m : SeiMessage = record {
+      type_ffs = k;
+      last_payload_type_byte = p.0;
+      size_ffs = f;
+      last_payload_size_byte = q.0;
+      payload = take (255 * f + q.0) q.2;
+    } in
     let rest = drop (255 * f + q.0) q.2 in
     let is : IsMessage m = record { type_ends = p.1; size_ends = q.1; sized = length-take-le (255 * f + q.0) q.2 enough } in
     let bytes-is : bytes ≡ message_before m rest =
@@ -149,7 +160,8 @@ message-inside bytes whole e =
     let sized = drop (k + 1) bytes in
     let f = ff_bytes sized in
     let one = some-if (nat_lt k (length bytes)) (message_of k sized bytes) whole e in
-    let two = some-if (nat_lt f (length sized) && nat_le (k + 1 + (f + 1) + payload_value sized) (length bytes)) (Some (k + 1 + (f + 1) + payload_value sized)) whole one.1 in
+    let two = some-if (nat_lt f (length sized) && nat_le (k + 1 + (f + 1) + payload_value sized) (length bytes))
+    (Some (k + 1 + (f + 1) + payload_value sized)) whole one.1 in
     let is = some-is (k + 1 + (f + 1) + payload_value sized) whole two.1 in
     let enough : k + 1 + (f + 1) ≤ whole = omega arith in
     (ltb-true k (length bytes) one.0, enough)
@@ -193,7 +205,8 @@ rest-read : (n : ℕ) (ms : List SeiMessage) (rest : List ℕ) → AreMessages m
 rest-read n [] rest last few later = ap (λ l. is_trailing l || are_messages n l) last
 rest-read n (m ∷ ms) rest more few later = ap (λ t. is_trailing rest || t) (later m ms rest more few) ∙ or-true (is_trailing rest)
 
-pub messages-read : (n : ℕ) (m : SeiMessage) (ms : List SeiMessage) (bytes : List ℕ) → AreMessages (m ∷ ms) bytes → length (m ∷ ms) ≤ n → are_messages n bytes ≡ true
+pub messages-read : (n : ℕ) (m : SeiMessage) (ms : List SeiMessage) (bytes : List ℕ) → AreMessages (m ∷ ms) bytes → length (m ∷ ms) ≤ n →
+    are_messages n bytes ≡ true
 messages-read zero m ms bytes h few = absurd (none (length ms) few) where
   none : (k : ℕ) → suc k ≤ 0 → ⊥
   none k e = omega arith

@@ -18,7 +18,8 @@ element-none code bytes i h = sym (ap (λ o. option_map (λ x. (natural x.0, x.1
 abbrev pub passed : Option (ℤ × ℕ) → Option (Unit {0} × ℕ)
 passed o = option_and_then (λ (x : ℕ × ℕ). Some (tt, x.1)) (option_map (λ (x : ℤ × ℕ). (natural x.0, x.1)) o)
 
-pub passed-some : (code : Code) (bytes : List ℕ) (i : ℕ) (v : ℤ) (j : ℕ) → Reads code bytes i v j → ◌≡◌ {A = Option (Unit {0} × ℕ)} (Some (tt, j)) (passed (value_at code bytes i))
+pub passed-some : (code : Code) (bytes : List ℕ) (i : ℕ) (v : ℤ) (j : ℕ) → Reads code bytes i v j →
+    ◌≡◌ {A = Option (Unit {0} × ℕ)} (Some (tt, j)) (passed (value_at code bytes i))
 passed-some code bytes i v j r = sym (ap passed (reads-value code bytes i v j r))
 
 pub passed-none : (code : Code) (bytes : List ℕ) (i : ℕ) → HasNoWord code bytes i → ◌≡◌ {A = Option (Unit {0} × ℕ)} None (passed (value_at code bytes i))
@@ -29,7 +30,8 @@ passed-none code bytes i h = sym (ap passed (reads-none code bytes i h))
 abbrev going-on : (n : ℕ) (part : Part (Unit {0})) (bytes : List ℕ) → Option (Unit {0} × ℕ) → Option (Unit {0} × ℕ)
 going-on n part bytes o = option_and_then (λ x. times n part bytes x.1) o
 
-pub times-next : (n k : ℕ) (part : Part (Unit {0})) (bytes : List ℕ) (i j : ℕ) → k < n → Some (tt, j) ≡ part bytes i → times (n - k) part bytes i ≡ times (n - (k + 1)) part bytes j
+pub times-next : (n k : ℕ) (part : Part (Unit {0})) (bytes : List ℕ) (i j : ℕ) → k < n → Some (tt, j) ≡ part bytes i →
+    times (n - k) part bytes i ≡ times (n - (k + 1)) part bytes j
 unfolding times
 times-next n k part bytes i j few e =
     let up : n - k ≡ suc (n - (k + 1)) = omega arith in

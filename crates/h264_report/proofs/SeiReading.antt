@@ -4,7 +4,8 @@ use Rattle.std.proofs.lemmas.Bool.{eq-eqb, ne_eqb}
 use Rattle.std.proofs.lemmas.List.Sums.{prefix_len-drop_no, prefix_len-drop_yes, prefix_len-drop_all}
 use Rattle.h264_report.specs.SeiMessages.{is_trailing, ff_bytes, message_length, has_message, are_messages}
 
-pub ff-more : (bytes : List ℕ) (i : ℕ) → i < length bytes → ff_bytes bytes ≡ i + ff_bytes (drop i bytes) → get_or bytes i 0 ≡ 255 → ff_bytes bytes ≡ (i + 1) + ff_bytes (drop (i + 1) bytes)
+pub ff-more : (bytes : List ℕ) (i : ℕ) → i < length bytes → ff_bytes bytes ≡ i + ff_bytes (drop i bytes) → get_or bytes i 0 ≡ 255 →
+    ff_bytes bytes ≡ (i + 1) + ff_bytes (drop (i + 1) bytes)
 ff-more bytes i within so e =
     let step = prefix_len-drop_yes (λ b. b == 255) bytes i 0 within (eq-eqb (get_or bytes i 0) 255 e) in
     let up : i + (1 + ff_bytes (drop (i + 1) bytes)) ≡ (i + 1) + ff_bytes (drop (i + 1) bytes) = omega arith in
@@ -36,7 +37,8 @@ unfolding are_messages
 sei-some n m bytes whole up some =
     ap (λ k. are_messages k bytes) up ∙ ap (λ o. has_message o (λ whole. is_trailing (drop whole bytes) || are_messages m (drop whole bytes))) some
 
-pub sei-last : (n m : ℕ) (bytes : List ℕ) (whole : ℕ) → n ≡ suc m → message_length bytes ≡ Some whole → is_trailing (drop whole bytes) ≡ true → are_messages n bytes ≡ true
+pub sei-last : (n m : ℕ) (bytes : List ℕ) (whole : ℕ) → n ≡ suc m → message_length bytes ≡ Some whole → is_trailing (drop whole bytes) ≡ true →
+    are_messages n bytes ≡ true
 sei-last n m bytes whole up some last = sei-some n m bytes whole up some ∙ ap (λ t. t || are_messages m (drop whole bytes)) last
 
 pub sei-more : (n m : ℕ) (bytes : List ℕ) (whole : ℕ) → n ≡ suc m → message_length bytes ≡ Some whole → is_trailing (drop whole bytes) ≡ false →

@@ -15,7 +15,8 @@ module _ (known : KnownSet) (n m : ℕ) (bytes : List ℕ) (at : ℕ) (t : Times
   pub told-none : message_at known bytes at ≡ None → times_from known n bytes at t ≡ t
   told-none e = split ∙ ap (λ o. times_after known bytes o t (times_from known m bytes)) e
 
-  pub told-some : (message : Message) → message_at known bytes at ≡ Some message → times_from known n bytes at t ≡ times_from known m bytes message.end (times_with known bytes message t)
+  pub told-some : (message : Message) → message_at known bytes at ≡ Some message →
+      times_from known n bytes at t ≡ times_from known m bytes message.end (times_with known bytes message t)
   told-some message e = split ∙ ap (λ o. times_after known bytes o t (times_from known m bytes)) e
 
 pub told-out : (known : KnownSet) (n : ℕ) (bytes : List ℕ) (at : ℕ) (t : TimesTold) → n ≡ 0 → times_from known n bytes at t ≡ t

@@ -1,5 +1,6 @@
 -- What a reader of units took of bytes, and of more.
-use Rattle.std.proofs.Common.{◌≡◌, ℕ, suc, ◌*◌, ◌==◌, arith, length, Bool, true, false, List, [], ◌∷◌, ◌++◌, take, drop, Option, None, Result, Ok, Err, OnOk, OnErr, IsFalse, inl, refl, sym, ap, ap₂, subst, ◌∙◌}
+use Rattle.std.proofs.Common.{◌≡◌, ℕ, suc, ◌*◌, ◌==◌, arith, length, Bool, true, false, List, [], ◌∷◌, ◌++◌, take, drop, Option, None, Result, Ok, Err, OnOk}
+use Rattle.std.proofs.Common.{OnErr, IsFalse, inl, refl, sym, ap, ap₂, subst, ◌∙◌}
 use Rattle.std.proofs.Math.Path.{subst₂}
 use Rattle.std.proofs.lemmas.Bool.{false≢true, eqb-true}
 use Rattle.std.proofs.lemmas.List.{append_assoc, append-nil, take-append-drop}
@@ -14,7 +15,8 @@ use Rattle.h264_report.specs.Strict.{with_places, bits_for, places, start}
 use Rattle.h264_report.specs.StrictContent.{bits_by_bytes}
 use Rattle.h264_report.specs.StrictRules.{listed}
 use Rattle.h264_report.specs.StrictExtent.{is_whole, cut_off, extent_after, extent_of}
-use Rattle.h264_report.specs.StrictStarts.{no_units, after_unit, after_units, by_zero_byte, by_pic_type, broken_after, came_after, own_bits, unit_bits, places_in, told_of_units, told_to_end, ended_last, lack_so_far, lack_at_end, noted_in, NotesUnit}
+use Rattle.h264_report.specs.StrictStarts.{no_units, after_unit, after_units, by_zero_byte, by_pic_type, broken_after, came_after, own_bits, unit_bits}
+use Rattle.h264_report.specs.StrictStarts.{places_in, told_of_units, told_to_end, ended_last, lack_so_far, lack_at_end, noted_in, NotesUnit}
 use Rattle.h264_report.specs.StrictUnits.{BeginWith, AreRefused, SplitsToStop, TookBytes, TellsOfBytes, told_by, lack_by}
 use Rattle.h264_report.specs.declared.strict.Places.{Places}
 use Rattle.h264_report.specs.declared.strict_extent.Extent.{Extent}
@@ -31,7 +33,8 @@ begin-more : (at : ℕ) (bytes : List ℕ) (units : List NalUnit) (after : ℕ) 
 begin-more at bytes [] after left unit rest b next = (rest, subst₂ (λ (n : ℕ) (l : List ℕ). Next n l unit rest) b.0 b.1 next, (refl, refl))
 begin-more at bytes (u ∷ us) after left unit rest b next = (b.0, b.1, begin-more (past u) b.0 us after left unit rest b.2 next)
 
-splits-from : (tail : Tail) (at : ℕ) (bytes : List ℕ) (units : List NalUnit) (after : ℕ) (left : List ℕ) → BeginWith at bytes units after left → HasTail after left tail → Splits at bytes units tail
+splits-from : (tail : Tail) (at : ℕ) (bytes : List ℕ) (units : List NalUnit) (after : ℕ) (left : List ℕ) → BeginWith at bytes units after left →
+    HasTail after left tail → Splits at bytes units tail
 splits-from tail at bytes [] after left b h = subst₂ (λ (n : ℕ) (l : List ℕ). HasTail n l tail) b.0 b.1 h
 splits-from tail at bytes (u ∷ us) after left b h = (b.0, b.1, splits-from tail (past u) b.0 us after left b.2 h)
 
@@ -69,7 +72,8 @@ tells-more old new units unit before tells notes rule =
 
 -- ---- the rules of a unit
 
-pub notes-all : (old first second third last : List (Option Places)) (s : UnitsBefore) (unit : NalUnit) (bit : ℕ) (b c : Option StrictRule) (e : Option Ended) → bit ≡ 8 * unit.from →
+pub notes-all : (old first second third last : List (Option Places)) (s : UnitsBefore) (unit : NalUnit) (bit : ℕ) (b c : Option StrictRule)
+    (e : Option Ended) → bit ≡ 8 * unit.from →
     b ≡ by_zero_byte s unit → c ≡ by_pic_type s unit → e ≡ (came_after s unit).ended →
     ((r : StrictRule) → noted_in first r ≡ with_places (noted_in old r) (bits_by_bytes r s.set unit)) →
     ((r : StrictRule) → noted_in second r ≡ with_places (noted_in first r) (bits_for r bit (listed b))) →
@@ -129,7 +133,8 @@ cut-no-stream e = cc
 
 -- ---- a reader and more bytes
 
-pub took-nothing : (s : Splitting) (noted : UnitsNoted) → s ≡ at_start → noted.before ≡ no_units → ((rule : StrictRule) → noted_in noted.found rule ≡ with_places None (places rule start [])) →
+pub took-nothing : (s : Splitting) (noted : UnitsNoted) → s ≡ at_start → noted.before ≡ no_units →
+    ((rule : StrictRule) → noted_in noted.found rule ≡ with_places None (places rule start [])) →
     TookBytes s extents.Whole noted []
 unfolding places places_in with_places after_units
 took-nothing s noted same began none = record {
@@ -173,7 +178,8 @@ refused-more at left rest bytes r = (
 )
 
 -- it looks at no more
-pub took-stopped : (s : Splitting) (r : Extent) (noted : UnitsNoted) (before bytes : List ℕ) → is_whole r ≡ false → TookBytes s r noted before → TookBytes s r noted (before ++ bytes)
+pub took-stopped : (s : Splitting) (r : Extent) (noted : UnitsNoted) (before bytes : List ℕ) → is_whole r ≡ false → TookBytes s r noted before →
+    TookBytes s r noted (before ++ bytes)
 took-stopped s r noted before bytes off t = record {
   front = t.front;
   rest = t.rest ++ bytes;
@@ -191,7 +197,8 @@ took-stopped s r noted before bytes off t = record {
 }
 
 -- memory is wanting
-took-memory : (old new : Splitting) (noted : UnitsNoted) (before bytes : List ℕ) → TookBytes old extents.Whole noted before → TookBytes new extents.Memory noted (before ++ bytes)
+took-memory : (old new : Splitting) (noted : UnitsNoted) (before bytes : List ℕ) → TookBytes old extents.Whole noted before →
+    TookBytes new extents.Memory noted (before ++ bytes)
 took-memory old new noted before bytes t = record {
   front = t.front;
   rest = t.rest ++ bytes;
@@ -209,7 +216,8 @@ took-memory old new noted before bytes t = record {
 }
 
 -- the bytes are no byte stream
-took-refused : (old new : Splitting) (noted : UnitsNoted) (before piece : List ℕ) (stop : Stop) → TookBytes old extents.Whole noted before → Refused old.at (old.rest ++ piece) stop →
+took-refused : (old new : Splitting) (noted : UnitsNoted) (before piece : List ℕ) (stop : Stop) → TookBytes old extents.Whole noted before →
+    Refused old.at (old.rest ++ piece) stop →
     TookBytes new extents.NoByteStream noted (before ++ piece)
 took-refused old new noted before piece stop t r = record {
   front = t.front;
@@ -225,13 +233,15 @@ took-refused old new noted before piece stop t r = record {
   stands = λ h. absurd (stream-not-whole h);
   refused = λ h. (
     stop,
-    subst₂ (λ (n : ℕ) (l : List ℕ). Refused n l stop) (t.stands refl).0 (ap (λ l. l ++ piece) (t.stands refl).1 ∙ ap (λ l. t.left ++ (l ++ piece)) (sym (t.all refl).0)) r,
+    subst₂ (λ (n : ℕ) (l : List ℕ). Refused n l stop) (t.stands refl).0
+        (ap (λ l. l ++ piece) (t.stands refl).1 ∙ ap (λ l. t.left ++ (l ++ piece)) (sym (t.all refl).0)) r,
   );
   not_cut = λ h. stream-not-cut h;
 }
 
 -- a piece can't be cut into units
-pub took-stop : (old new : Splitting) (noted : UnitsNoted) (before piece : List ℕ) (stop : Stop) → TookBytes old extents.Whole noted before → (old.stop ≡ None → PushStops old new piece stop) →
+pub took-stop : (old new : Splitting) (noted : UnitsNoted) (before piece : List ℕ) (stop : Stop) → TookBytes old extents.Whole noted before →
+    (old.stop ≡ None → PushStops old new piece stop) →
     TookBytes new (extent_after stop) noted (before ++ piece)
 took-stop old new noted before piece Memory t stops = took-memory old new noted before piece t
 took-stop old new noted before piece (No bit rule) t stops = took-refused old new noted before piece (No bit rule) t (stops (t.stands refl).2).0
@@ -239,7 +249,8 @@ took-stop old new noted before piece (Outside bit feature) t stops = took-refuse
 took-stop old new noted before piece Read t stops = absurd (stops (t.stands refl).2)
 took-stop old new noted before piece Write t stops = absurd (stops (t.stands refl).2)
 
-module _ (old mid : Splitting) (noted : UnitsNoted) (before piece : List ℕ) (n : ℕ) (t : TookBytes old extents.Whole noted before) (pushed : Pushed old mid piece n) where
+module _ (old mid : Splitting) (noted : UnitsNoted) (before piece : List ℕ) (n : ℕ) (t : TookBytes old extents.Whole noted before)
+    (pushed : Pushed old mid piece n) where
   abbrev pub taken-bytes : List ℕ
   taken-bytes = take n piece
 
@@ -248,7 +259,8 @@ module _ (old mid : Splitting) (noted : UnitsNoted) (before piece : List ℕ) (n
 
   begins-more : (more : List ℕ) → BeginWith 0 ((t.front ++ taken-bytes) ++ more) t.units t.at ((t.left ++ taken-bytes) ++ more)
   begins-more more =
-      subst₂ (λ (a b : List ℕ). BeginWith 0 a t.units t.at b) (sym (append_assoc t.front taken-bytes more)) (sym (append_assoc t.left taken-bytes more)) (t.begins (taken-bytes ++ more))
+      subst₂ (λ (a b : List ℕ). BeginWith 0 a t.units t.at b) (sym (append_assoc t.front taken-bytes more)) (sym (append_assoc t.left taken-bytes more))
+      (t.begins (taken-bytes ++ more))
 
   at-is : mid.at ≡ t.at
   at-is = pushed.at_is ∙ (t.stands refl).0
@@ -269,7 +281,12 @@ module _ (old mid : Splitting) (noted : UnitsNoted) (before piece : List ℕ) (n
     before = t.before;
     tells = t.tells;
     all = λ h. (refl, subst IsUndecided left-is (pushed.undecided idle));
-    stands = λ h. (ap (λ (s : Splitting). s.at) same ∙ at-is, ap (λ (s : Splitting). s.rest) same ∙ left-is, ap (λ (s : Splitting). s.stop) same ∙ pushed.stop_is);
+    stands = λ h. (
+      ap (λ (s : Splitting). s.at) same ∙ at-is,
+      ap (λ (s : Splitting). s.rest) same ∙ left-is,
+      ap (λ (s : Splitting). s.stop) same ∙
+          pushed.stop_is,
+    );
     refused = λ h. absurd (whole-no-stream h);
     not_cut = λ h. whole-not-cut h;
   }
@@ -298,7 +315,8 @@ module _ (old mid : Splitting) (noted : UnitsNoted) (before piece : List ℕ) (n
       refused = λ h. absurd (whole-no-stream h);
       not_cut = λ h. whole-not-cut h;
     }
-    took-unit (Err e) later notes same = subst (λ (f : UnitsNoted). TookBytes new extents.Memory f (before ++ take n piece)) (sym same) (took-memory old new noted before (take n piece) t)
+    took-unit (Err e) later notes same = subst (λ (f : UnitsNoted). TookBytes new extents.Memory f (before ++ take n piece)) (sym same)
+        (took-memory old new noted before (take n piece) t)
 
 -- ---- the end
 
@@ -313,7 +331,8 @@ told-lack extents.NotToTheEnd units h = refl
 told-lack extents.Memory units h = refl
 
 tells-end : (noted : UnitsNoted) (found : List (Option Places)) (units : List NalUnit) → noted.before ≡ after_units no_units units →
-    ((rule : StrictRule) → noted_in noted.found rule ≡ told_of_units rule units) → NotesEnd noted found → (rule : StrictRule) → noted_in found rule ≡ told_to_end rule units
+    ((rule : StrictRule) → noted_in noted.found rule ≡ told_of_units rule units) → NotesEnd noted found →
+    (rule : StrictRule) → noted_in found rule ≡ told_to_end rule units
 tells-end noted found units before tells ends rule = ends rule ∙ ap₂ (λ p s. with_places p (ended_bits rule (ended_last s))) (tells rule) before
 
 told-stopped : (r : Extent) (rule : StrictRule) (units : List NalUnit) → is_whole r ≡ false → told_of_units rule units ≡ told_by r rule units
@@ -322,11 +341,13 @@ told-stopped extents.NoByteStream rule units h = refl
 told-stopped extents.NotToTheEnd rule units h = refl
 told-stopped extents.Memory rule units h = refl
 
-begins-now : (front : List ℕ) (units : List NalUnit) (at : ℕ) (left : List ℕ) → BeginWith 0 (front ++ []) units at (left ++ []) → BeginWith 0 front units at left
+begins-now : (front : List ℕ) (units : List NalUnit) (at : ℕ) (left : List ℕ) → BeginWith 0 (front ++ []) units at (left ++ []) →
+    BeginWith 0 front units at left
 begins-now front units at left b = subst₂ (λ (x y : List ℕ). BeginWith 0 x units at y) (append-nil front) (append-nil left) b
 
 -- what begins with these units still does where nothing more comes
-begins-end : (bytes : List ℕ) (units : List NalUnit) (at : ℕ) (left more : List ℕ) → more ≡ [] → BeginWith 0 bytes units at left → BeginWith 0 (bytes ++ more) units at (left ++ more)
+begins-end : (bytes : List ℕ) (units : List NalUnit) (at : ℕ) (left more : List ℕ) → more ≡ [] → BeginWith 0 bytes units at left →
+    BeginWith 0 (bytes ++ more) units at (left ++ more)
 begins-end bytes units at left more none b =
     subst (λ (m : List ℕ). BeginWith 0 (bytes ++ m) units at (left ++ m)) (sym none)
     (subst₂ (λ (x y : List ℕ). BeginWith 0 x units at y) (sym (append-nil bytes)) (sym (append-nil left)) b)
@@ -335,7 +356,8 @@ begins-end bytes units at left more none b =
 module _ (s : Splitting) (r : Extent) (noted : UnitsNoted) (bytes : List ℕ) (t : TookBytes s r noted bytes) where
   begins-all : (more : List ℕ) → BeginWith 0 (bytes ++ more) t.units t.at ((t.left ++ t.rest) ++ more)
   begins-all more =
-      subst₂ (λ (a b : List ℕ). BeginWith 0 a t.units t.at b) (sym (ap (λ l. l ++ more) t.whole ∙ append_assoc t.front t.rest more)) (sym (append_assoc t.left t.rest more))
+      subst₂ (λ (a b : List ℕ). BeginWith 0 a t.units t.at b) (sym (ap (λ l. l ++ more) t.whole ∙ append_assoc t.front t.rest more))
+      (sym (append_assoc t.left t.rest more))
       (t.begins (t.rest ++ more))
 
   splits-refused : AreRefused t.at (t.left ++ t.rest) → SplitsToStop bytes t.units
@@ -343,7 +365,8 @@ module _ (s : Splitting) (r : Extent) (noted : UnitsNoted) (bytes : List ℕ) (t
     a.1.tail,
     a.0,
     a.1.stop_is,
-    splits-from a.1.tail 0 bytes t.units t.at (t.left ++ t.rest) (subst (λ (l : List ℕ). BeginWith 0 l t.units t.at (t.left ++ t.rest)) (sym t.whole) (t.begins t.rest))
+    splits-from a.1.tail 0 bytes t.units t.at (t.left ++ t.rest)
+        (subst (λ (l : List ℕ). BeginWith 0 l t.units t.at (t.left ++ t.rest)) (sym t.whole) (t.begins t.rest))
         (subst (λ (l : List ℕ). HasTail t.at l a.1.tail) (append-nil (t.left ++ t.rest)) (a.1.stands [])),
   )
 
@@ -361,7 +384,8 @@ module _ (s : Splitting) (r : Extent) (noted : UnitsNoted) (bytes : List ℕ) (t
   }
 
 -- the bytes may go on
-pub tells-cut : (s : Splitting) (r : Extent) (noted : UnitsNoted) (bytes : List ℕ) → TookBytes s r noted bytes → TellsOfBytes (cut_off r) false noted.found (lack_so_far noted.before) bytes
+pub tells-cut : (s : Splitting) (r : Extent) (noted : UnitsNoted) (bytes : List ℕ) → TookBytes s r noted bytes →
+    TellsOfBytes (cut_off r) false noted.found (lack_so_far noted.before) bytes
 tells-cut s extents.Whole noted bytes t = record {
   units = t.units;
   at = t.at;
@@ -377,7 +401,8 @@ tells-cut s extents.NoByteStream noted bytes t = tells-stopped s extents.NoByteS
 tells-cut s extents.NotToTheEnd noted bytes t = tells-stopped s extents.NotToTheEnd noted bytes t false refl
 tells-cut s extents.Memory noted bytes t = tells-stopped s extents.Memory noted bytes t false refl
 
-tells-memory : (s : Splitting) (noted : UnitsNoted) (bytes : List ℕ) → TookBytes s extents.Whole noted bytes → TellsOfBytes extents.Memory true noted.found (lack_so_far noted.before) bytes
+tells-memory : (s : Splitting) (noted : UnitsNoted) (bytes : List ℕ) → TookBytes s extents.Whole noted bytes →
+    TellsOfBytes extents.Memory true noted.found (lack_so_far noted.before) bytes
 tells-memory s noted bytes t = record {
   units = t.units;
   at = t.at;
@@ -407,7 +432,8 @@ tells-refused old new noted bytes stop t stops = record {
       stop,
       stops.stop_is,
       splits-from stops.tail 0 bytes t.units t.at t.left
-          (subst (λ (l : List ℕ). BeginWith 0 l t.units t.at t.left) (sym (t.whole ∙ ap (λ l. t.front ++ l) (t.all refl).0 ∙ append-nil t.front)) (begins-now t.front t.units t.at t.left (t.begins [])))
+          (subst (λ (l : List ℕ). BeginWith 0 l t.units t.at t.left) (sym (t.whole ∙ ap (λ l. t.front ++ l) (t.all refl).0 ∙ append-nil t.front))
+          (begins-now t.front t.units t.at t.left (t.begins [])))
           (subst₂ (λ (m : ℕ) (l : List ℕ). HasTail m l stops.tail) (t.stands refl).0 (t.stands refl).1 stops.stands),
     ),
     λ e. absurd (false≢true (sym e)),
@@ -415,7 +441,8 @@ tells-refused old new noted bytes stop t stops = record {
   cut = λ h. absurd (stream-not-cut h);
 }
 
-pub tells-stop : (old new : Splitting) (noted : UnitsNoted) (bytes : List ℕ) (stop : Stop) → TookBytes old extents.Whole noted bytes → (old.stop ≡ None → FinishStops old new stop) →
+pub tells-stop : (old new : Splitting) (noted : UnitsNoted) (bytes : List ℕ) (stop : Stop) → TookBytes old extents.Whole noted bytes →
+    (old.stop ≡ None → FinishStops old new stop) →
     TellsOfBytes (extent_after stop) true noted.found (lack_so_far noted.before) bytes
 tells-stop old new noted bytes Memory t stops = tells-memory old noted bytes t
 tells-stop old new noted bytes (No bit rule) t stops = tells-refused old new noted bytes (No bit rule) t (stops (t.stands refl).2)
@@ -431,7 +458,8 @@ module _ (old mid : Splitting) (noted : UnitsNoted) (bytes : List ℕ) (t : Took
   begun = subst (λ (l : List ℕ). BeginWith 0 l t.units t.at t.left) front-is (begins-now t.front t.units t.at t.left (t.begins []))
 
   -- no unit is left
-  pub tells-none : (found : List (Option Places)) (lack : Option Lack) → NotesEnd noted found → lack ≡ lack_at_end noted.before → IsFalse mid.waiting → TellsOfBytes extents.Whole true found lack bytes
+  pub tells-none : (found : List (Option Places)) (lack : Option Lack) → NotesEnd noted found → lack ≡ lack_at_end noted.before → IsFalse mid.waiting →
+      TellsOfBytes extents.Whole true found lack bytes
   tells-none found lack notes-end lacks-end none = record {
     units = t.units;
     at = t.at;
@@ -439,7 +467,11 @@ module _ (old mid : Splitting) (noted : UnitsNoted) (bytes : List ℕ) (t : Took
     begins = λ more ends. begins-end bytes t.units t.at t.left more (ends refl) begun;
     tells = tells-end noted found t.units t.before t.tells notes-end;
     lacks = lacks-end ∙ ap lack_at_end t.before;
-    all = λ h. (refl, splits-from Zeros 0 bytes t.units t.at t.left begun (subst₂ (λ (m : ℕ) (l : List ℕ). HasTail m l Zeros) (t.stands refl).0 (t.stands refl).1 (ends.zeros none)));
+    all = λ h. (
+      refl,
+      splits-from Zeros 0 bytes t.units t.at t.left begun
+          (subst₂ (λ (m : ℕ) (l : List ℕ). HasTail m l Zeros) (t.stands refl).0 (t.stands refl).1 (ends.zeros none)),
+    );
     refused = λ h. absurd (whole-no-stream h);
     cut = λ h. absurd (whole-not-cut h);
   }
@@ -451,20 +483,27 @@ module _ (old mid : Splitting) (noted : UnitsNoted) (bytes : List ℕ) (t : Took
         (subst₂ (λ (m : ℕ) (l : List ℕ). Next m l unit new.rest) (ends.at_is ∙ (t.stands refl).0) (ends.rest_is ∙ (t.stands refl).1) taken.next)
 
     -- a unit is left, which was noted
-    pub tells-unit : (later : UnitsNoted) (found : List (Option Places)) (lack : Option Lack) → NotesUnit noted unit later → NotesEnd later found → lack ≡ lack_at_end later.before →
+    pub tells-unit : (later : UnitsNoted) (found : List (Option Places)) (lack : Option Lack) → NotesUnit noted unit later → NotesEnd later found →
+        lack ≡ lack_at_end later.before →
         TellsOfBytes extents.Whole true found lack bytes
     tells-unit later found lack notes notes-end lacks-end = record {
       units = t.units ++ unit ∷ [];
       at = past unit;
       left = new.rest;
       begins = λ more ends. begins-end bytes (t.units ++ unit ∷ []) (past unit) new.rest more (ends refl) begun-unit;
-      tells = tells-end later found (t.units ++ unit ∷ []) (before-more noted later t.units unit t.before notes) (tells-more noted later t.units unit t.before t.tells notes) notes-end;
+      tells = tells-end later found (t.units ++ unit ∷ []) (before-more noted later t.units unit t.before notes)
+          (tells-more noted later t.units unit t.before t.tells notes) notes-end;
       lacks = lacks-end ∙ ap lack_at_end (before-more noted later t.units unit t.before notes);
-      all = λ h. (refl, splits-from Zeros 0 bytes (t.units ++ unit ∷ []) (past unit) new.rest begun-unit (subst (λ (m : ℕ). HasTail m new.rest Zeros) taken.at_is (taken.last ends.ended_is)));
+      all = λ h. (
+        refl,
+        splits-from Zeros 0 bytes (t.units ++ unit ∷ []) (past unit) new.rest begun-unit
+            (subst (λ (m : ℕ). HasTail m new.rest Zeros) taken.at_is (taken.last ends.ended_is)),
+      );
       refused = λ h. absurd (whole-no-stream h);
       cut = λ h. absurd (whole-not-cut h);
     }
 
     -- and for which memory was wanting
     pub tells-unread : (later : UnitsNoted) → later ≡ noted → TellsOfBytes extents.Memory true later.found (lack_so_far noted.before) bytes
-    tells-unread later same = subst (λ (f : UnitsNoted). TellsOfBytes extents.Memory true f.found (lack_so_far noted.before) bytes) (sym same) (tells-memory old noted bytes t)
+    tells-unread later same = subst (λ (f : UnitsNoted). TellsOfBytes extents.Memory true f.found (lack_so_far noted.before) bytes) (sym same)
+        (tells-memory old noted bytes t)

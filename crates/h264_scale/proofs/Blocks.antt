@@ -1,12 +1,14 @@
 -- Matrices by their rows, and by their entries.
-use Rattle.std.proofs.Common.{add-one, ◌≡◌, ◌↔◌, ◌+◌, ◌*◌, ℤ, ℕ, ◌<◌, refl, sym, ap, ◌∙◌, arith, pos, ◌*ℤ◌, true, false, List, ◌∷◌, length, drop, get_or, Result, Ok, Err, MatchResult, IfOk, IsOk, IsTrue}
+use Rattle.std.proofs.Common.{add-one, ◌≡◌, ◌↔◌, ◌+◌, ◌*◌, ℤ, ℕ, ◌<◌, refl, sym, ap, ◌∙◌, arith, pos, ◌*ℤ◌, true, false, List, ◌∷◌, length, drop, get_or}
+use Rattle.std.proofs.Common.{Result, Ok, Err, MatchResult, IfOk, IsOk, IsTrue}
 use Rattle.std.proofs.lemmas.Int.{ints}
 use Rattle.std.proofs.lemmas.Grind.{elements}
 use Rattle.std.proofs.lemmas.List.{get_or-take, get_or-drop}
 use borrow.Rule.Slice.PartMut.{mid_of}
 use Rattle.std.proofs.lemmas.Bool.{false≢true}
 use Rattle.h264_scale.specs.Residual.{fits16, all_entries, scaled, residual_fits, residual_at, HasEntries, coefficient, d_of, d_with_dc}
-use Rattle.h264_scale.specs.Fours.{four, block_of, dc_only, with_dc, four_fits, block_fits, four_fits_last, block_fits_last, scaled_block, block_residual_fits, block_residual, factor_at}
+use Rattle.h264_scale.specs.Fours.{four, block_of, dc_only, with_dc, four_fits, block_fits, four_fits_last, block_fits_last, scaled_block}
+use Rattle.h264_scale.specs.Fours.{block_residual_fits, block_residual, factor_at}
 use Rattle.h264_scale.specs.declared.fours.Four.{Four}
 use Rattle.h264_scale.specs.declared.fours.Block.{Block}
 use Rattle.h264_scale.specs.declared.transform.TransformRange.{TransformRange}
@@ -79,7 +81,8 @@ zero_times n = omega (arith, ints)
 none_at : (l : List ℤ) → ((k : ℕ) → k < 15 → get_or l (k + 1) (pos 0) ≡ pos 0) → (k n : ℕ) → k < 15 → get_or l (k + 1) (pos 0) *ℤ pos n ≡ pos 0
 none_at l none k n p = ap (λ z. z *ℤ pos n) (none k p) ∙ zero_times n
 
-pub dc_only_is : (l : List ℤ) (qp : ℕ) (x : ℤ) → ((k : ℕ) → k < 15 → get_or l (k + 1) (pos 0) ≡ pos 0) → x ≡ get_or l 0 (pos 0) *ℤ pos (factor_at qp 0 0) → dc_only x ≡ block_of (d_of l qp)
+pub dc_only_is : (l : List ℤ) (qp : ℕ) (x : ℤ) → ((k : ℕ) → k < 15 → get_or l (k + 1) (pos 0) ≡ pos 0) → x ≡ get_or l 0 (pos 0) *ℤ pos (factor_at qp 0 0) →
+    dc_only x ≡ block_of (d_of l qp)
 dc_only_is l qp x none e =
     let at = none_at l none in
     let f = factor_at qp in
@@ -97,7 +100,8 @@ dc_only_with x dc l qp none e =
     ap dc_only e ∙ ap (with_dc dc) (dc_only_is (pos 0 ∷ l) qp (pos 0) (λ k p. rw add-one (none k p)) first)
 
 -- levels that are 0 after the first
-pub none_after : (l : List ℤ) → length l ≡ 16 → ((k : ℕ) → k < length (mid_of 1 15 l) → get_or (mid_of 1 15 l) k (pos 0) ≡ pos 0) → (k : ℕ) → k < 15 → get_or l (k + 1) (pos 0) ≡ pos 0
+pub none_after : (l : List ℤ) → length l ≡ 16 → ((k : ℕ) → k < length (mid_of 1 15 l) → get_or (mid_of 1 15 l) k (pos 0) ≡ pos 0) → (k : ℕ) → k < 15 →
+    get_or l (k + 1) (pos 0) ≡ pos 0
 none_after l e none k p =
     let whole : length (mid_of 1 15 l) ≡ 15 = grind (arith, elements) in
     let there : k < length (mid_of 1 15 l) = omega (arith, whole, p) in

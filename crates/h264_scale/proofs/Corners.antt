@@ -1,4 +1,5 @@
-use Rattle.std.proofs.Common.{◌≡◌, ◌↔◌, ◌+◌, ◌*◌, ◌/◌, ◌%◌, ◌^◌, ℤ, ℕ, refl, sym, ap, ◌∙◌, arith, pos, negsuc, neg_ℤ, ◌*ℤ◌, ◌+ℤ◌, ◌-ℤ◌, true, false, List, [], get_or, Result, Ok, Err, MatchResult, IfOk, IsOk, IsTrue}
+use Rattle.std.proofs.Common.{◌≡◌, ◌↔◌, ◌+◌, ◌*◌, ◌/◌, ◌%◌, ◌^◌, ℤ, ℕ, refl, sym, ap, ◌∙◌, arith, pos, negsuc, neg_ℤ, ◌*ℤ◌, ◌+ℤ◌, ◌-ℤ◌, true, false, List, []}
+use Rattle.std.proofs.Common.{get_or, Result, Ok, Err, MatchResult, IfOk, IsOk, IsTrue}
 use Rattle.std.proofs.lemmas.Int.{ints}
 use Rattle.std.proofs.lemmas.Bool.{false≢true}
 use Rattle.std.specs.Int.{int_shr}
@@ -85,11 +86,14 @@ dc2_entries levels qp = rw (dc2_list_is levels qp) (four_entries (dc2_at levels 
 abbrev pub Dc2Answers : Result (List ℤ) TransformRange → List ℤ → ℕ → Type 0
 Dc2Answers r levels qp = (IsOk r ↔ IsTrue (dc2_fits levels qp)) × IfOk r (λ l. HasEntries2 l (dc2_at levels qp))
 
-pub dc2_answers : (r : Result (List ℤ) TransformRange) (v : Four) (factor qp : ℕ) (levels : List ℤ) → v ≡ matrix_four (chroma_coefficient levels) → factor ≡ factor_at qp 0 0 →
+pub dc2_answers : (r : Result (List ℤ) TransformRange) (v : Four) (factor qp : ℕ) (levels : List ℤ) → v ≡ matrix_four (chroma_coefficient levels) →
+    factor ≡ factor_at qp 0 0 →
     MatchResult r (λ l. (four_dc_fits factor v ≡ true) × (l ≡ four_dc factor v)) (λ _. four_dc_fits factor v ≡ false) → Dc2Answers r levels qp
 dc2_answers (Ok l) v factor qp levels e f h =
-    let fits : dc2_fits levels qp ≡ true = sym (dc2_fits_is levels qp) ∙ ap (four_dc_fits (factor_at qp 0 0)) (sym e) ∙ ap (λ k. four_dc_fits k v) (sym f) ∙ h.0 in
+    let fits : dc2_fits levels qp ≡ true = sym (dc2_fits_is levels qp) ∙ ap (four_dc_fits (factor_at qp 0 0)) (sym e) ∙ ap (λ k. four_dc_fits k v) (sym f) ∙
+    h.0 in
     ((λ _. fits, λ _. refl), rw (h.1, f, e) (dc2_entries levels qp))
 dc2_answers (Err x) v factor qp levels e f h =
-    let fits : dc2_fits levels qp ≡ false = sym (dc2_fits_is levels qp) ∙ ap (four_dc_fits (factor_at qp 0 0)) (sym e) ∙ ap (λ k. four_dc_fits k v) (sym f) ∙ h in
+    let fits : dc2_fits levels qp ≡ false = sym (dc2_fits_is levels qp) ∙ ap (four_dc_fits (factor_at qp 0 0)) (sym e) ∙ ap (λ k. four_dc_fits k v) (sym f) ∙
+    h in
     ((λ q. absurd (false≢true q), λ q. absurd (false≢true (sym fits ∙ q))), tt)

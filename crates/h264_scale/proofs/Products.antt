@@ -1,4 +1,5 @@
-use Rattle.std.proofs.Common.{◌≡◌, ◌↔◌, ⊎_elim, ◌+◌, ◌-◌, ◌*◌, ◌/◌, ◌%◌, ◌^◌, ℤ, ℕ, suc, ◌<◌, ◌≤◌, refl, sym, ap, ◌∙◌, arith, pos, negsuc, neg_ℤ, ◌*ℤ◌, ◌+ℤ◌, ◌-ℤ◌, Bool, true, false, ◌&&◌, nat_le, List, get_or, Result, Ok, Err, MatchResult, IfOk, IsOk, IsTrue}
+use Rattle.std.proofs.Common.{◌≡◌, ◌↔◌, ⊎_elim, ◌+◌, ◌-◌, ◌*◌, ◌/◌, ◌%◌, ◌^◌, ℤ, ℕ, suc, ◌<◌, ◌≤◌, refl, sym, ap, ◌∙◌, arith, pos, negsuc, neg_ℤ, ◌*ℤ◌, ◌+ℤ◌}
+use Rattle.std.proofs.Common.{◌-ℤ◌, Bool, true, false, ◌&&◌, nat_le, List, get_or, Result, Ok, Err, MatchResult, IfOk, IsOk, IsTrue}
 use Rattle.std.proofs.lemmas.Int.{ints}
 use Rattle.std.proofs.lemmas.Nat.{pow-add, pow_pos, div-mul-add, shr-shr, shl-shr}
 use Rattle.std.proofs.lemmas.Bool.{cases_Bool, cases_lt, cond-true, cond-false, leb-true, leb-false, false≢true}
@@ -6,7 +7,8 @@ use Rattle.std.specs.Int.{int_shr}
 use lib.Signed.{shr_z}
 use Rattle.h264_scale.specs.Residual.{coefficient, norm_adjust, HasEntries}
 use Rattle.h264_scale.specs.Dc.{hadamard, product4, f16_of, scaled_dc16, dc16_at, dc16_fits}
-use Rattle.h264_scale.specs.Fours.{four, block_of, block_fits, transposed, summed, hadamard_block, dc_scaled, dc_block, rows_of, block_dc_fits, block_dc, factor_at}
+use Rattle.h264_scale.specs.Fours.{four, block_of, block_fits, transposed, summed, hadamard_block, dc_scaled, dc_block, rows_of, block_dc_fits, block_dc}
+use Rattle.h264_scale.specs.Fours.{factor_at}
 use Rattle.h264_scale.specs.declared.fours.Block.{Block}
 use Rattle.h264_scale.specs.declared.transform.TransformRange.{TransformRange}
 use Rattle.h264_plane.proofs.Below.{below_4}
@@ -59,17 +61,23 @@ row3 a b c d = rw (times_one a, times_less b, times_one c, times_less d) (omega 
 columns_are : (m : ℕ → ℕ → ℤ) → summed (block_of m) ≡ block_of (product4 hadamard m)
 columns_are m =
     rows_of_block
-    (four_of (column0 (m 0 0) (m 1 0) (m 2 0) (m 3 0)) (column0 (m 0 1) (m 1 1) (m 2 1) (m 3 1)) (column0 (m 0 2) (m 1 2) (m 2 2) (m 3 2)) (column0 (m 0 3) (m 1 3) (m 2 3) (m 3 3)))
-    (four_of (column1 (m 0 0) (m 1 0) (m 2 0) (m 3 0)) (column1 (m 0 1) (m 1 1) (m 2 1) (m 3 1)) (column1 (m 0 2) (m 1 2) (m 2 2) (m 3 2)) (column1 (m 0 3) (m 1 3) (m 2 3) (m 3 3)))
-    (four_of (column2 (m 0 0) (m 1 0) (m 2 0) (m 3 0)) (column2 (m 0 1) (m 1 1) (m 2 1) (m 3 1)) (column2 (m 0 2) (m 1 2) (m 2 2) (m 3 2)) (column2 (m 0 3) (m 1 3) (m 2 3) (m 3 3)))
-    (four_of (column3 (m 0 0) (m 1 0) (m 2 0) (m 3 0)) (column3 (m 0 1) (m 1 1) (m 2 1) (m 3 1)) (column3 (m 0 2) (m 1 2) (m 2 2) (m 3 2)) (column3 (m 0 3) (m 1 3) (m 2 3) (m 3 3)))
+    (four_of (column0 (m 0 0) (m 1 0) (m 2 0) (m 3 0)) (column0 (m 0 1) (m 1 1) (m 2 1) (m 3 1)) (column0 (m 0 2) (m 1 2) (m 2 2) (m 3 2))
+    (column0 (m 0 3) (m 1 3) (m 2 3) (m 3 3)))
+    (four_of (column1 (m 0 0) (m 1 0) (m 2 0) (m 3 0)) (column1 (m 0 1) (m 1 1) (m 2 1) (m 3 1)) (column1 (m 0 2) (m 1 2) (m 2 2) (m 3 2))
+    (column1 (m 0 3) (m 1 3) (m 2 3) (m 3 3)))
+    (four_of (column2 (m 0 0) (m 1 0) (m 2 0) (m 3 0)) (column2 (m 0 1) (m 1 1) (m 2 1) (m 3 1)) (column2 (m 0 2) (m 1 2) (m 2 2) (m 3 2))
+    (column2 (m 0 3) (m 1 3) (m 2 3) (m 3 3)))
+    (four_of (column3 (m 0 0) (m 1 0) (m 2 0) (m 3 0)) (column3 (m 0 1) (m 1 1) (m 2 1) (m 3 1)) (column3 (m 0 2) (m 1 2) (m 2 2) (m 3 2))
+    (column3 (m 0 3) (m 1 3) (m 2 3) (m 3 3)))
 
 rows_are : (m : ℕ → ℕ → ℤ) → transposed (summed (transposed (block_of m))) ≡ block_of (product4 m hadamard)
 rows_are m =
     let row : (a b c d : ℤ) → four ((a +ℤ b) +ℤ (c +ℤ d)) ((a +ℤ b) -ℤ (c +ℤ d)) ((a -ℤ b) -ℤ (c -ℤ d)) ((a -ℤ b) +ℤ (c -ℤ d))
-    ≡ four (a *ℤ pos 1 +ℤ b *ℤ pos 1 +ℤ c *ℤ pos 1 +ℤ d *ℤ pos 1) (a *ℤ pos 1 +ℤ b *ℤ pos 1 +ℤ c *ℤ negsuc 0 +ℤ d *ℤ negsuc 0) (a *ℤ pos 1 +ℤ b *ℤ negsuc 0 +ℤ c *ℤ negsuc 0 +ℤ d *ℤ pos 1) (a *ℤ pos 1 +ℤ b *ℤ negsuc 0 +ℤ c *ℤ pos 1 +ℤ d *ℤ negsuc 0) =
+    ≡ four (a *ℤ pos 1 +ℤ b *ℤ pos 1 +ℤ c *ℤ pos 1 +ℤ d *ℤ pos 1) (a *ℤ pos 1 +ℤ b *ℤ pos 1 +ℤ c *ℤ negsuc 0 +ℤ d *ℤ negsuc 0)
+    (a *ℤ pos 1 +ℤ b *ℤ negsuc 0 +ℤ c *ℤ negsuc 0 +ℤ d *ℤ pos 1) (a *ℤ pos 1 +ℤ b *ℤ negsuc 0 +ℤ c *ℤ pos 1 +ℤ d *ℤ negsuc 0) =
     λ a b c d. four_of (row0 a b c d) (row1 a b c d) (row2 a b c d) (row3 a b c d) in
-    rows_of_block (row (m 0 0) (m 0 1) (m 0 2) (m 0 3)) (row (m 1 0) (m 1 1) (m 1 2) (m 1 3)) (row (m 2 0) (m 2 1) (m 2 2) (m 2 3)) (row (m 3 0) (m 3 1) (m 3 2) (m 3 3))
+    rows_of_block (row (m 0 0) (m 0 1) (m 0 2) (m 0 3)) (row (m 1 0) (m 1 1) (m 1 2) (m 1 3)) (row (m 2 0) (m 2 1) (m 2 2) (m 2 3))
+    (row (m 3 0) (m 3 1) (m 3 2) (m 3 3))
 
 pub hadamard_is : (m : ℕ → ℕ → ℤ) → hadamard_block (block_of m) ≡ block_of (product4 (product4 hadamard m) hadamard)
 hadamard_is m = ap (λ b. transposed (summed (transposed b))) (columns_are m) ∙ rows_are (product4 hadamard m)
@@ -125,7 +133,8 @@ low q v z p =
     ∙ ap (λ k. z *ℤ pos (16 * v * 2 ^ q) +ℤ pos k) round in
     let right : second *ℤ pos 16 ≡ z *ℤ pos (v * 2 ^ q * 16) +ℤ pos 32 =
     plus_times (z *ℤ pos (v * 2 ^ q)) 2 16 ∙ ap (λ y. y +ℤ pos 32) (times_times z (v * 2 ^ q) 16) in
-    sym (shr_multiple first (6 - q) q) ∙ ap (λ k. int_shr (first *ℤ pos (2 ^ q)) k) places ∙ ap (λ y. int_shr y 6) (left ∙ ap (λ k. z *ℤ pos k +ℤ pos 32) factors ∙ sym right)
+    sym (shr_multiple first (6 - q) q) ∙ ap (λ k. int_shr (first *ℤ pos (2 ^ q)) k) places ∙
+    ap (λ y. int_shr y 6) (left ∙ ap (λ k. z *ℤ pos k +ℤ pos 32) factors ∙ sym right)
     ∙ shr_multiple second 2 4
 
 pub scaled16_is : (qp : ℕ) (z : ℤ) → scaled_dc16 qp z ≡ dc_scaled (factor_at qp 0 0) z
@@ -180,11 +189,14 @@ dc_entries levels qp = rw (dc_list_is levels qp) (rows_entries (dc16_at levels q
 abbrev pub DcAnswers : Result (List ℤ) TransformRange → List ℤ → ℕ → Type 0
 DcAnswers r levels qp = (IsOk r ↔ IsTrue (dc16_fits levels qp)) × IfOk r (λ l. HasEntries l (dc16_at levels qp))
 
-pub dc_answers : (r : Result (List ℤ) TransformRange) (b : Block) (factor qp : ℕ) (levels : List ℤ) → b ≡ block_of (coefficient levels) → factor ≡ factor_at qp 0 0 →
+pub dc_answers : (r : Result (List ℤ) TransformRange) (b : Block) (factor qp : ℕ) (levels : List ℤ) → b ≡ block_of (coefficient levels) →
+    factor ≡ factor_at qp 0 0 →
     MatchResult r (λ l. (block_dc_fits factor b ≡ true) × (l ≡ block_dc factor b)) (λ _. block_dc_fits factor b ≡ false) → DcAnswers r levels qp
 dc_answers (Ok l) b factor qp levels e f h =
-    let fits : dc16_fits levels qp ≡ true = sym (dc_fits_is levels qp) ∙ ap (block_dc_fits (factor_at qp 0 0)) (sym e) ∙ ap (λ k. block_dc_fits k b) (sym f) ∙ h.0 in
+    let fits : dc16_fits levels qp ≡ true = sym (dc_fits_is levels qp) ∙ ap (block_dc_fits (factor_at qp 0 0)) (sym e) ∙ ap (λ k. block_dc_fits k b) (sym f) ∙
+    h.0 in
     ((λ _. fits, λ _. refl), rw (h.1, f, e) (dc_entries levels qp))
 dc_answers (Err x) b factor qp levels e f h =
-    let fits : dc16_fits levels qp ≡ false = sym (dc_fits_is levels qp) ∙ ap (block_dc_fits (factor_at qp 0 0)) (sym e) ∙ ap (λ k. block_dc_fits k b) (sym f) ∙ h in
+    let fits : dc16_fits levels qp ≡ false = sym (dc_fits_is levels qp) ∙ ap (block_dc_fits (factor_at qp 0 0)) (sym e) ∙
+    ap (λ k. block_dc_fits k b) (sym f) ∙ h in
     ((λ q. absurd (false≢true q), λ q. absurd (false≢true (sym fits ∙ q))), tt)

@@ -3,7 +3,9 @@ use Rattle.std.proofs.Common.{◌≡◌, ℤ, ℕ, unsigned_abs, negsuc, ◌-ℤ
 use Rattle.std.proofs.lemmas.Int.{ints}
 use Rattle.std.specs.Int.{int_shr}
 use Rattle.h264_scale.specs.Residual.{IsIn, fits_last}
-use Rattle.h264_scale.specs.Fours.{IsWithin, AreWithin, four_size, size, IsSmall, IsShort, IsShortFour, IsShortBlock, block_fits, four_fits_last, block_fits_last, half, halves, joined, transposed, block_e, block_f, block_residual_fits, block_residual, rounded, rounded_block, dc_only, four}
+use Rattle.h264_scale.specs.Fours.{IsWithin, AreWithin, four_size, size, IsSmall, IsShort, IsShortFour, IsShortBlock, block_fits, four_fits_last}
+use Rattle.h264_scale.specs.Fours.{block_fits_last, half, halves, joined, transposed, block_e, block_f, block_residual_fits, block_residual, rounded}
+use Rattle.h264_scale.specs.Fours.{rounded_block, dc_only, four}
 use Rattle.h264_scale.specs.declared.fours.Four.{Four}
 use Rattle.h264_scale.specs.declared.fours.Block.{Block}
 use Rattle.h264_scale.proofs.Fits.{fits_last_in, four_true, short_block_fits, transposed_in}
@@ -46,7 +48,12 @@ sums_of v = record {
 e_in : (v : Four) → IsWithin (four_size v) (e_row v)
 e_in v =
     let s = sums_of v in
-    record { a = in_more _ _ _ (omega arith) s.a; b = in_more _ _ _ (omega arith) s.b; c = in_more _ _ _ (omega arith) s.c; d = in_more _ _ _ (omega arith) s.d }
+    record {
+      a = in_more _ _ _ (omega arith) s.a;
+      b = in_more _ _ _ (omega arith) s.b;
+      c = in_more _ _ _ (omega arith) s.c;
+      d = in_more _ _ _ (omega arith) s.d;
+    }
 
 f_in : (v : Four) → IsWithin (four_size v) (f_row (e_row v))
 f_in v =
@@ -60,7 +67,8 @@ f_in v =
     }
 
 -- a matrix whose rows are within the sizes of the rows of d
-in_rows : (n : ℕ) (d m : Block) → size d ≤ n → IsWithin (four_size d.r0) m.r0 → IsWithin (four_size d.r1) m.r1 → IsWithin (four_size d.r2) m.r2 → IsWithin (four_size d.r3) m.r3 → AreWithin n m
+in_rows : (n : ℕ) (d m : Block) → size d ≤ n → IsWithin (four_size d.r0) m.r0 → IsWithin (four_size d.r1) m.r1 → IsWithin (four_size d.r2) m.r2 →
+    IsWithin (four_size d.r3) m.r3 → AreWithin n m
 in_rows n d m h p q r s = record {
   r0 = within_more (four_size d.r0) n m.r0 (omega arith) p;
   r1 = within_more (four_size d.r1) n m.r1 (omega arith) q;
@@ -92,7 +100,12 @@ joined_in a b n m p h = record {
 }
 
 halves_within : (a b n : ℕ) (m : Block) → a ≤ n → b ≤ n → AreHalves a b m → AreWithin n m
-halves_within a b n m p q h = record { r0 = within_more a n m.r0 p h.r0; r1 = within_more a n m.r1 p h.r1; r2 = within_more b n m.r2 q h.r2; r3 = within_more b n m.r3 q h.r3 }
+halves_within a b n m p q h = record {
+  r0 = within_more a n m.r0 p h.r0;
+  r1 = within_more a n m.r1 p h.r1;
+  r2 = within_more b n m.r2 q h.r2;
+  r3 = within_more b n m.r3 q h.r3;
+}
 
 short_in : (n : ℕ) (z : ℤ) → n ≤ 32767 → IsIn n z → IsShort z
 short_in n z p h = record { low = omega (arith, ints); high = omega (arith, ints) }
@@ -204,10 +217,12 @@ flat_fits z e =
     let h = fits_last_in z e in
     let first : IsShortFour (four z (pos 0) (pos 0) (pos 0)) = record { a = h; b = zero_short; c = zero_short; d = zero_short } in
     let second : IsShortFour (four z z (pos 0) (pos 0)) = record { a = h; b = h; c = zero_short; d = zero_short } in
-    five_true (block_fits (dc_only z)) (block_fits (block_e (dc_only z))) (block_fits (block_f (block_e (dc_only z)))) (block_fits (halves (block_f (block_e (dc_only z)))))
+    five_true (block_fits (dc_only z)) (block_fits (block_e (dc_only z))) (block_fits (block_f (block_e (dc_only z))))
+    (block_fits (halves (block_f (block_e (dc_only z)))))
     (block_fits_last (joined (halves (block_f (block_e (dc_only z))))))
     (short_block_fits (dc_only z) (record { r0 = first; r1 = none_short; r2 = none_short; r3 = none_short }))
-    (rw (flat_e z) (short_block_fits (rows (four z z (pos 0) (pos 0)) none none none) (record { r0 = second; r1 = none_short; r2 = none_short; r3 = none_short })))
+    (rw (flat_e z) (short_block_fits (rows (four z z (pos 0) (pos 0)) none none none)
+    (record { r0 = second; r1 = none_short; r2 = none_short; r3 = none_short })))
     (rw (flat_f z) (short_block_fits (rows (row z) none none none) (record { r0 = row_short z h; r1 = none_short; r2 = none_short; r3 = none_short })))
     (rw (flat_g z) (short_block_fits (rows (row z) (row z) none none) (record { r0 = row_short z h; r1 = row_short z h; r2 = none_short; r3 = none_short })))
     (rw (flat_h z) (rows_last z e))
@@ -224,7 +239,8 @@ rows_unfit z e = four_false _ _ _ _ (four_false _ _ _ _ e)
 
 pub flat_unfit : (z : ℤ) → fits_last z ≡ false → block_residual_fits (dc_only z) ≡ false
 unfolding block_residual_fits
-flat_unfit z e = last_false (block_fits (dc_only z)) (block_fits (block_e (dc_only z))) (block_fits (block_f (block_e (dc_only z)))) (block_fits (halves (block_f (block_e (dc_only z)))))
+flat_unfit z e = last_false (block_fits (dc_only z)) (block_fits (block_e (dc_only z))) (block_fits (block_f (block_e (dc_only z))))
+    (block_fits (halves (block_f (block_e (dc_only z)))))
     (block_fits_last (joined (halves (block_f (block_e (dc_only z)))))) (rw (flat_h z) (rows_unfit z e))
 
 pub flat_is : (z r : ℤ) → r ≡ rounded z → replicate 16 r ≡ block_residual (dc_only z)

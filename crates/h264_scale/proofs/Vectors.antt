@@ -1,5 +1,7 @@
 -- Lanes of 16 bits, and what the transform makes of them.
-use Rattle.std.proofs.Common.{◌≡◌, ◌↔◌, ℕ, ℤ, zero, suc, min, unsigned_abs, inl, inr, ◌+◌, ◌*◌, ◌/◌, ◌%◌, ◌^◌, ◌<◌, ◌≤◌, refl, ap, ◌∙◌, arith, pos, negsuc, neg_ℤ, ◌+ℤ◌, ◌-ℤ◌, ◌*ℤ◌, Bool, true, false, ◌&&◌, ◌==◌, if◌then◌else◌, List, [], ◌∷◌, map, length, get_or, slice_index, to_z, of_z, w16, w32, FitsSigned}
+use Rattle.std.proofs.Common.{◌≡◌, ◌↔◌, ℕ, ℤ, zero, suc, min, unsigned_abs, inl, inr, ◌+◌, ◌*◌, ◌/◌, ◌%◌, ◌^◌, ◌<◌, ◌≤◌, refl, ap, ◌∙◌, arith, pos, negsuc}
+use Rattle.std.proofs.Common.{neg_ℤ, ◌+ℤ◌, ◌-ℤ◌, ◌*ℤ◌, Bool, true, false, ◌&&◌, ◌==◌, if◌then◌else◌, List, [], ◌∷◌, map, length, get_or, slice_index, to_z}
+use Rattle.std.proofs.Common.{of_z, w16, w32, FitsSigned}
 use Rattle.std.proofs.lemmas.Int.{ints, to_z-of_z, wrapping_add_is, wrapping_sub_is, wrapping_mul_is, int_wrap_fits}
 use Rattle.std.proofs.lemmas.Nat.{mul-le}
 use Rattle.std.proofs.Math.Pow.{pow_mono}
@@ -7,7 +9,8 @@ use Rattle.std.specs.Int.{int_wrapping_add, int_wrapping_sub, int_wrapping_mul}
 use lib.Signed.{shr_z}
 use borrow.Author.Differences.{up, down}
 use Rattle.h264_scale.specs.Residual.{IsIn, AreIn, norm_adjust, v0, v1, v2}
-use Rattle.h264_scale.specs.Fours.{size, IsShort, IsShortFour, IsShortBlock, IsWithin, AreWithin, block_of, half, rounded, rounded_row, rounded_block, factor_at}
+use Rattle.h264_scale.specs.Fours.{size, IsShort, IsShortFour, IsShortBlock, IsWithin, AreWithin, block_of, half, rounded, rounded_row, rounded_block}
+use Rattle.h264_scale.specs.Fours.{factor_at}
 use Rattle.h264_scale.specs.Lanes.{lanes, by_place, size_below, with_first, AreWide}
 use Rattle.h264_scale.proofs.Within.{half_low, half_high, in_more}
 use Rattle.h264_scale.specs.declared.fours.Four.{Four}
@@ -65,7 +68,10 @@ rounded_kept h p =
     ap (λ z. to_z w16 (of_z w16 (shr_z z 64))) sum ∙ kept (rounded h) (short_sixty (h +ℤ pos 32) more)
 
 rounded_in : (h : ℤ) → IsIn 32735 h → IsIn 512 (rounded h)
-rounded_in h p = record { low = omega (arith, ints, sixty_low (h +ℤ pos 32), sixty_high (h +ℤ pos 32), p.low, p.high); high = omega (arith, ints, sixty_low (h +ℤ pos 32), sixty_high (h +ℤ pos 32), p.low, p.high) }
+rounded_in h p = record {
+  low = omega (arith, ints, sixty_low (h +ℤ pos 32), sixty_high (h +ℤ pos 32), p.low, p.high);
+  high = omega (arith, ints, sixty_low (h +ℤ pos 32), sixty_high (h +ℤ pos 32), p.low, p.high);
+}
 
 rounded_row_in : (v : Four) (l : List ℤ) → IsWithin 32735 v → AreIn 512 l → AreIn 512 (rounded_row v l)
 rounded_row_in v l h p = all_cons (rounded_in v.a h.a) (all_cons (rounded_in v.b h.b) (all_cons (rounded_in v.c h.c) (all_cons (rounded_in v.d h.d) p)))
@@ -115,10 +121,15 @@ clipped_is n l = (λ h. let s = clipped_same n l h in omega arith, λ h. let s =
 by_place_same : (f g : ℕ → ℕ → ℤ) → ((i j : ℕ) → i < 4 → j < 4 → f i j ≡ g i j) → by_place f ≡ by_place g
 by_place_same f g h =
     let at = λ (i j : ℕ) (p : i < 4) (q : j < 4). h i j p q in
-    cons_is (at 0 0 (omega arith) (omega arith)) (cons_is (at 0 1 (omega arith) (omega arith)) (cons_is (at 1 0 (omega arith) (omega arith)) (cons_is (at 2 0 (omega arith) (omega arith)) (
-    cons_is (at 1 1 (omega arith) (omega arith)) (cons_is (at 0 2 (omega arith) (omega arith)) (cons_is (at 0 3 (omega arith) (omega arith)) (cons_is (at 1 2 (omega arith) (omega arith)) (
-    cons_is (at 2 1 (omega arith) (omega arith)) (cons_is (at 3 0 (omega arith) (omega arith)) (cons_is (at 3 1 (omega arith) (omega arith)) (cons_is (at 2 2 (omega arith) (omega arith)) (
-    cons_is (at 1 3 (omega arith) (omega arith)) (cons_is (at 2 3 (omega arith) (omega arith)) (cons_is (at 3 2 (omega arith) (omega arith)) (cons_is (at 3 3 (omega arith) (omega arith)) refl)))))))))))))))
+    cons_is (at 0 0 (omega arith) (omega arith))
+    (cons_is (at 0 1 (omega arith) (omega arith)) (cons_is (at 1 0 (omega arith) (omega arith)) (cons_is (at 2 0 (omega arith) (omega arith)) (
+    cons_is (at 1 1 (omega arith) (omega arith))
+    (cons_is (at 0 2 (omega arith) (omega arith)) (cons_is (at 0 3 (omega arith) (omega arith)) (cons_is (at 1 2 (omega arith) (omega arith)) (
+    cons_is (at 2 1 (omega arith) (omega arith))
+    (cons_is (at 3 0 (omega arith) (omega arith)) (cons_is (at 3 1 (omega arith) (omega arith)) (cons_is (at 2 2 (omega arith) (omega arith)) (
+    cons_is (at 1 3 (omega arith) (omega arith))
+    (cons_is (at 2 3 (omega arith) (omega arith))
+    (cons_is (at 3 2 (omega arith) (omega arith)) (cons_is (at 3 3 (omega arith) (omega arith)) refl)))))))))))))))
 
 short_entry : (m : ℕ → ℕ → ℤ) → IsShortBlock (block_of m) → (i j : ℕ) → i < 4 → j < 4 → IsShort (m i j)
 short_entry m h i j p q = below_4 (λ k. IsShort (m k j))
@@ -178,7 +189,8 @@ pub narrow_fits : (z : ℤ) → IsIn 32735 z → FitsSigned w16 (to_z w32 (of_z 
 narrow_fits z h = let short : IsShort z = record { low = omega (arith, ints); high = omega (arith, ints) } in rw (small_wide z h) (fits_of z short)
 
 pub narrow_kept : (z : ℤ) → IsIn 32735 z → to_z w16 (of_z w16 (to_z w32 (of_z w32 z))) ≡ z
-narrow_kept z h = let short : IsShort z = record { low = omega (arith, ints); high = omega (arith, ints) } in ap (λ x. to_z w16 (of_z w16 x)) (small_wide z h) ∙ kept z short
+narrow_kept z h = let short : IsShort z = record { low = omega (arith, ints); high = omega (arith, ints) } in
+    ap (λ x. to_z w16 (of_z w16 x)) (small_wide z h) ∙ kept z short
 
 -- lists of which each number is kept
 pub listed_same : (n : ℕ) (f g : ℕ → ℤ) → ((k : ℕ) → k < n → f k ≡ g k) → listed n f ≡ listed n g

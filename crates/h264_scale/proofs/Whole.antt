@@ -1,11 +1,13 @@
 -- The residual of a macroblock, block by block, and its range.
-use Rattle.std.proofs.Common.{◌≡◌, ⊎_elim, ℕ, zero, suc, ◌+◌, ◌*◌, ◌/◌, ◌%◌, ◌<◌, ◌≤◌, Bool, true, false, ◌&&◌, List, [], get_or, replicate, IsTrue, ℤ, pos, arith, refl, sym, ap, ◌∙◌, add-one}
+use Rattle.std.proofs.Common.{◌≡◌, ⊎_elim, ℕ, zero, suc, ◌+◌, ◌*◌, ◌/◌, ◌%◌, ◌<◌, ◌≤◌, Bool, true, false, ◌&&◌, List, [], get_or, replicate, IsTrue, ℤ, pos}
+use Rattle.std.proofs.Common.{arith, refl, sym, ap, ◌∙◌, add-one}
 use Rattle.std.proofs.lemmas.Bool.{cases_lt, false≢true, false_from_ne_true}
 use Rattle.h264_plane.specs.declared.frame.Component.TheVariants.{Y, Cb, Cr}
 use Rattle.h264_plane.specs.Places.{index_of, column_of, row_of}
 use Rattle.h264_scale.specs.Residual.{residual_at, residual_fits, d_of, d_with_dc, HasEntries}
 use Rattle.h264_scale.specs.Dc.{dc16_at, dc2_at, HasEntries2}
-use Rattle.h264_scale.specs.Macroblock.{luma_d, chroma_d, block_d, residual, all_below, luma_dc_fits, chroma_dc_fits, luma_blocks_fit, chroma_blocks_fit, luma_fits, chroma_fits, levels_fit}
+use Rattle.h264_scale.specs.Macroblock.{luma_d, chroma_d, block_d, residual, all_below, luma_dc_fits, chroma_dc_fits, luma_blocks_fit, chroma_blocks_fit}
+use Rattle.h264_scale.specs.Macroblock.{luma_fits, chroma_fits, levels_fit}
 use Rattle.h264_scale.specs.declared.levels.LumaLevels.{LumaLevels}
 use Rattle.h264_scale.specs.declared.levels.LumaLevels.TheVariants as luma
 use Rattle.h264_scale.specs.declared.levels.LumaWithDc.{LumaWithDc}
@@ -24,13 +26,15 @@ pub d_of_blocks : (qp x y : ℕ) (levels : List (List ℤ)) (l : List ℤ) → l
 unfolding luma_d
 d_of_blocks qp x y levels l e = ap (λ z. d_of z qp) e
 
-pub d_of_dc16 : (qp x y : ℕ) (levels : LumaWithDc) (l dcs : List ℤ) (dc : ℤ) → x < 4 → y < 4 → l ≡ get_or levels.ac (index_of x y) [] → dc ≡ get_or dcs (4 * y + x) (pos 0) →
+pub d_of_dc16 : (qp x y : ℕ) (levels : LumaWithDc) (l dcs : List ℤ) (dc : ℤ) → x < 4 → y < 4 → l ≡ get_or levels.ac (index_of x y) [] →
+    dc ≡ get_or dcs (4 * y + x) (pos 0) →
     HasEntries dcs (dc16_at levels.dc qp) → d_with_dc dc l qp ≡ luma_d qp (luma.WithDc levels) x y
 unfolding luma_d
 d_of_dc16 qp x y levels l dcs dc p q e same dcs_are =
     ap (λ z. d_with_dc z l qp) (same ∙ dcs_are.each y x q p) ∙ ap (λ z. d_with_dc (dc16_at levels.dc qp y x) z qp) e
 
-pub d_of_dc2 : (qp x y : ℕ) (levels : ChromaWithDc) (l dcs : List ℤ) (dc : ℤ) → x < 2 → y < 2 → l ≡ get_or levels.ac (2 * y + x) [] → dc ≡ get_or dcs (2 * y + x) (pos 0) →
+pub d_of_dc2 : (qp x y : ℕ) (levels : ChromaWithDc) (l dcs : List ℤ) (dc : ℤ) → x < 2 → y < 2 → l ≡ get_or levels.ac (2 * y + x) [] →
+    dc ≡ get_or dcs (2 * y + x) (pos 0) →
     HasEntries2 dcs (dc2_at levels.dc qp) → d_with_dc dc l qp ≡ chroma_d qp (chroma.WithDc levels) x y
 unfolding chroma_d
 d_of_dc2 qp x y levels l dcs dc p q e same dcs_are =
@@ -78,7 +82,8 @@ pub always : (b : Bool) → b ≡ true → (true ≡ true → IsTrue b) × (IsTr
 always b e = (λ _. e, λ _. refl)
 
 -- the range of a plane
-pub luma_whole : (qp : ℕ) (l : LumaLevels) → luma_dc_fits qp l ≡ true → all_below 16 (λ b. residual_fits (luma_d qp l (column_of b) (row_of b))) ≡ true → luma_fits qp l ≡ true
+pub luma_whole : (qp : ℕ) (l : LumaLevels) → luma_dc_fits qp l ≡ true → all_below 16 (λ b. residual_fits (luma_d qp l (column_of b) (row_of b))) ≡ true →
+    luma_fits qp l ≡ true
 unfolding luma_fits luma_blocks_fit
 luma_whole qp l p q = and_true _ _ p q
 
@@ -90,7 +95,8 @@ pub luma_unfit : (qp : ℕ) (l : LumaLevels) (b : ℕ) → b < 16 → residual_f
 unfolding luma_fits luma_blocks_fit
 luma_unfit qp l b i p = and_second (luma_dc_fits qp l) _ (all_stop 16 b (λ k. residual_fits (luma_d qp l (column_of k) (row_of k))) i p)
 
-pub chroma_whole : (qp : ℕ) (l : ChromaLevels) → chroma_dc_fits qp l ≡ true → all_below 4 (λ b. residual_fits (chroma_d qp l (b % 2) (b / 2))) ≡ true → chroma_fits qp l ≡ true
+pub chroma_whole : (qp : ℕ) (l : ChromaLevels) → chroma_dc_fits qp l ≡ true → all_below 4 (λ b. residual_fits (chroma_d qp l (b % 2) (b / 2))) ≡ true →
+    chroma_fits qp l ≡ true
 unfolding chroma_fits chroma_blocks_fit
 chroma_whole qp l p q = and_true _ _ p q
 

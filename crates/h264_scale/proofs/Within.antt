@@ -32,10 +32,20 @@ pub within_more : (m n : ℕ) (v : Four) → m ≤ n → IsWithin m v → IsWith
 within_more m n v p h = record { a = in_more m n v.a p h.a; b = in_more m n v.b p h.b; c = in_more m n v.c p h.c; d = in_more m n v.d p h.d }
 
 pub within_plus : (m n : ℕ) (v w : Four) → IsWithin m v → IsWithin n w → IsWithin (m + n) (plus v w)
-within_plus m n v w p q = record { a = in_sum m n v.a w.a p.a q.a; b = in_sum m n v.b w.b p.b q.b; c = in_sum m n v.c w.c p.c q.c; d = in_sum m n v.d w.d p.d q.d }
+within_plus m n v w p q = record {
+  a = in_sum m n v.a w.a p.a q.a;
+  b = in_sum m n v.b w.b p.b q.b;
+  c = in_sum m n v.c w.c p.c q.c;
+  d = in_sum m n v.d w.d p.d q.d;
+}
 
 pub within_minus : (m n : ℕ) (v w : Four) → IsWithin m v → IsWithin n w → IsWithin (m + n) (minus v w)
-within_minus m n v w p q = record { a = in_difference m n v.a w.a p.a q.a; b = in_difference m n v.b w.b p.b q.b; c = in_difference m n v.c w.c p.c q.c; d = in_difference m n v.d w.d p.d q.d }
+within_minus m n v w p q = record {
+  a = in_difference m n v.a w.a p.a q.a;
+  b = in_difference m n v.b w.b p.b q.b;
+  c = in_difference m n v.c w.c p.c q.c;
+  d = in_difference m n v.d w.d p.d q.d;
+}
 
 pub within_half : (n : ℕ) (v : Four) → IsWithin n v → IsWithin n (half v)
 within_half n v p = record { a = in_half n v.a p.a; b = in_half n v.b p.b; c = in_half n v.c p.c; d = in_half n v.d p.d }
@@ -80,4 +90,9 @@ within_transposed n m h = record {
 }
 
 pub within_block : (m n : ℕ) (b : Block) → m ≤ n → AreWithin m b → AreWithin n b
-within_block m n b p h = record { r0 = within_more m n b.r0 p h.r0; r1 = within_more m n b.r1 p h.r1; r2 = within_more m n b.r2 p h.r2; r3 = within_more m n b.r3 p h.r3 }
+within_block m n b p h = record {
+  r0 = within_more m n b.r0 p h.r0;
+  r1 = within_more m n b.r1 p h.r1;
+  r2 = within_more m n b.r2 p h.r2;
+  r3 = within_more m n b.r3 p h.r3;
+}

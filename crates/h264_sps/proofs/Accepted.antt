@@ -1,5 +1,6 @@
 -- What holds of a sequence parameter set that some unit gives.
-use Rattle.std.proofs.Common.{◌≡◌, ℕ, zero, suc, ◌+◌, ◌*◌, ◌<◌, ◌≤◌, nat_le, Bool, true, false, ◌&&◌, IsTrue, List, Option, Some, None, Result, Ok, Err, refl, sym, subst, arith}
+use Rattle.std.proofs.Common.{◌≡◌, ℕ, zero, suc, ◌+◌, ◌*◌, ◌<◌, ◌≤◌, nat_le, Bool, true, false, ◌&&◌, IsTrue, List, Option, Some, None, Result, Ok, Err, refl}
+use Rattle.std.proofs.Common.{sym, subst, arith}
 use Rattle.std.specs.Prelude.{nat_lt, unwrap_or, IfSome, IfOk}
 use Rattle.std.specs.Option.{is_some, option_map, option_map_or, option_and_then}
 use Rattle.std.proofs.lemmas.Nat.{mul-le}
@@ -42,7 +43,8 @@ HasCount c = has_count_lengths c ≡ true
 of-kind : (kind : ℕ) → Gives (of_type kind) HasCount
 unfolding of_type lsb_type cycle_type
 of-kind zero = gives-to _ _ _ _ (λ n h. few n h)
-of-kind (suc zero) = gives-following _ _ _ (λ _. gives-following _ _ _ (λ _. gives-following _ _ _ (λ _. gives-following _ _ _ (λ _. gives-following _ _ _ (λ _. refl)))))
+of-kind (suc zero) = gives-following _ _ _
+    (λ _. gives-following _ _ _ (λ _. gives-following _ _ _ (λ _. gives-following _ _ _ (λ _. gives-following _ _ _ (λ _. refl)))))
 of-kind (suc (suc n)) = refl
 
 counts : Gives counting HasCount
@@ -57,7 +59,8 @@ record HasLevel (set3 : Bool) (n : LevelNamed) : Type 0 where
   pub is : limits_of n.level_idc set3 ≡ Some n.limits
   pub small : n.limits.max_fs ≤ 36864
 
-level-of : (o : Option Limits) → is_some o ≡ true → IfSome o (λ (l : Limits). l.max_fs ≤ 36864) → (o ≡ Some (unwrap_or o no_limits)) × ((unwrap_or o no_limits).max_fs ≤ 36864)
+level-of : (o : Option Limits) → is_some o ≡ true → IfSome o (λ (l : Limits). l.max_fs ≤ 36864) → (o ≡ Some (unwrap_or o no_limits)) ×
+    ((unwrap_or o no_limits).max_fs ≤ 36864)
 level-of None h b = cc
 level-of (Some l) h b = (refl, b)
 
@@ -70,7 +73,9 @@ HasFront f = HasLevel f.flags.set3 f.named
 
 front-gives : (target : Target) → Gives (profile_and_level target) HasFront
 unfolding profile_and_level check
-front-gives target = gives-following _ _ _ (λ profile. gives-following _ _ _ (λ flags. gives-following _ _ _ (λ _. gives-following _ _ _ (λ reserved. gives-met (level flags.set3) _ (HasLevel flags.set3) _ (level-gives flags.set3) (λ named h. h)))))
+front-gives target = gives-following _ _ _
+    (λ profile. gives-following _ _ _ (λ flags. gives-following _ _ _
+    (λ _. gives-following _ _ _ (λ reserved. gives-met (level flags.set3) _ (HasLevel flags.set3) _ (level-gives flags.set3) (λ named h. h)))))
 
 -- the size is one of the level
 record HasSize (limits : Limits) (refs : ℕ) (size : Size) : Type 0 where
@@ -83,7 +88,14 @@ record HasSize (limits : Limits) (refs : ℕ) (size : Size) : Type 0 where
 
 size-gives : (limits : Limits) (refs : ℕ) → Gives (frame_size limits refs) (HasSize limits refs)
 unfolding frame_size fits read_word check ◌>>=◌
-size-gives limits refs = λ w h a b c d. record { wide = omega arith; high = omega arith; macroblocks = leb-true _ _ a; across = leb-true _ _ b; down = leb-true _ _ c; references = leb-true _ _ d }
+size-gives limits refs = λ w h a b c d. record {
+  wide = omega arith;
+  high = omega arith;
+  macroblocks = leb-true _ _ a;
+  across = leb-true _ _ b;
+  down = leb-true _ _ c;
+  references = leb-true _ _ d;
+}
 
 side : (n max : ℕ) → n * n ≤ 8 * max → max ≤ 36864 → n ≤ 543
 side n max h m = by (nat_le n 543) refl
@@ -103,7 +115,8 @@ crop-gives size = λ l r a t b c. both _ _ (below _ _ a) (below _ _ c)
     below : (n m : ℕ) → nat_lt (2 * n) (16 * m) ≡ true → nat_lt n (8 * m) ≡ true
     below n m h = grind (arith, nat_tests)
 
-flagged-gives : {A : Type 0} (present : Grammar Bool) (part : Grammar A) (P : Option A → Type 0) → P None → Gives part (λ x. P (Some x)) → Gives (flagged present part) P
+flagged-gives : {A : Type 0} (present : Grammar Bool) (part : Grammar A) (P : Option A → Type 0) → P None → Gives part (λ x. P (Some x)) →
+    Gives (flagged present part) P
 unfolding flagged optional
 flagged-gives present part P none some = gives-following _ _ _ by
   where
@@ -116,20 +129,28 @@ abbrev FitsIn : ℕ → ℕ → ℕ → Type 0
 FitsIn refs max frames = (refs ≤ frames) × (frames ≤ max)
 
 abbrev HasBuffering : ℕ → ℕ → Option Vui → Type 0
-HasBuffering refs max o = (frames : ℕ) → option_map (λ (r : BitstreamRestriction). r.max_dec_frame_buffering) (option_and_then (λ (v : Vui). v.bitstream_restriction) o) ≡ Some frames → FitsIn refs max frames
+HasBuffering refs max o = (frames : ℕ) →
+    option_map (λ (r : BitstreamRestriction). r.max_dec_frame_buffering) (option_and_then (λ (v : Vui). v.bitstream_restriction) o) ≡ Some frames →
+    FitsIn refs max frames
 
-check-gives : {B : Type 0} (rule : Rule) (bit : ℕ) (holds : Bool) (f : Unit {0} → Grammar B) (P : B → Type 0) → (IsTrue holds → Gives (f tt) P) → Gives (check rule bit holds >>= f) P
+check-gives : {B : Type 0} (rule : Rule) (bit : ℕ) (holds : Bool) (f : Unit {0} → Grammar B) (P : B → Type 0) → (IsTrue holds → Gives (f tt) P) →
+    Gives (check rule bit holds >>= f) P
 unfolding check ◌>>=◌
 check-gives rule bit holds f P h = h
 
 restriction-gives : (refs max : ℕ) → Gives (bitstream_restriction refs max) (λ r. FitsIn refs max r.max_dec_frame_buffering)
 unfolding bitstream_restriction
-restriction-gives refs max = gives-following _ _ _ (λ over. gives-following _ _ _ (λ bytes. gives-following _ _ _ (λ mb_bits. gives-following _ _ _ (λ across. gives-following _ _ _ (λ down. gives-following _ _ _ (λ reorder. gives-following _ _ _ (λ e. check-gives _ _ _ _ _ (λ _. check-gives _ _ _ _ _ (λ b. check-gives _ _ _ _ _ (λ c. (leb-true _ _ b, leb-true _ _ c)))))))))))
+restriction-gives refs max = gives-following _ _ _
+    (λ over. gives-following _ _ _ (λ bytes. gives-following _ _ _
+    (λ mb_bits. gives-following _ _ _ (λ across. gives-following _ _ _
+    (λ down. gives-following _ _ _ (λ reorder. gives-following _ _ _
+    (λ e. check-gives _ _ _ _ _ (λ _. check-gives _ _ _ _ _ (λ b. check-gives _ _ _ _ _ (λ c. (leb-true _ _ b, leb-true _ _ c)))))))))))
 
 same-some : (a b : ℕ) → Some a ≡ Some b → a ≡ b
 same-some a b e = cc
 
-restricted : (refs max : ℕ) (r : BitstreamRestriction) → FitsIn refs max r.max_dec_frame_buffering → (frames : ℕ) → Some r.max_dec_frame_buffering ≡ Some frames → FitsIn refs max frames
+restricted : (refs max : ℕ) (r : BitstreamRestriction) → FitsIn refs max r.max_dec_frame_buffering →
+    (frames : ℕ) → Some r.max_dec_frame_buffering ≡ Some frames → FitsIn refs max frames
 restricted refs max r h frames e = subst (λ n. FitsIn refs max n) (same-some _ _ e) h
 
 none-given : (refs max frames : ℕ) → (let o : Option ℕ = None in o ≡ Some frames) → FitsIn refs max frames
@@ -140,7 +161,15 @@ IsBuffering refs max o = (frames : ℕ) → option_map (λ (r : BitstreamRestric
 
 vui-gives : (refs max : ℕ) → Gives (vui refs max) (λ v. HasBuffering refs max (Some v))
 unfolding vui
-vui-gives refs max = gives-following _ _ _ (λ _. gives-following _ _ _ (λ _. gives-following _ _ _ (λ _. gives-following _ _ _ (λ _. gives-following _ _ _ (λ _. gives-following _ _ _ (λ _. gives-following _ _ _ (λ _. gives-following _ _ _ (λ _. gives-following _ _ _ (λ _. gives-met (flagged (flag BitstreamRestrictionFlag) (bitstream_restriction refs max)) _ (IsBuffering refs max) _ (flagged-gives (flag BitstreamRestrictionFlag) (bitstream_restriction refs max) (IsBuffering refs max) (none-given refs max) (gives-weaker (bitstream_restriction refs max) (λ r. FitsIn refs max r.max_dec_frame_buffering) (λ r. IsBuffering refs max (Some r)) (restriction-gives refs max) (λ r h. restricted refs max r h))) (λ o h. h))))))))))
+vui-gives refs max = gives-following _ _ _
+    (λ _. gives-following _ _ _ (λ _. gives-following _ _ _
+    (λ _. gives-following _ _ _ (λ _. gives-following _ _ _
+    (λ _. gives-following _ _ _ (λ _. gives-following _ _ _
+    (λ _. gives-following _ _ _ (λ _. gives-following _ _ _
+    (λ _. gives-met (flagged (flag BitstreamRestrictionFlag) (bitstream_restriction refs max)) _ (IsBuffering refs max) _
+    (flagged-gives (flag BitstreamRestrictionFlag) (bitstream_restriction refs max) (IsBuffering refs max) (none-given refs max)
+    (gives-weaker (bitstream_restriction refs max) (λ r. FitsIn refs max r.max_dec_frame_buffering) (λ r. IsBuffering refs max (Some r))
+    (restriction-gives refs max) (λ r h. restricted refs max r h))) (λ o h. h))))))))))
 
 -- the buffer holds the reference frames
 holds-by : (refs : ℕ) (o : Option ℕ) (frames : ℕ) → ((n : ℕ) → o ≡ Some n → refs ≤ n) → refs ≤ frames → nat_le refs (unwrap_or o frames) ≡ true
@@ -161,9 +190,19 @@ frame-of limits refs size small h =
 
 sps-gives : (target : Target) → Gives (sps target) HasRanges
 unfolding sps is_usable
-sps-gives target = gives-met (profile_and_level target) _ HasFront _ (front-gives target) (λ front level. gives-following _ _ _ (λ id. gives-to _ _ _ _ (λ log2 short. gives-met counting _ HasCount _ counts (λ count e. gives-following _ _ _ (λ refs. gives-following _ _ _ (λ _. gives-met (frame_size front.named.limits refs) _ (HasSize front.named.limits refs) _ (size-gives front.named.limits refs) (λ size fits. gives-following _ _ _ (λ _. gives-following _ _ _ (λ _.
-    gives-met (flagged (flag FrameCroppingFlag) (frame_cropping size)) _ (HasCrop size) _ (flagged-gives (flag FrameCroppingFlag) (frame_cropping size) (HasCrop size) refl (crop-gives size)) (λ crop within.
-    gives-met (flagged (flag VuiParametersPresentFlag) (vui refs (max_dpb_frames front.named.limits size))) _ (HasBuffering refs (max_dpb_frames front.named.limits size)) _ (flagged-gives (flag VuiParametersPresentFlag) (vui refs (max_dpb_frames front.named.limits size)) (HasBuffering refs (max_dpb_frames front.named.limits size)) (none-given refs (max_dpb_frames front.named.limits size)) (vui-gives refs (max_dpb_frames front.named.limits size))) (λ usability buffering.
+sps-gives target = gives-met (profile_and_level target) _ HasFront _ (front-gives target)
+    (λ front level. gives-following _ _ _ (λ id. gives-to _ _ _ _
+    (λ log2 short. gives-met counting _ HasCount _ counts
+    (λ count e. gives-following _ _ _ (λ refs. gives-following _ _ _
+    (λ _. gives-met (frame_size front.named.limits refs) _ (HasSize front.named.limits refs) _ (size-gives front.named.limits refs)
+    (λ size fits. gives-following _ _ _ (λ _. gives-following _ _ _ (λ _.
+    gives-met (flagged (flag FrameCroppingFlag) (frame_cropping size)) _ (HasCrop size) _
+    (flagged-gives (flag FrameCroppingFlag) (frame_cropping size) (HasCrop size) refl (crop-gives size)) (λ crop within.
+    gives-met (flagged (flag VuiParametersPresentFlag) (vui refs (max_dpb_frames front.named.limits size))) _
+    (HasBuffering refs (max_dpb_frames front.named.limits size)) _
+    (flagged-gives (flag VuiParametersPresentFlag) (vui refs (max_dpb_frames front.named.limits size))
+    (HasBuffering refs (max_dpb_frames front.named.limits size)) (none-given refs (max_dpb_frames front.named.limits size))
+    (vui-gives refs (max_dpb_frames front.named.limits size))) (λ usability buffering.
     gives-following _ _ _ (λ _.
     let most = λ (o : Option Limits). option_map_or (λ (l : Limits). max_dpb_frames l size) o 0 in
     record {
@@ -175,11 +214,14 @@ sps-gives target = gives-met (profile_and_level target) _ HasFront _ (front-give
 
 -- a set that some unit gives is accepted
 pub gives-accepted : (target : Target) → Gives (sps target) (λ s. is_accepted s ≡ true)
-gives-accepted target = gives-weaker (sps target) HasRanges (λ s. is_accepted s ≡ true) (sps-gives target) (λ s h. both (has_lengths s) (is_usable s) h.lengths h.usable)
+gives-accepted target = gives-weaker (sps target) HasRanges (λ s. is_accepted s ≡ true) (sps-gives target)
+    (λ s h. both (has_lengths s) (is_usable s) h.lengths h.usable)
 
 -- so is one that was read
-pub read-accepted : {S : Type 0} {took : S → List Call → Type 0} {failures : S → ℕ} {old new : Reader} {s s' : S} (target : Target) (r : Result Sps Stop) → Meets (span took failures s s') (Is (λ (x : Sps). x)) (sps target) old new r → IfOk r (λ s. is_accepted s ≡ true)
+pub read-accepted : {S : Type 0} {took : S → List Call → Type 0} {failures : S → ℕ} {old new : Reader} {s s' : S} (target : Target) (r : Result Sps Stop) →
+    Meets (span took failures s s') (Is (λ (x : Sps). x)) (sps target) old new r → IfOk r (λ s. is_accepted s ≡ true)
 read-accepted {old = old} {new} target (Ok x) m =
     let a = answers m in
-    subst (λ (s : Sps). is_accepted s ≡ true) a.2 (gives-derived (sps target) (λ s. is_accepted s ≡ true) old.body old.at a.0 new.at a.1 (gives-accepted target) a.3)
+    subst (λ (s : Sps). is_accepted s ≡ true) a.2
+    (gives-derived (sps target) (λ s. is_accepted s ≡ true) old.body old.at a.0 new.at a.1 (gives-accepted target) a.3)
 read-accepted target (Err e) m = tt

@@ -4,7 +4,8 @@ use Rattle.h264_base.specs.declared.stop.Stop.{Stop}
 use Rattle.std.proofs.lemmas.Bool.{leb-true}
 use Rattle.h264_base.specs.declared.element_name.ElementName.{ElementName}
 use Rattle.h264_base.specs.Body.{Body}
-use Rattle.h264_base.specs.Grammar.{Grammar, Element, Found, found, Ahead, ahead, bytes_at, Done, Read, Check, Support, More, Align, Bytes, Close, ◌>>=◌, Derives, read_word, check}
+use Rattle.h264_base.specs.Grammar.{Grammar, Element, Found, found, Ahead, ahead, bytes_at, Done, Read, Check, Support, More, Align, Bytes, Close, ◌>>=◌}
+use Rattle.h264_base.specs.Grammar.{Derives, read_word, check}
 use Rattle.h264_base.specs.Word.{padding}
 use Rattle.h264_bits.specs.Forms.{natural, unsigned_to}
 
@@ -55,7 +56,8 @@ gives-weaker (Bytes n k) Q P q h = λ bytes. gives-weaker (k bytes) Q P (q bytes
 gives-weaker (Close g) Q P q h = gives-weaker g Q P q h
 
 -- after a part whose values meet Q
-pub gives-met : {A B : Type 0} (g : Grammar A) (f : A → Grammar B) (Q : A → Type 0) (P : B → Type 0) → Gives g Q → ((x : A) → Q x → Gives (f x) P) → Gives (g >>= f) P
+pub gives-met : {A B : Type 0} (g : Grammar A) (f : A → Grammar B) (Q : A → Type 0) (P : B → Type 0) → Gives g Q → ((x : A) → Q x → Gives (f x) P) →
+    Gives (g >>= f) P
 gives-met g f Q P q h = gives-then g f P (gives-weaker g Q (λ x. Gives (f x) P) q h)
 
 bounded : (name : ElementName) (max : ℕ) (Q : ℕ → Type 0) → ((n : ℕ) → n ≤ max → Q n) → Gives (unsigned_to name max) Q
@@ -63,7 +65,8 @@ unfolding unsigned_to read_word check ◌>>=◌
 bounded name max Q h = λ e t. h (natural e.value) (leb-true _ _ t)
 
 -- after a number of at most max
-pub gives-to : {B : Type 0} (name : ElementName) (max : ℕ) (f : ℕ → Grammar B) (P : B → Type 0) → ((n : ℕ) → n ≤ max → Gives (f n) P) → Gives (unsigned_to name max >>= f) P
+pub gives-to : {B : Type 0} (name : ElementName) (max : ℕ) (f : ℕ → Grammar B) (P : B → Type 0) → ((n : ℕ) → n ≤ max → Gives (f n) P) →
+    Gives (unsigned_to name max >>= f) P
 gives-to name max f P h = gives-then (unsigned_to name max) f P (bounded name max (λ n. Gives (f n) P) h)
 
 given : {A : Type 0} (P : A → Type 0) (x v : A) (i j : ℕ) → P x → (let r : Result (A × ℕ) Stop = Ok (v, j) in r) ≡ Ok (x, i) → P v
@@ -71,7 +74,8 @@ given {A} P x v i j p e =
     let pair : (let a : A × ℕ = (v, j) in a) ≡ (x, i) = cc in
     subst P (sym (ap (λ (a : A × ℕ). a.0) pair)) p
 
-pub gives-derived : {A : Type 0} (g : Grammar A) (P : A → Type 0) (body : Body) (i : ℕ) (es : List Element) (j : ℕ) (v : A) → Gives g P → Derives g body i es j v → P v
+pub gives-derived : {A : Type 0} (g : Grammar A) (P : A → Type 0) (body : Body) (i : ℕ) (es : List Element) (j : ℕ) (v : A) → Gives g P →
+    Derives g body i es j v → P v
 gives-derived (Done x) P body i es j v h d = given P x v i j h d.1
 gives-derived (Read name rule code k) P body i [] j v h d = let e = d.0 in absurd (cc)
 gives-derived (Read name rule code k) P body i (e ∷ es) j v h d = gives-derived (k (found body e)) P body e.to es j v (h (found body e)) d.3

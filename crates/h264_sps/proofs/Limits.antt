@@ -25,7 +25,8 @@ none-above (r ∷ rows) n a h =
     let b = both (low r) (list_all low rows) a in
     go (r.level == n) refl b.0 (none-above rows n b.1 h)
   where
-    go : (t : Bool) → (r.level == n) ≡ t → low r ≡ true → find (λ (r : LevelRow). r.level == n) rows ≡ None → find (λ (r : LevelRow). r.level == n) (r ∷ rows) ≡ None
+    go : (t : Bool) → (r.level == n) ≡ t → low r ≡ true → find (λ (r : LevelRow). r.level == n) rows ≡ None →
+        find (λ (r : LevelRow). r.level == n) (r ∷ rows) ≡ None
     go true e l f = absurd (let x = eqb-true r.level n e in let y = leb-true r.level 255 l in omega arith)
     go false e l f = rw e f
 
@@ -41,13 +42,15 @@ unfolding limits_of level_rows
 limits-none n set3 h = rw (named-same n set3 h) (ap (option_map (λ (r : LevelRow). r.limits)) (none-above level_rows n refl h))
 
 -- frames are bounded in each row
-bounded : (p : LevelRow → Bool) (rows : List LevelRow) → list_all small rows ≡ true → IfSome (option_map (λ (r : LevelRow). r.limits) (find p rows)) (λ (l : Limits). l.max_fs ≤ 36864)
+bounded : (p : LevelRow → Bool) (rows : List LevelRow) → list_all small rows ≡ true →
+    IfSome (option_map (λ (r : LevelRow). r.limits) (find p rows)) (λ (l : Limits). l.max_fs ≤ 36864)
 bounded p [] a = tt
 bounded p (r ∷ rows) a =
     let b = both (small r) (list_all small rows) a in
     go (p r) refl b.0 (bounded p rows b.1)
   where
-    go : (t : Bool) → p r ≡ t → small r ≡ true → IfSome (option_map (λ (r : LevelRow). r.limits) (find p rows)) (λ (l : Limits). l.max_fs ≤ 36864) → IfSome (option_map (λ (r : LevelRow). r.limits) (find p (r ∷ rows))) (λ (l : Limits). l.max_fs ≤ 36864)
+    go : (t : Bool) → p r ≡ t → small r ≡ true → IfSome (option_map (λ (r : LevelRow). r.limits) (find p rows)) (λ (l : Limits). l.max_fs ≤ 36864) →
+        IfSome (option_map (λ (r : LevelRow). r.limits) (find p (r ∷ rows))) (λ (l : Limits). l.max_fs ≤ 36864)
     go true e l f = rw e (leb-true r.limits.max_fs 36864 l)
     go false e l f = rw e f
 

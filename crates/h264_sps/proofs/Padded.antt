@@ -5,7 +5,8 @@ use Rattle.h264_sps.specs.declared.count_type.Cycle.{Cycle}
 use Rattle.h264_sps.proofs.VuiPadded.{padded}
 use Rattle.h264_sps.specs.Counting.{cycle_of}
 
-pub cycle-is : (xs : List ℤ) (i length' : ℕ) → i ≡ length' → length' ≤ 255 → length xs ≡ 255 → drop i xs ≡ replicate (255 - i) (pos 0) → (let c : Cycle = record { offset_for_ref_frame = xs; length = length' } in c) ≡ cycle_of (take i xs)
+pub cycle-is : (xs : List ℤ) (i length' : ℕ) → i ≡ length' → length' ≤ 255 → length xs ≡ 255 → drop i xs ≡ replicate (255 - i) (pos 0) →
+    (let c : Cycle = record { offset_for_ref_frame = xs; length = length' } in c) ≡ cycle_of (take i xs)
 cycle-is xs i n at few k e =
     let l : length (take i xs) ≡ i = length-take-le i xs (omega arith) in
     let p = padded xs i 255 (pos 0) (omega arith) k e in

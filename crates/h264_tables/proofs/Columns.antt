@@ -3,7 +3,8 @@ use Rattle.std.proofs.Common.{◌≡◌, ℕ, zero, suc, ◌<◌, ◌≤◌, Lis
 use Rattle.h264_base.specs.Table.{row}
 use Rattle.h264_tables.specs.Columns.{rows_from}
 
-pub row-there : (lengths bits values : List ℕ) (i : ℕ) → length bits ≡ length lengths → length lengths ≤ length values → i < length lengths → slice_get (rows_from lengths bits values) i ≡ Some (row (get_or lengths i 0) (get_or bits i 0) (get_or values i 0))
+pub row-there : (lengths bits values : List ℕ) (i : ℕ) → length bits ≡ length lengths → length lengths ≤ length values → i < length lengths →
+    slice_get (rows_from lengths bits values) i ≡ Some (row (get_or lengths i 0) (get_or bits i 0) (get_or values i 0))
 row-there [] bits values i e h inside = absurd (omega arith)
 row-there (l ∷ lengths) [] values i e h inside = absurd (omega arith)
 row-there (l ∷ lengths) (b ∷ bits) [] i e h inside = absurd (omega arith)

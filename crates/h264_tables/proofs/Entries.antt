@@ -1,5 +1,6 @@
 -- What a table of entries gives, by leading zeros and the bits after the first 1.
-use Rattle.std.proofs.Common.{◌≡◌, ℕ, zero, suc, ◌+◌, ◌*◌, ◌-◌, ◌/◌, ◌^◌, ◌<◌, ◌≤◌, Bool, true, false, List, [], ◌∷◌, length, get_or, refl, ap, sym, ◌∙◌, arith, if◌then◌else◌, ◌==◌, ◌&&◌, ◌⊎◌, inl, inr, nat_le, nat_lt, Some}
+use Rattle.std.proofs.Common.{◌≡◌, ℕ, zero, suc, ◌+◌, ◌*◌, ◌-◌, ◌/◌, ◌^◌, ◌<◌, ◌≤◌, Bool, true, false, List, [], ◌∷◌, length, get_or, refl, ap, sym, ◌∙◌}
+use Rattle.std.proofs.Common.{arith, if◌then◌else◌, ◌==◌, ◌&&◌, ◌⊎◌, inl, inr, nat_le, nat_lt, Some}
 use Rattle.std.proofs.lemmas.Nat.{pow_pos, pow-add, shr-shr, shr_below, le-div, leading_length, div-mul-add, mul-le}
 use Rattle.std.proofs.lemmas.Bool.{and_parts, eqb-true, eq-eqb, leb-true, le-leb, cases_lt, false≢true}
 use Rattle.std.proofs.lemmas.Bool.Decides.{nat_tests}
@@ -67,19 +68,23 @@ unfolding entry_fits front_of
 entry-is w s y l v [] h = let p = and_parts _ _ h in pair_same (eqb-true l 0 p.0) (eqb-true v 0 p.1)
 entry-is w s y l v (r ∷ rows) h = go (agrees w s (y / 2 ^ s) r) refl (λ g. entry-is w s y l v rows g) h
   where
-    go : (b : Bool) → agrees w s (y / 2 ^ s) r ≡ b → (entry_fits w s (y / 2 ^ s) l v rows ≡ true → (l, v) ≡ found_of (front_of w rows y)) → (if b then nat_le (s + r.length) w && ((l == r.length) && (v == r.value)) else entry_fits w s (y / 2 ^ s) l v rows) ≡ true → (l, v) ≡ found_of (if begins w r y then Some r else front_of w rows y)
+    go : (b : Bool) → agrees w s (y / 2 ^ s) r ≡ b → (entry_fits w s (y / 2 ^ s) l v rows ≡ true → (l, v) ≡ found_of (front_of w rows y)) →
+        (if b then nat_le (s + r.length) w && ((l == r.length) && (v == r.value)) else entry_fits w s (y / 2 ^ s) l v rows) ≡ true →
+        (l, v) ≡ found_of (if begins w r y then Some r else front_of w rows y)
     go true e more g =
         let p = and_parts _ _ g in
         let q = and_parts _ _ p.1 in
         rw (sym (agrees-inside w s y r (leb-true _ _ p.0)) ∙ e) (pair_same (eqb-true l r.length q.0) (eqb-true v r.value q.1))
     go false e more g = rw (misses w s y r e) (more g)
 
-entries-at : (w p k j : ℕ) (lengths values : List ℕ) (rows : List Row) → entries_fit w p k lengths values rows ≡ true → j < length lengths → entry_fits w (shift_of p (k + j)) (place_of p (k + j)) (get_or lengths j 0) (get_or values j 0) rows ≡ true
+entries-at : (w p k j : ℕ) (lengths values : List ℕ) (rows : List Row) → entries_fit w p k lengths values rows ≡ true → j < length lengths →
+    entry_fits w (shift_of p (k + j)) (place_of p (k + j)) (get_or lengths j 0) (get_or values j 0) rows ≡ true
 unfolding entries_fit
 entries-at w p k j [] values rows h g = absurd (omega arith)
 entries-at w p k j (l ∷ lengths) [] rows h g = absurd (cc)
 entries-at w p k zero (l ∷ lengths) (v ∷ values) rows h g = let e : k + 0 ≡ k = omega arith in rw e (and_parts _ _ h).0
-entries-at w p k (suc j) (l ∷ lengths) (v ∷ values) rows h g = let e : k + suc j ≡ suc k + j = omega arith in rw e (entries-at w p (suc k) j lengths values rows (and_parts _ _ h).1 (omega arith))
+entries-at w p k (suc j) (l ∷ lengths) (v ∷ values) rows h g = let e : k + suc j ≡ suc k + j = omega arith in
+    rw e (entries-at w p (suc k) j lengths values rows (and_parts _ _ h).1 (omega arith))
 
 -- where the entry of a number stands
 record Spot (w m y s : ℕ) : Type 0 where
@@ -122,7 +127,8 @@ quotient p s f h (inl z) =
     let e : p * s + f ≡ f = rw z (omega arith) in
     rw e (elim (cases_lt f p) [
       | inl low ↦ let d : (0 * p + f) / p ≡ 0 = div-mul-add 0 p f low in let c : 0 * p + f ≡ f = omega arith in let g : f / p ≡ 0 = (rw c at d) in omega arith
-      | inr high ↦ let d : (1 * p + (f - p)) / p ≡ 1 = div-mul-add 1 p (f - p) (omega arith) in let c : 1 * p + (f - p) ≡ f = omega arith in let g : f / p ≡ 1 = (rw c at d) in omega arith
+      | inr high ↦ let d : (1 * p + (f - p)) / p ≡ 1 = div-mul-add 1 p (f - p) (omega arith) in let c : 1 * p + (f - p) ≡ f = omega arith in
+          let g : f / p ≡ 1 = (rw c at d) in omega arith
     ])
 quotient p s f h (inr high) =
     let d : (suc s * p + (f - p)) / p ≡ suc s = div-mul-add (suc s) p (f - p) (omega arith) in
@@ -139,7 +145,9 @@ index-inside w m y s lo hi small e =
     omega arith
 
 -- the entry of a number is the row with which it begins
-entry-in : (w m y s : ℕ) (lengths values : List ℕ) (rows : List Row) → entries_fit w (2 ^ m) 0 lengths values rows ≡ true → 2 ^ m * (w - m - 1) + 2 * 2 ^ m ≤ length lengths → m < w → w ≤ 32 → y < 2 ^ w → s ≡ 31 - m - count_leading_zeros 32 y → (get_or lengths (2 ^ m * s + y / 2 ^ s) 0, get_or values (2 ^ m * s + y / 2 ^ s) 0) ≡ found_of (front_of w rows y)
+entry-in : (w m y s : ℕ) (lengths values : List ℕ) (rows : List Row) → entries_fit w (2 ^ m) 0 lengths values rows ≡ true →
+    2 ^ m * (w - m - 1) + 2 * 2 ^ m ≤ length lengths → m < w → w ≤ 32 → y < 2 ^ w → s ≡ 31 - m - count_leading_zeros 32 y →
+    (get_or lengths (2 ^ m * s + y / 2 ^ s) 0, get_or values (2 ^ m * s + y / 2 ^ s) 0) ≡ found_of (front_of w rows y)
 unfolding shift_of place_of
 entry-in w m y s lengths values rows h all lo hi small e =
     let i = spot w m y s lo hi small e in
@@ -150,7 +158,8 @@ entry-in w m y s lengths values rows h all lo hi small e =
     entry-is w s y _ _ rows (rw (z, q, f) at (entries-at w (2 ^ m) 0 (2 ^ m * s + y / 2 ^ s) lengths values rows h (omega arith)))
 
 front-below : (w y : ℕ) → w ≤ 16 → y < 2 ^ 16 → y / 2 ^ (16 - w) < 2 ^ w
-front-below w y h small = let e : 16 ≡ w + (16 - w) = omega arith in let p : 2 ^ 16 ≡ 2 ^ (w + (16 - w)) = ap (λ k. 2 ^ k) e in shr_below y w (16 - w) (omega arith)
+front-below w y h small = let e : 16 ≡ w + (16 - w) = omega arith in let p : 2 ^ 16 ≡ 2 ^ (w + (16 - w)) = ap (λ k. 2 ^ k) e in
+    shr_below y w (16 - w) (omega arith)
 
 begins-narrow : (w : ℕ) (r : Row) (y : ℕ) → r.length ≤ w → w ≤ 16 → begins w r (y / 2 ^ (16 - w)) ≡ begins 16 r y
 unfolding begins
@@ -166,11 +175,14 @@ front-narrow w (r ∷ rows) y h g =
     rw (begins-narrow w r y (leb-true _ _ q.1) g, front-narrow w rows y p.1 g) refl
 
 -- the entry of 16 bits stands in the table, of which w bits and m after the first 1 matter
-pub index-fits : (w m y s : ℕ) → m < w → w ≤ 16 → y < 2 ^ 16 → s ≡ 31 - m - count_leading_zeros 32 (y / 2 ^ (16 - w)) → 2 ^ m * s + y / 2 ^ (16 - w) / 2 ^ s < 2 ^ m * (w - m - 1) + 2 * 2 ^ m
+pub index-fits : (w m y s : ℕ) → m < w → w ≤ 16 → y < 2 ^ 16 → s ≡ 31 - m - count_leading_zeros 32 (y / 2 ^ (16 - w)) →
+    2 ^ m * s + y / 2 ^ (16 - w) / 2 ^ s < 2 ^ m * (w - m - 1) + 2 * 2 ^ m
 index-fits w m y s lo hi small e = index-inside w m (y / 2 ^ (16 - w)) s lo (omega arith) (front-below w y hi small) e
 
 -- and it is the row whose word they begin with
-pub entry-found : (w m y s : ℕ) (lengths values : List ℕ) (rows : List Row) → entries_fit w (2 ^ m) 0 lengths values rows ≡ true → are_words w rows ≡ true → 2 ^ m * (w - m - 1) + 2 * 2 ^ m ≤ length lengths → m < w → w ≤ 16 → y < 2 ^ 16 → s ≡ 31 - m - count_leading_zeros 32 (y / 2 ^ (16 - w)) → (get_or lengths (2 ^ m * s + y / 2 ^ (16 - w) / 2 ^ s) 0, get_or values (2 ^ m * s + y / 2 ^ (16 - w) / 2 ^ s) 0) ≡ found_of (front_of 16 rows y)
+pub entry-found : (w m y s : ℕ) (lengths values : List ℕ) (rows : List Row) → entries_fit w (2 ^ m) 0 lengths values rows ≡ true → are_words w rows ≡ true →
+    2 ^ m * (w - m - 1) + 2 * 2 ^ m ≤ length lengths → m < w → w ≤ 16 → y < 2 ^ 16 → s ≡ 31 - m - count_leading_zeros 32 (y / 2 ^ (16 - w)) →
+    (get_or lengths (2 ^ m * s + y / 2 ^ (16 - w) / 2 ^ s) 0, get_or values (2 ^ m * s + y / 2 ^ (16 - w) / 2 ^ s) 0) ≡ found_of (front_of 16 rows y)
 entry-found w m y s lengths values rows h short all lo hi small e =
     entry-in w m (y / 2 ^ (16 - w)) s lengths values rows h all lo (omega arith) (front-below w y hi small) e
     ∙ ap found_of (front-narrow w rows y short hi)

@@ -1,5 +1,6 @@
 -- Where one word goes on from another, both are the word of one row.
-use Rattle.std.proofs.Common.{◌≡◌, ℕ, suc, ◌+◌, ◌*◌, ◌-◌, ◌/◌, ◌^◌, ◌<◌, ℤ, pos, Bool, true, false, not, List, [], ◌∷◌, ◌++◌, length, refl, ap, sym, ◌∙◌, arith, ◌⊎◌, inl, inr}
+use Rattle.std.proofs.Common.{◌≡◌, ℕ, suc, ◌+◌, ◌*◌, ◌-◌, ◌/◌, ◌^◌, ◌<◌, ℤ, pos, Bool, true, false, not, List, [], ◌∷◌, ◌++◌, length, refl, ap, sym, ◌∙◌}
+use Rattle.std.proofs.Common.{arith, ◌⊎◌, inl, inr}
 use Rattle.std.proofs.lemmas.Bool.{and_parts, eq-eqb, le-leb, false≢true}
 use Rattle.std.proofs.lemmas.Nat.{pow-add, shr_high}
 use Rattle.std.proofs.Common.{length-append}
@@ -16,8 +17,10 @@ pub one-row : (rows : List Row) (r q : Row) → is_prefix_free rows ≡ true →
 unfolding is_prefix_free
 one-row [] r q h m n p = absurd m
 one-row (s ∷ rows) r q h (inl e) (inl f) p = sym e ∙ f
-one-row (s ∷ rows) r q h (inl e) (inr n) p = absurd (let a = (apart s q rows (and_parts _ _ h).0 n).0 in let b : is_prefix s q ≡ true = (rw (← e) at p) in false≢true (sym a ∙ b))
-one-row (s ∷ rows) r q h (inr m) (inl f) p = absurd (let a = (apart s r rows (and_parts _ _ h).0 m).1 in let b : is_prefix r s ≡ true = (rw (← f) at p) in false≢true (sym a ∙ b))
+one-row (s ∷ rows) r q h (inl e) (inr n) p =
+    absurd (let a = (apart s q rows (and_parts _ _ h).0 n).0 in let b : is_prefix s q ≡ true = (rw (← e) at p) in false≢true (sym a ∙ b))
+one-row (s ∷ rows) r q h (inr m) (inl f) p =
+    absurd (let a = (apart s r rows (and_parts _ _ h).0 m).1 in let b : is_prefix r s ≡ true = (rw (← f) at p) in false≢true (sym a ∙ b))
 one-row (s ∷ rows) r q h (inr m) (inr n) p = one-row rows r q (and_parts _ _ h).1 m n p
 
 digit-cases : (b : Bool) (p : ℕ) → (digit b * p ≡ 0) ⊎ (digit b * p ≡ p)
@@ -26,7 +29,8 @@ digit-cases false p = inl (omega arith)
 
 number-below : (w : Word) → number w < 2 ^ length w
 number-below [] = omega arith
-number-below (b ∷ w) = let h = number-below w in let g = digit-cases b (2 ^ length w) in let e : 2 ^ suc (length w) ≡ 2 ^ length w + 2 ^ length w = grind arith in omega arith
+number-below (b ∷ w) = let h = number-below w in let g = digit-cases b (2 ^ length w) in
+    let e : 2 ^ suc (length w) ≡ 2 ^ length w + 2 ^ length w = grind arith in omega arith
 
 pub spread : (b p q x y : ℕ) → b * (p * q) + (x * q + y) ≡ (b * p + x) * q + y
 spread b p q x y = grind arith

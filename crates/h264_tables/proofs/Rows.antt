@@ -1,14 +1,22 @@
 -- What holds of the rows of every table.
-use Rattle.std.proofs.Common.{◌≡◌, ℕ, ◌<◌, ◌≤◌, Bool, true, false, List, [], ◌∷◌, Option, Some, None, refl, ap, sym, ◌∙◌, arith, if◌then◌else◌, ◌&&◌, nat_lt, nat_le, inl, inr}
+use Rattle.std.proofs.Common.{◌≡◌, ℕ, ◌<◌, ◌≤◌, Bool, true, false, List, [], ◌∷◌, Option, Some, None, refl, ap, sym, ◌∙◌, arith, if◌then◌else◌, ◌&&◌, nat_lt}
+use Rattle.std.proofs.Common.{nat_le, inl, inr}
 use Rattle.std.proofs.lemmas.Bool.{and_parts, leb-true, ltb-true}
 use Rattle.h264_base.specs.Table.{Row, IsRow}
 use Rattle.h264_tables.specs.Front.{begins, front_of, found_of}
 use Rattle.h264_tables.specs.declared.table.Table.{Table}
-use Rattle.h264_tables.specs.declared.table.Table.TheVariants.{CoeffTokenNc0, CoeffTokenNc2, CoeffTokenNc4, CoeffTokenNc8, CoeffTokenChromaDc, TotalZeros1, TotalZeros2, TotalZeros3, TotalZeros4, TotalZeros5, TotalZeros6, TotalZeros7, TotalZeros8, TotalZeros9, TotalZeros10, TotalZeros11, TotalZeros12, TotalZeros13, TotalZeros14, TotalZeros15, TotalZerosChromaDc1, TotalZerosChromaDc2, TotalZerosChromaDc3, RunBefore1, RunBefore2, RunBefore3, RunBefore4, RunBefore5, RunBefore6, RunBefore7, CodedBlockPatternIntra, CodedBlockPatternInter, InvertedBit, LevelPrefix}
+use Rattle.h264_tables.specs.declared.table.Table.TheVariants.{CoeffTokenNc0, CoeffTokenNc2, CoeffTokenNc4, CoeffTokenNc8, CoeffTokenChromaDc, TotalZeros1}
+use Rattle.h264_tables.specs.declared.table.Table.TheVariants.{TotalZeros2, TotalZeros3, TotalZeros4, TotalZeros5, TotalZeros6, TotalZeros7, TotalZeros8}
+use Rattle.h264_tables.specs.declared.table.Table.TheVariants.{TotalZeros9, TotalZeros10, TotalZeros11, TotalZeros12, TotalZeros13, TotalZeros14}
+use Rattle.h264_tables.specs.declared.table.Table.TheVariants.{TotalZeros15, TotalZerosChromaDc1, TotalZerosChromaDc2, TotalZerosChromaDc3, RunBefore1}
+use Rattle.h264_tables.specs.declared.table.Table.TheVariants.{RunBefore2, RunBefore3, RunBefore4, RunBefore5, RunBefore6, RunBefore7, CodedBlockPatternIntra}
+use Rattle.h264_tables.specs.declared.table.Table.TheVariants.{CodedBlockPatternInter, InvertedBit, LevelPrefix}
 use Rattle.h264_tables.specs.Table.{rows_of}
 use Rattle.h264_tables.specs.Greatest.{greatest_value}
 use Rattle.h264_tables.specs.CoeffToken.{coeff_token_nc0, coeff_token_nc2, coeff_token_nc4, coeff_token_nc8, coeff_token_chroma_dc}
-use Rattle.h264_tables.specs.TotalZeros.{total_zeros_1, total_zeros_2, total_zeros_3, total_zeros_4, total_zeros_5, total_zeros_6, total_zeros_7, total_zeros_8, total_zeros_9, total_zeros_10, total_zeros_11, total_zeros_12, total_zeros_13, total_zeros_14, total_zeros_15, total_zeros_chroma_dc_1, total_zeros_chroma_dc_2, total_zeros_chroma_dc_3}
+use Rattle.h264_tables.specs.TotalZeros.{total_zeros_1, total_zeros_2, total_zeros_3, total_zeros_4, total_zeros_5, total_zeros_6, total_zeros_7}
+use Rattle.h264_tables.specs.TotalZeros.{total_zeros_8, total_zeros_9, total_zeros_10, total_zeros_11, total_zeros_12, total_zeros_13, total_zeros_14}
+use Rattle.h264_tables.specs.TotalZeros.{total_zeros_15, total_zeros_chroma_dc_1, total_zeros_chroma_dc_2, total_zeros_chroma_dc_3}
 use Rattle.h264_tables.specs.RunBefore.{run_before_1, run_before_2, run_before_3, run_before_4, run_before_5, run_before_6, run_before_7}
 use Rattle.h264_tables.specs.CodedBlockPattern.{golomb_rows, coded_block_pattern_intra, coded_block_pattern_inter}
 use Rattle.h264_tables.specs.InvertedBit.{inverted_bit}
@@ -17,7 +25,10 @@ use Rattle.h264_tables.proofs.Entries.{are_words}
 
 -- each word has 1 to 16 bits
 pub rows_of-words : (table : Table) → are_words 16 (rows_of table) ≡ true
-unfolding are_words coeff_token_nc0 coeff_token_nc2 coeff_token_nc4 coeff_token_nc8 coeff_token_chroma_dc total_zeros_1 total_zeros_2 total_zeros_3 total_zeros_4 total_zeros_5 total_zeros_6 total_zeros_7 total_zeros_8 total_zeros_9 total_zeros_10 total_zeros_11 total_zeros_12 total_zeros_13 total_zeros_14 total_zeros_15 total_zeros_chroma_dc_1 total_zeros_chroma_dc_2 total_zeros_chroma_dc_3 run_before_1 run_before_2 run_before_3 run_before_4 run_before_5 run_before_6 run_before_7 coded_block_pattern_intra coded_block_pattern_inter inverted_bit level_prefix golomb_rows prefix_rows
+unfolding are_words coeff_token_nc0 coeff_token_nc2 coeff_token_nc4 coeff_token_nc8 coeff_token_chroma_dc total_zeros_1 total_zeros_2 total_zeros_3
+    total_zeros_4 total_zeros_5 total_zeros_6 total_zeros_7 total_zeros_8 total_zeros_9 total_zeros_10 total_zeros_11 total_zeros_12 total_zeros_13
+    total_zeros_14 total_zeros_15 total_zeros_chroma_dc_1 total_zeros_chroma_dc_2 total_zeros_chroma_dc_3 run_before_1 run_before_2 run_before_3 run_before_4
+    run_before_5 run_before_6 run_before_7 coded_block_pattern_intra coded_block_pattern_inter inverted_bit level_prefix golomb_rows prefix_rows
 rows_of-words CoeffTokenNc0 = refl
 rows_of-words CoeffTokenNc2 = refl
 rows_of-words CoeffTokenNc4 = refl
@@ -59,7 +70,10 @@ values_within k [] = true
 values_within k (r ∷ rows) = nat_le r.value k && values_within k rows
 
 pub rows_of-within : (table : Table) → values_within (greatest_value table) (rows_of table) ≡ true
-unfolding values_within coeff_token_nc0 coeff_token_nc2 coeff_token_nc4 coeff_token_nc8 coeff_token_chroma_dc total_zeros_1 total_zeros_2 total_zeros_3 total_zeros_4 total_zeros_5 total_zeros_6 total_zeros_7 total_zeros_8 total_zeros_9 total_zeros_10 total_zeros_11 total_zeros_12 total_zeros_13 total_zeros_14 total_zeros_15 total_zeros_chroma_dc_1 total_zeros_chroma_dc_2 total_zeros_chroma_dc_3 run_before_1 run_before_2 run_before_3 run_before_4 run_before_5 run_before_6 run_before_7 coded_block_pattern_intra coded_block_pattern_inter inverted_bit level_prefix golomb_rows prefix_rows
+unfolding values_within coeff_token_nc0 coeff_token_nc2 coeff_token_nc4 coeff_token_nc8 coeff_token_chroma_dc total_zeros_1 total_zeros_2 total_zeros_3
+    total_zeros_4 total_zeros_5 total_zeros_6 total_zeros_7 total_zeros_8 total_zeros_9 total_zeros_10 total_zeros_11 total_zeros_12 total_zeros_13
+    total_zeros_14 total_zeros_15 total_zeros_chroma_dc_1 total_zeros_chroma_dc_2 total_zeros_chroma_dc_3 run_before_1 run_before_2 run_before_3 run_before_4
+    run_before_5 run_before_6 run_before_7 coded_block_pattern_intra coded_block_pattern_inter inverted_bit level_prefix golomb_rows prefix_rows
 rows_of-within CoeffTokenNc0 = refl
 rows_of-within CoeffTokenNc2 = refl
 rows_of-within CoeffTokenNc4 = refl
@@ -121,7 +135,8 @@ unfolding front_of
 front-row w [] y r e = absurd (cc)
 front-row w (q ∷ rows) y r e = go (begins w q y) refl (λ f. front-row w rows y r f) e
   where
-    go : (b : Bool) → begins w q y ≡ b → (front_of w rows y ≡ Some r → IsRow rows r × (begins w r y ≡ true)) → (if b then Some q else front_of w rows y) ≡ Some r → IsRow (q ∷ rows) r × (begins w r y ≡ true)
+    go : (b : Bool) → begins w q y ≡ b → (front_of w rows y ≡ Some r → IsRow rows r × (begins w r y ≡ true)) →
+        (if b then Some q else front_of w rows y) ≡ Some r → IsRow (q ∷ rows) r × (begins w r y ≡ true)
     go true f more g = let s : q ≡ r = cc in (inl s, ap (λ (p : Row). begins w p y) (sym s) ∙ f)
     go false f more g = let m = more g in (inr m.0, m.1)
 
@@ -139,4 +154,5 @@ found-within table y p e = go (front_of 16 (rows_of table) y) refl e
   where
     go : (o : Option Row) → front_of 16 (rows_of table) y ≡ o → p ≡ found_of o → p.1 ≤ greatest_value table
     go None f n = let z : p.1 ≡ 0 = ap (λ (q : ℕ × ℕ). q.1) n in omega arith
-    go (Some r) f n = let z : p.1 ≡ r.value = ap (λ (q : ℕ × ℕ). q.1) n in rw z (row-within (greatest_value table) (rows_of table) r (rows_of-within table) (front-row 16 (rows_of table) y r f).0)
+    go (Some r) f n = let z : p.1 ≡ r.value = ap (λ (q : ℕ × ℕ). q.1) n in
+        rw z (row-within (greatest_value table) (rows_of table) r (rows_of-within table) (front-row 16 (rows_of table) y r f).0)

@@ -1,6 +1,8 @@
 -- What a piece adds to a unit, and why it stops the scan.
-use Rattle.std.proofs.Common.{◌≡◌, ◌≢◌, ◌⊎◌, inl, inr, ℕ, zero, suc, ◌+◌, ◌-◌, ◌*◌, ◌<◌, ◌≤◌, min, true, false, List, [], ◌∷◌, ◌++◌, length, replicate, take, drop, get_or, refl, ap, sym, ◌∙◌, subst, arith, append_assoc, length-append}
-use Rattle.std.proofs.lemmas.List.{append-nil, append_cancel_right, drop_more, drop-drop, drop-take, take-take, take_all, length-drop, length-replicate, length-take, replicate-append-replicate, take-append-drop}
+use Rattle.std.proofs.Common.{◌≡◌, ◌≢◌, ◌⊎◌, inl, inr, ℕ, zero, suc, ◌+◌, ◌-◌, ◌*◌, ◌<◌, ◌≤◌, min, true, false, List, [], ◌∷◌, ◌++◌, length, replicate, take}
+use Rattle.std.proofs.Common.{drop, get_or, refl, ap, sym, ◌∙◌, subst, arith, append_assoc, length-append}
+use Rattle.std.proofs.lemmas.List.{append-nil, append_cancel_right, drop_more, drop-drop, drop-take, take-take, take_all, length-drop, length-replicate}
+use Rattle.std.proofs.lemmas.List.{length-take, replicate-append-replicate, take-append-drop}
 use Rattle.h264_base.specs.declared.rule.Rule.TheVariants.{ByteStream, EmptyUnit}
 use Rattle.h264_base.specs.declared.stop.Feature.TheVariants.{UnitTooLong, InputTooLong}
 use Rattle.h264_base.specs.declared.stop.Stop.{Stop}
@@ -10,13 +12,18 @@ use Rattle.h264_units.specs.declared.scan.Phase.TheVariants.{Between, Inside, Wa
 use Rattle.h264_units.specs.declared.plan.Plan.{Plan}
 use Rattle.h264_units.specs.Stream.{IsInner, started, unit_limit, input_limit, Stray, Bare, Long, Cut, HasTail, IsUndecided}
 use Rattle.h264_units.specs.Splitting.{Refused}
-use Rattle.h264_units.specs.Scanned.{third, ending, rest_of, IsSound, IsOpen, is_open, IsInUnit, IsRunning, waits, kept_of, gained, zeros_gained, Scans, added, Plans}
+use Rattle.h264_units.specs.Scanned.{third, ending, rest_of, IsSound, IsOpen, is_open, IsInUnit, IsRunning, waits, kept_of, gained, zeros_gained, Scans}
+use Rattle.h264_units.specs.Scanned.{added, Plans}
 use Rattle.h264_units.proofs.Streams.{code-zeros, started-append, length-started}
 use Rattle.h264_units.proofs.Scans.{inner-append}
 
 -- what is refused stays so when more bytes come
 pub refused-more : (at : ℕ) (bytes more : List ℕ) (stop : Stop) → Refused at bytes stop → Refused at (bytes ++ more) stop
-refused-more at bytes more stop r = record { tail = r.tail; stop_is = r.stop_is; stands = λ rest. subst (λ l. HasTail at l r.tail) (sym (append_assoc bytes more rest)) (r.stands (more ++ rest)) }
+refused-more at bytes more stop r = record {
+  tail = r.tail;
+  stop_is = r.stop_is;
+  stands = λ rest. subst (λ l. HasTail at l r.tail) (sym (append_assoc bytes more rest)) (r.stands (more ++ rest));
+}
 
 pub refused-along : (at : ℕ) (a b : List ℕ) (stop : Stop) → a ≡ b → Refused at a stop → Refused at b stop
 refused-along at a b stop e r = subst (λ l. Refused at l stop) e r
@@ -61,28 +68,39 @@ module _ (at held lead : ℕ) (body piece : List ℕ) (n : ℕ) (phase : Phase) 
       let t : length (take (kept_of n phase) (drop 0 piece)) ≡ min (kept_of n phase) (length piece) = length-take (kept_of n phase) piece in
       let a = length-append body (replicate (zeros_gained held (kept_of n phase)) 0 ++ take (kept_of n phase) (drop 0 piece)) in
       let b = length-append (replicate (zeros_gained held (kept_of n phase)) 0) (take (kept_of n phase) (drop 0 piece)) in
-      let r : length {A = ℕ} (replicate (zeros_gained held (kept_of n phase)) 0) ≡ zeros_gained held (kept_of n phase) = length-replicate (zeros_gained held (kept_of n phase)) 0 in
-      sym (ap length gains) ∙ (let e : length (body ++ (replicate (zeros_gained held (kept_of n phase)) 0 ++ take (kept_of n phase) (drop 0 piece))) ≡ length body + zeros_gained held (kept_of n phase) + kept_of n phase = omega arith in e)
+      let r : length {A = ℕ} (replicate (zeros_gained held (kept_of n phase)) 0) ≡ zeros_gained held (kept_of n phase) =
+      length-replicate (zeros_gained held (kept_of n phase)) 0 in
+      sym (ap length gains) ∙ (let e : length (body ++ (replicate (zeros_gained held (kept_of n phase)) 0 ++ take (kept_of n phase) (drop 0 piece))) ≡
+      length body + zeros_gained held (kept_of n phase) + kept_of n phase = omega arith in e)
 
   seen : started lead (body ++ replicate held 0) ++ take n piece ≡ started lead ((body ++ gained held piece (kept_of n phase)) ++ ending phase)
   seen = started-append lead (body ++ replicate held 0) (take n piece)
-      ∙ ap (started lead) (append_assoc body (replicate held 0) (take n piece) ∙ ap (λ l. body ++ l) (sym s.whole) ∙ sym (append_assoc body (gained held piece (kept_of n phase)) (ending phase)))
+      ∙ ap (started lead) (append_assoc body (replicate held 0) (take n piece) ∙ ap (λ l. body ++ l) (sym s.whole) ∙
+      sym (append_assoc body (gained held piece (kept_of n phase)) (ending phase)))
 
-  seen-all : (more : List ℕ) → (started lead (body ++ replicate held 0) ++ piece) ++ more ≡ started lead ((body ++ gained held piece (kept_of n phase)) ++ (ending phase ++ (drop n piece ++ more)))
+  seen-all : (more : List ℕ) → (started lead (body ++ replicate held 0) ++ piece) ++ more ≡
+      started lead ((body ++ gained held piece (kept_of n phase)) ++ (ending phase ++ (drop n piece ++ more)))
   seen-all more =
       ap (λ l. (started lead (body ++ replicate held 0) ++ l) ++ more) (sym (take-append-drop n piece))
-      ∙ ap (λ l. l ++ more) (sym (append_assoc (started lead (body ++ replicate held 0)) (take n piece) (drop n piece)) ∙ ap (λ l. l ++ drop n piece) seen ∙ started-append lead ((body ++ gained held piece (kept_of n phase)) ++ ending phase) (drop n piece))
+      ∙ ap (λ l. l ++ more) (sym (append_assoc (started lead (body ++ replicate held 0)) (take n piece) (drop n piece)) ∙ ap (λ l. l ++ drop n piece) seen ∙
+      started-append lead ((body ++ gained held piece (kept_of n phase)) ++ ending phase) (drop n piece))
       ∙ started-append lead (((body ++ gained held piece (kept_of n phase)) ++ ending phase) ++ drop n piece) more
-      ∙ ap (started lead) (append_assoc ((body ++ gained held piece (kept_of n phase)) ++ ending phase) (drop n piece) more ∙ append_assoc (body ++ gained held piece (kept_of n phase)) (ending phase) (drop n piece ++ more))
+      ∙ ap (started lead) (append_assoc ((body ++ gained held piece (kept_of n phase)) ++ ending phase) (drop n piece) more ∙
+      append_assoc (body ++ gained held piece (kept_of n phase)) (ending phase) (drop n piece ++ more))
 
-  total : length (started lead (body ++ replicate held 0) ++ piece) ≡ lead + 3 + (length (body ++ gained held piece (kept_of n phase)) + (length (ending phase) + length (drop n piece)))
+  total : length (started lead (body ++ replicate held 0) ++ piece) ≡
+      lead + 3 + (length (body ++ gained held piece (kept_of n phase)) + (length (ending phase) + length (drop n piece)))
   total =
-      let e : started lead (body ++ replicate held 0) ++ piece ≡ started lead ((body ++ gained held piece (kept_of n phase)) ++ (ending phase ++ (drop n piece ++ []))) = sym (append-nil _) ∙ seen-all [] in
+      let e : started lead (body ++ replicate held 0) ++ piece ≡
+      started lead ((body ++ gained held piece (kept_of n phase)) ++ (ending phase ++ (drop n piece ++ []))) = sym (append-nil _) ∙ seen-all [] in
       ap length e ∙ length-started lead _
       ∙ ap (λ k. lead + 3 + k) (length-append (body ++ gained held piece (kept_of n phase)) _
-      ∙ ap (λ k. length (body ++ gained held piece (kept_of n phase)) + k) (length-append (ending phase) (drop n piece ++ []) ∙ ap (λ l. length (ending phase) + length l) (append-nil (drop n piece))))
+      ∙ ap (λ k. length (body ++ gained held piece (kept_of n phase)) + k)
+      (length-append (ending phase) (drop n piece ++ []) ∙ ap (λ l. length (ending phase) + length l) (append-nil (drop n piece))))
 
-  pub long-refused : IsInner body → unit_limit < length (body ++ gained held piece (kept_of n phase)) → at + length (started lead (body ++ replicate held 0) ++ piece) ≤ input_limit → Refused at (started lead (body ++ replicate held 0) ++ piece) (Outside (8 * (at + lead + 3)) UnitTooLong)
+  pub long-refused : IsInner body → unit_limit < length (body ++ gained held piece (kept_of n phase)) →
+      at + length (started lead (body ++ replicate held 0) ++ piece) ≤ input_limit →
+      Refused at (started lead (body ++ replicate held 0) ++ piece) (Outside (8 * (at + lead + 3)) UnitTooLong)
   long-refused inner h within = record {
     tail = Long (at + lead + 3);
     stop_is = refl;
@@ -98,7 +116,9 @@ module _ (at held lead : ℕ) (body piece : List ℕ) (n : ℕ) (phase : Phase) 
     };
   }
 
-  pub bare-refused : waits phase ≡ true → length (body ++ gained held piece (kept_of n phase)) ≡ 0 → at + length (started lead (body ++ replicate held 0) ++ piece) ≤ input_limit → Refused at (started lead (body ++ replicate held 0) ++ piece) (No (8 * (at + lead + 3)) EmptyUnit)
+  pub bare-refused : waits phase ≡ true → length (body ++ gained held piece (kept_of n phase)) ≡ 0 →
+      at + length (started lead (body ++ replicate held 0) ++ piece) ≤ input_limit →
+      Refused at (started lead (body ++ replicate held 0) ++ piece) (No (8 * (at + lead + 3)) EmptyUnit)
   bare-refused w none within = by phase s.in_unit w seen-all total
     where
       empty : (l r : List ℕ) → length l ≡ 0 → l ++ r ≡ r
@@ -106,8 +126,10 @@ module _ (at held lead : ℕ) (body piece : List ℕ) (n : ℕ) (phase : Phase) 
       empty (x ∷ l) r h = absurd (omega arith)
 
       by : (p : Phase) → IsInUnit p → waits p ≡ true →
-          ((more : List ℕ) → (started lead (body ++ replicate held 0) ++ piece) ++ more ≡ started lead ((body ++ gained held piece (kept_of n phase)) ++ (ending p ++ (drop n piece ++ more)))) →
-          length (started lead (body ++ replicate held 0) ++ piece) ≡ lead + 3 + (length (body ++ gained held piece (kept_of n phase)) + (length (ending p) + length (drop n piece))) →
+          ((more : List ℕ) → (started lead (body ++ replicate held 0) ++ piece) ++ more ≡
+          started lead ((body ++ gained held piece (kept_of n phase)) ++ (ending p ++ (drop n piece ++ more)))) →
+          length (started lead (body ++ replicate held 0) ++ piece) ≡
+          lead + 3 + (length (body ++ gained held piece (kept_of n phase)) + (length (ending p) + length (drop n piece))) →
           Refused at (started lead (body ++ replicate held 0) ++ piece) (No (8 * (at + lead + 3)) EmptyUnit)
       by Between i w all t = absurd i
       by (Inside zeros) i w all t = cc
@@ -161,18 +183,23 @@ module _ (at held lead : ℕ) (body piece : List ℕ) (n : ℕ) (phase : Phase) 
   few-gained (suc k) h = h
 
   -- what becomes of the piece
-  pub plans-inside : (zeros kept : ℕ) → kept ≡ kept_of n phase → zeros ≡ zeros_gained held kept → IsInner body → held < 3 → length body + zeros + kept ≤ unit_limit → (waits phase ≡ true → length body + zeros + kept ≢ 0) → (IsOpen phase → n ≡ length piece) → (¬ IsOpen phase → 0 < n) → Plans (Inside held) lead body piece (record { taken = n; lead = lead; zeros = zeros; start = 0; kept = kept; phase = phase })
+  pub plans-inside : (zeros kept : ℕ) → kept ≡ kept_of n phase → zeros ≡ zeros_gained held kept → IsInner body → held < 3 →
+      length body + zeros + kept ≤ unit_limit → (waits phase ≡ true → length body + zeros + kept ≢ 0) → (IsOpen phase → n ≡ length piece) →
+      (¬ IsOpen phase → 0 < n) → Plans (Inside held) lead body piece (record { taken = n; lead = lead; zeros = zeros; start = 0; kept = kept; phase = phase })
   plans-inside zeros kept k z inner few fits some all closed =
       let g : body ++ (replicate zeros 0 ++ take kept (drop 0 piece)) ≡ body ++ gained held piece (kept_of n phase) =
-      ap (λ z. body ++ (replicate z 0 ++ take kept (drop 0 piece))) z ∙ ap (λ k. body ++ (replicate (zeros_gained held k) 0 ++ take k (drop 0 piece))) k ∙ gains in
-      let l : length (body ++ gained held piece (kept_of n phase)) ≡ length body + zeros + kept = length-longer ∙ ap (λ k. length body + zeros_gained held k + k) (sym k) ∙ ap (λ z. length body + z + kept) (sym z) in
+      ap (λ z. body ++ (replicate z 0 ++ take kept (drop 0 piece))) z ∙ ap (λ k. body ++ (replicate (zeros_gained held k) 0 ++ take k (drop 0 piece))) k ∙
+      gains in
+      let l : length (body ++ gained held piece (kept_of n phase)) ≡ length body + zeros + kept = length-longer ∙
+      ap (λ k. length body + zeros_gained held k + k) (sym k) ∙ ap (λ z. length body + z + kept) (sym z) in
       let w = kept-within in
       let v : n ≤ length piece = s.within in
       record {
         within = v;
         adds_within = omega arith;
         rest_is = ap (rest_of phase lead) g ∙ rest-in-unit (body ++ gained held piece (kept_of n phase)) ∙ sym seen;
-        sound = subst (IsSound phase) (sym g) (sound-in-unit (body ++ gained held piece (kept_of n phase)) (inner-append body (gained held piece (kept_of n phase)) inner s.inner) (omega arith) (λ y e. some y (sym l ∙ e)));
+        sound = subst (IsSound phase) (sym g) (sound-in-unit (body ++ gained held piece (kept_of n phase))
+            (inner-append body (gained held piece (kept_of n phase)) inner s.inner) (omega arith) (λ y e. some y (sym l ∙ e)));
         runs = running;
         all = all;
         some = closed;
@@ -193,9 +220,11 @@ module _ (at lead : ℕ) (piece : List ℕ) (z : ℕ) (within : z ≤ length pie
   led = ap (λ l. replicate lead 0 ++ l) (zeros-run z piece within all) ∙ replicate-append-replicate lead z 0
 
   led-all : replicate lead 0 ++ piece ≡ replicate (lead + z) 0 ++ drop z piece
-  led-all = ap (λ l. replicate lead 0 ++ l) (sym (take-append-drop z piece)) ∙ sym (append_assoc (replicate lead 0) (take z piece) (drop z piece)) ∙ ap (λ l. l ++ drop z piece) led
+  led-all = ap (λ l. replicate lead 0 ++ l) (sym (take-append-drop z piece)) ∙ sym (append_assoc (replicate lead 0) (take z piece) (drop z piece)) ∙
+      ap (λ l. l ++ drop z piece) led
 
-  pub plans-zeros : z ≡ length piece → (lead' : ℕ) → lead' ≡ lead + z → Plans Between lead [] piece (record { taken = z; lead = lead'; zeros = 0; start = z; kept = 0; phase = Between })
+  pub plans-zeros : z ≡ length piece → (lead' : ℕ) → lead' ≡ lead + z →
+      Plans Between lead [] piece (record { taken = z; lead = lead'; zeros = 0; start = z; kept = 0; phase = Between })
   plans-zeros e lead' l = record {
     within = within;
     adds_within = omega arith;
@@ -207,7 +236,8 @@ module _ (at lead : ℕ) (piece : List ℕ) (z : ℕ) (within : z ≤ length pie
     few = omega arith;
   }
 
-  pub stray-refused : z < length piece → get_or piece z 0 ≢ 0 → (get_or piece z 0 ≡ 1 → lead + z < 2) → at + length (replicate lead 0 ++ piece) ≤ input_limit → Refused at (replicate lead 0 ++ piece) (No (8 * (at + (lead + z))) ByteStream)
+  pub stray-refused : z < length piece → get_or piece z 0 ≢ 0 → (get_or piece z 0 ≡ 1 → lead + z < 2) →
+      at + length (replicate lead 0 ++ piece) ≤ input_limit → Refused at (replicate lead 0 ++ piece) (No (8 * (at + (lead + z))) ByteStream)
   stray-refused more other code fits = record {
     tail = Stray (at + (lead + z));
     stop_is = refl;
@@ -215,34 +245,42 @@ module _ (at lead : ℕ) (piece : List ℕ) (z : ℕ) (within : z ≤ length pie
       zeros = lead + z;
       byte = get_or piece z 0;
       rest = drop (z + 1) piece ++ rest;
-      whole = ap (λ l. l ++ rest) (led-all ∙ ap (λ l. replicate (lead + z) 0 ++ l) (drop_more piece z 0 more)) ∙ append_assoc (replicate (lead + z) 0) (get_or piece z 0 ∷ drop (z + 1) piece) rest;
+      whole = ap (λ l. l ++ rest) (led-all ∙ ap (λ l. replicate (lead + z) 0 ++ l) (drop_more piece z 0 more)) ∙
+          append_assoc (replicate (lead + z) 0) (get_or piece z 0 ∷ drop (z + 1) piece) rest;
       other = other;
       no_code = code;
       place_is = refl;
-      shown = let n : length (replicate lead 0 ++ piece) ≡ lead + length piece = length-append (replicate lead 0) piece ∙ ap (λ k. k + length piece) (length-replicate lead 0) in omega arith;
+      shown = let n : length (replicate lead 0 ++ piece) ≡ lead + length piece = length-append (replicate lead 0) piece ∙
+          ap (λ k. k + length piece) (length-replicate lead 0) in omega arith;
     };
   }
 
   module _ (more : z < length piece) (one : get_or piece z 0 ≡ 1) (two : 2 ≤ lead + z) where
     coded : replicate lead 0 ++ piece ≡ started (lead + z - 2) (drop (z + 1) piece)
     coded = led-all ∙ ap (λ l. replicate (lead + z) 0 ++ l) (drop_more piece z 0 more ∙ ap (λ b. b ∷ drop (z + 1) piece) one)
-        ∙ ap (λ n. replicate n 0 ++ 1 ∷ drop (z + 1) piece) (let e : lead + z ≡ lead + z - 2 + 2 = omega arith in e) ∙ sym (code-zeros (lead + z - 2) (drop (z + 1) piece))
+        ∙ ap (λ n. replicate n 0 ++ 1 ∷ drop (z + 1) piece) (let e : lead + z ≡ lead + z - 2 + 2 = omega arith in e) ∙
+        sym (code-zeros (lead + z - 2) (drop (z + 1) piece))
 
     pub begun : replicate lead 0 ++ piece ≡ started (lead + z - 2) [] ++ drop (z + 1) piece
     begun = coded ∙ sym (started-append (lead + z - 2) [] (drop (z + 1) piece))
 
     begun-front : (n : ℕ) → replicate lead 0 ++ take (z + 1 + n) piece ≡ started (lead + z - 2) [] ++ take n (drop (z + 1) piece)
-    begun-front n = append_cancel_right (replicate lead 0 ++ take (z + 1 + n) piece) (started (lead + z - 2) [] ++ take n (drop (z + 1) piece)) (drop (z + 1 + n) piece)
-        (append_assoc (replicate lead 0) (take (z + 1 + n) piece) (drop (z + 1 + n) piece) ∙ ap (λ l. replicate lead 0 ++ l) (take-append-drop (z + 1 + n) piece) ∙ begun
-        ∙ ap (λ l. started (lead + z - 2) [] ++ l) (sym (take-append-drop n (drop (z + 1) piece)) ∙ ap (λ l. take n (drop (z + 1) piece) ++ l) (drop-drop n (z + 1) piece))
+    begun-front n = append_cancel_right (replicate lead 0 ++ take (z + 1 + n) piece) (started (lead + z - 2) [] ++ take n (drop (z + 1) piece))
+        (drop (z + 1 + n) piece)
+        (append_assoc (replicate lead 0) (take (z + 1 + n) piece) (drop (z + 1 + n) piece) ∙
+        ap (λ l. replicate lead 0 ++ l) (take-append-drop (z + 1 + n) piece) ∙ begun
+        ∙ ap (λ l. started (lead + z - 2) [] ++ l)
+        (sym (take-append-drop n (drop (z + 1) piece)) ∙ ap (λ l. take n (drop (z + 1) piece) ++ l) (drop-drop n (z + 1) piece))
         ∙ sym (append_assoc (started (lead + z - 2) []) (take n (drop (z + 1) piece)) (drop (z + 1 + n) piece)))
 
-    pub plans-begun : (plan : Plan) → Plans (Inside 0) (lead + z - 2) [] (drop (z + 1) piece) plan → Plans Between lead [] piece (record plan { taken = z + 1 + plan.taken; start = z + 1 + plan.start })
+    pub plans-begun : (plan : Plan) → Plans (Inside 0) (lead + z - 2) [] (drop (z + 1) piece) plan →
+        Plans Between lead [] piece (record plan { taken = z + 1 + plan.taken; start = z + 1 + plan.start })
     plans-begun plan p =
         let d : length (drop (z + 1) piece) ≡ length piece - (z + 1) = length-drop (z + 1) piece in
         let w : plan.taken ≤ length (drop (z + 1) piece) = p.within in
         let v : plan.start + plan.kept ≤ length (drop (z + 1) piece) = p.adds_within in
-        let same : take plan.kept (drop plan.start (drop (z + 1) piece)) ≡ take plan.kept (drop (z + 1 + plan.start) piece) = ap (take plan.kept) (drop-drop plan.start (z + 1) piece) in
+        let same : take plan.kept (drop plan.start (drop (z + 1) piece)) ≡ take plan.kept (drop (z + 1 + plan.start) piece) =
+        ap (take plan.kept) (drop-drop plan.start (z + 1) piece) in
         record {
           within = omega arith;
           adds_within = omega arith;
@@ -263,13 +301,17 @@ open-undecided (Last zeros) lead body o s = absurd o
 open-undecided Over lead body o s = absurd o
 
 -- a plan for the front of a piece, of which some bytes are not judged
-module _ (at lead : ℕ) (body : List ℕ) (phase : Phase) (piece : List ℕ) (room : ℕ) (over : room < length piece) (limit : at + length (rest_of phase lead body) + room ≡ input_limit) where
+module _ (at lead : ℕ) (body : List ℕ) (phase : Phase) (piece : List ℕ) (room : ℕ) (over : room < length piece)
+    (limit : at + length (rest_of phase lead body) + room ≡ input_limit) where
   pub front-refused : (stop : Stop) → Refused at (rest_of phase lead body ++ take room piece) stop → Refused at (rest_of phase lead body ++ piece) stop
-  front-refused stop r = subst (λ l. Refused at l stop) (append_assoc (rest_of phase lead body) (take room piece) (drop room piece) ∙ ap (λ l. rest_of phase lead body ++ l) (take-append-drop room piece)) (refused-more at (rest_of phase lead body ++ take room piece) (drop room piece) stop r)
+  front-refused stop r = subst (λ l. Refused at l stop)
+      (append_assoc (rest_of phase lead body) (take room piece) (drop room piece) ∙ ap (λ l. rest_of phase lead body ++ l) (take-append-drop room piece))
+      (refused-more at (rest_of phase lead body ++ take room piece) (drop room piece) stop r)
 
   module _ (plan : Plan) (p : Plans phase lead body (take room piece) plan) where
     taken-within : plan.taken ≤ room
-    taken-within = let w : plan.taken ≤ length (take room piece) = p.within in let t : length (take room piece) ≡ min room (length piece) = length-take room piece in omega arith
+    taken-within = let w : plan.taken ≤ length (take room piece) = p.within in
+        let t : length (take room piece) ≡ min room (length piece) = length-take room piece in omega arith
 
     same-added : added plan (take room piece) ≡ added plan piece
     same-added =
@@ -277,7 +319,8 @@ module _ (at lead : ℕ) (body : List ℕ) (phase : Phase) (piece : List ℕ) (r
         let t : length (take room piece) ≡ min room (length piece) = length-take room piece in
         let s : plan.start + plan.kept ≤ room = omega arith in
         ap (λ l. replicate plan.zeros 0 ++ l)
-        (sym (drop-take plan.start plan.kept (take room piece)) ∙ ap (drop plan.start) (take-take (plan.start + plan.kept) room piece s) ∙ drop-take plan.start plan.kept piece)
+        (sym (drop-take plan.start plan.kept (take room piece)) ∙ ap (drop plan.start) (take-take (plan.start + plan.kept) room piece s) ∙
+        drop-take plan.start plan.kept piece)
 
     pub plans-front : (IsOpen plan.phase → ⊥) → Plans phase lead body piece plan
     plans-front closed =
@@ -287,7 +330,8 @@ module _ (at lead : ℕ) (body : List ℕ) (phase : Phase) (piece : List ℕ) (r
         record {
           within = omega arith;
           adds_within = omega arith;
-          rest_is = ap (λ l. rest_of plan.phase plan.lead (body ++ l)) (sym same-added) ∙ p.rest_is ∙ ap (λ l. rest_of phase lead body ++ l) (take-take plan.taken room piece t);
+          rest_is = ap (λ l. rest_of plan.phase plan.lead (body ++ l)) (sym same-added) ∙ p.rest_is ∙
+              ap (λ l. rest_of phase lead body ++ l) (take-take plan.taken room piece t);
           sound = subst (λ l. IsSound plan.phase (body ++ l)) same-added p.sound;
           runs = p.runs;
           all = λ o. absurd (closed o);
@@ -301,15 +345,19 @@ module _ (at lead : ℕ) (body : List ℕ) (phase : Phase) (piece : List ℕ) (r
         let d : length (drop room piece) ≡ length piece - room = length-drop room piece in
         let all : plan.taken ≡ length (take room piece) = p.all o in
         let whole : rest_of plan.phase plan.lead (body ++ added plan (take room piece)) ≡ rest_of phase lead body ++ take room piece =
-        p.rest_is ∙ ap (λ l. rest_of phase lead body ++ l) (ap (λ k. take k (take room piece)) all ∙ take_all (length (take room piece)) (take room piece) (omega arith)) in
+        p.rest_is ∙ ap (λ l. rest_of phase lead body ++ l)
+        (ap (λ k. take k (take room piece)) all ∙ take_all (length (take room piece)) (take room piece) (omega arith)) in
         record {
           tail = Cut;
           stop_is = refl;
           stands = λ more. let m : length (drop room piece ++ more) ≡ length (drop room piece) + length more = length-append (drop room piece) more in record {
             front = rest_of phase lead body ++ take room piece;
             rest = drop room piece ++ more;
-            whole = ap (λ l. (rest_of phase lead body ++ l) ++ more) (sym (take-append-drop room piece)) ∙ ap (λ l. l ++ more) (sym (append_assoc (rest_of phase lead body) (take room piece) (drop room piece))) ∙ append_assoc (rest_of phase lead body ++ take room piece) (drop room piece) more;
-            front_ends = let l : length (rest_of phase lead body ++ take room piece) ≡ length (rest_of phase lead body) + length (take room piece) = length-append (rest_of phase lead body) (take room piece) in omega arith;
+            whole = ap (λ l. (rest_of phase lead body ++ l) ++ more) (sym (take-append-drop room piece)) ∙
+                ap (λ l. l ++ more) (sym (append_assoc (rest_of phase lead body) (take room piece) (drop room piece))) ∙
+                append_assoc (rest_of phase lead body ++ take room piece) (drop room piece) more;
+            front_ends = let l : length (rest_of phase lead body ++ take room piece) ≡ length (rest_of phase lead body) + length (take room piece) =
+                length-append (rest_of phase lead body) (take room piece) in omega arith;
             goes_on = omega arith;
             undecided = subst IsUndecided whole (open-undecided plan.phase plan.lead (body ++ added plan (take room piece)) o p.sound);
           };

@@ -1,5 +1,6 @@
 -- What a scan has found, some bytes further.
-use Rattle.std.proofs.Common.{◌≡◌, ◌≢◌, ℕ, zero, suc, ◌+◌, ◌-◌, ◌<◌, ◌≤◌, nat_eq, List, [], ◌∷◌, ◌++◌, length, replicate, take, drop, get_or, refl, ap, sym, ◌∙◌, subst, arith, append_assoc}
+use Rattle.std.proofs.Common.{◌≡◌, ◌≢◌, ℕ, zero, suc, ◌+◌, ◌-◌, ◌<◌, ◌≤◌, nat_eq, List, [], ◌∷◌, ◌++◌, length, replicate, take, drop, get_or, refl, ap, sym}
+use Rattle.std.proofs.Common.{◌∙◌, subst, arith, append_assoc}
 use Rattle.std.proofs.lemmas.List.{append-nil, take_more, take-take, drop-take, take-append-drop, replicate_more}
 use Rattle.h264_units.specs.declared.scan.Phase.TheVariants.{Inside, Waiting}
 use Rattle.h264_units.specs.Stream.{EndsUnit, IsInner}
@@ -34,7 +35,8 @@ inner-three [] (suc n) p more high = absurd (omega (arith, more))
 inner-three (x ∷ l) (suc n) p more high =
     let e : suc (n + 3) ≡ suc n + 3 = omega arith in
     let inside : (EndsUnit (x ∷ take n l) → ⊥) × IsInner (take n l) = p in
-    let first : EndsUnit (x ∷ take (n + 3) l) → ⊥ = subst (λ t. EndsUnit (x ∷ t) → ⊥) (sym (take-both n 3 l)) (inner-more x (take n l) (take 3 (drop n l)) inside.0) in
+    let first : EndsUnit (x ∷ take (n + 3) l) →
+    ⊥ = subst (λ t. EndsUnit (x ∷ t) → ⊥) (sym (take-both n 3 l)) (inner-more x (take n l) (take 3 (drop n l)) inside.0) in
     let place : suc (n + 2) ≡ suc n + 2 = omega arith in
     let above : 1 < get_or l (n + 2) 0 = subst (λ k. 1 < get_or (x ∷ l) k 0) (sym place) high in
     subst (λ m. IsInner (take m (x ∷ l))) e (first, inner-three l n inside.1 (omega arith) above)
@@ -58,7 +60,8 @@ third-byte (suc (suc n)) h = absurd (omega arith)
 module _ (held : ℕ) (piece : List ℕ) (i : ℕ) (byte : ℕ) (more : i < length piece) (here : get_or piece i 0 ≡ byte) where
   -- the bytes with one more
   one-more : replicate held 0 ++ take (i + 1) piece ≡ (replicate held 0 ++ take i piece) ++ byte ∷ []
-  one-more = ap (λ t. replicate held 0 ++ t) (take_more piece i 0 more ∙ ap (λ b. take i piece ++ b ∷ []) here) ∙ sym (append_assoc (replicate held 0) (take i piece) (byte ∷ []))
+  one-more = ap (λ t. replicate held 0 ++ t) (take_more piece i 0 more ∙ ap (λ b. take i piece ++ b ∷ []) here) ∙
+      sym (append_assoc (replicate held 0) (take i piece) (byte ∷ []))
 
   pub scans-end : Scans held piece i (Inside 2) → byte < 2 → Scans held piece (i + 1) (Waiting (nat_eq byte 1))
   scans-end s low =
@@ -86,7 +89,8 @@ module _ (held : ℕ) (piece : List ℕ) (i : ℕ) (byte : ℕ) (more : i < leng
         inner = subst (λ n. IsInner (gained held piece n)) (sym k) s.inner;
       }
 
-  pub scans-others : (zeros run : ℕ) → Scans held piece i (Inside zeros) → byte ≢ 0 → (byte < 2 → zeros ≢ 2) → i + 1 + run ≤ length piece → IsInner (take run (drop (i + 1) piece)) → Scans held piece (i + 1 + run) (Inside 0)
+  pub scans-others : (zeros run : ℕ) → Scans held piece i (Inside zeros) → byte ≢ 0 → (byte < 2 → zeros ≢ 2) → i + 1 + run ≤ length piece →
+      IsInner (take run (drop (i + 1) piece)) → Scans held piece (i + 1 + run) (Inside 0)
   scans-others zeros run s other code within inner =
       let some = gained-some held piece (i + 1 + run) (omega arith) in
       let k : i + 1 + run - 0 ≡ i + 1 + run = omega arith in
@@ -94,7 +98,10 @@ module _ (held : ℕ) (piece : List ℕ) (i : ℕ) (byte : ℕ) (more : i < leng
         within = within;
         in_unit = omega arith;
         whole = append-nil (gained held piece (i + 1 + run - 0)) ∙ ap (gained held piece) k ∙ some;
-        inner = subst IsInner (sym (ap (gained held piece) k ∙ some ∙ parts)) (inner-append (gained held piece (i - zeros)) (replicate zeros 0 ++ byte ∷ tail) s.inner (subst IsInner (append_assoc (replicate zeros 0) (byte ∷ []) tail) (inner-append (replicate zeros 0 ++ byte ∷ []) tail (inner-zeros zeros byte s.in_unit other code) inner)));
+        inner = subst IsInner (sym (ap (gained held piece) k ∙ some ∙ parts))
+            (inner-append (gained held piece (i - zeros)) (replicate zeros 0 ++ byte ∷ tail) s.inner
+            (subst IsInner (append_assoc (replicate zeros 0) (byte ∷ []) tail)
+            (inner-append (replicate zeros 0 ++ byte ∷ []) tail (inner-zeros zeros byte s.in_unit other code) inner)));
       }
     where
       tail : List ℕ

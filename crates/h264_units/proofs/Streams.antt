@@ -1,7 +1,9 @@
 -- Each input has at most one list of units, and one tail.
-use Rattle.std.proofs.Common.{◌≡◌, ◌≢◌, ◌⊎◌, inl, inr, ℕ, zero, suc, ◌+◌, ◌<◌, ◌≤◌, min, List, [], ◌∷◌, ◌++◌, length, replicate, refl, ap, sym, ◌∙◌, subst, arith, append_assoc, length-append}
+use Rattle.std.proofs.Common.{◌≡◌, ◌≢◌, ◌⊎◌, inl, inr, ℕ, zero, suc, ◌+◌, ◌<◌, ◌≤◌, min, List, [], ◌∷◌, ◌++◌, length, replicate, refl, ap, sym, ◌∙◌, subst}
+use Rattle.std.proofs.Common.{arith, append_assoc, length-append}
 use Rattle.std.proofs.lemmas.List.{length-replicate}
-use Rattle.h264_units.specs.Stream.{NalUnit, EndsUnit, IsInner, IsBody, started, First, past, unit_limit, input_limit, shown_by, Next, Tail, Zeros, Stray, Bare, Long, Cut, IsStray, IsBare, IsLong, IsOpenUnit, IsCut, HasTail, Splits, SameUnits}
+use Rattle.h264_units.specs.Stream.{NalUnit, EndsUnit, IsInner, IsBody, started, First, past, unit_limit, input_limit, shown_by, Next, Tail, Zeros, Stray}
+use Rattle.h264_units.specs.Stream.{Bare, Long, Cut, IsStray, IsBare, IsLong, IsOpenUnit, IsCut, HasTail, Splits, SameUnits}
 
 -- more bytes after it end no unit before it
 pub inner-more : (x : ℕ) (b r : List ℕ) → (EndsUnit (x ∷ b) → ⊥) → EndsUnit ((x ∷ b) ++ r) → ⊥
@@ -134,10 +136,12 @@ code-not-stray at m x bytes p e h =
     absurd (omega arith)
 
 -- no unit ends within bytes that leave it open
-ends-not-open : (a rest b y : List ℕ) (held : ℕ) → EndsUnit rest → IsInner b → a ++ rest ≡ (b ++ replicate held 0) ++ y → length a + min 3 (length rest) ≤ length b + held → held < 3 → 0 < length y → ⊥
+ends-not-open : (a rest b y : List ℕ) (held : ℕ) → EndsUnit rest → IsInner b → a ++ rest ≡ (b ++ replicate held 0) ++ y →
+    length a + min 3 (length rest) ≤ length b + held → held < 3 → 0 < length y → ⊥
 ends-not-open a rest b y held e p w short few more =
     let k = inner-within a b rest (replicate held 0 ++ y) p e (w ∙ append_assoc b (replicate held 0) y) in
-    let s : length a + length rest ≡ length (b ++ replicate held 0) + length y = sym (length-append a rest) ∙ ap length w ∙ length-append (b ++ replicate held 0) y in
+    let s : length a + length rest ≡ length (b ++ replicate held 0) + length y = sym (length-append a rest) ∙ ap length w ∙
+    length-append (b ++ replicate held 0) y in
     let t : length (b ++ replicate held 0) ≡ length b + held = length-append b (replicate held 0) ∙ ap (λ n. length b + n) (length-replicate held 0) in
     omega arith
 
@@ -177,15 +181,19 @@ cut-start at m x bytes c e = by c.undecided
         let f : at + length c.front ≡ input_limit = c.front_ends in
         inl (omega arith)
     by (inr o) =
-        let s = same-start m o.zeros x ((o.body ++ replicate o.held 0) ++ c.rest) (sym e ∙ c.whole ∙ ap (λ l. l ++ c.rest) o.whole ∙ started-append o.zeros (o.body ++ replicate o.held 0) c.rest) in
-        let n : length c.front ≡ o.zeros + 3 + length (o.body ++ replicate o.held 0) = ap length o.whole ∙ length-started o.zeros (o.body ++ replicate o.held 0) in
-        let t : length (o.body ++ replicate o.held 0) ≡ length o.body + o.held = length-append o.body (replicate o.held 0) ∙ ap (λ n. length o.body + n) (length-replicate o.held 0) in
+        let s = same-start m o.zeros x ((o.body ++ replicate o.held 0) ++ c.rest)
+        (sym e ∙ c.whole ∙ ap (λ l. l ++ c.rest) o.whole ∙ started-append o.zeros (o.body ++ replicate o.held 0) c.rest) in
+        let n : length c.front ≡ o.zeros + 3 + length (o.body ++ replicate o.held 0) = ap length o.whole ∙
+        length-started o.zeros (o.body ++ replicate o.held 0) in
+        let t : length (o.body ++ replicate o.held 0) ≡ length o.body + o.held = length-append o.body (replicate o.held 0) ∙
+        ap (λ n. length o.body + n) (length-replicate o.held 0) in
         let f : at + length c.front ≡ input_limit = c.front_ends in
         let z : m ≡ o.zeros = s.count_is in
         inr (record { body = o.body; held = o.held; whole = s.rest_is; inner = o.inner; fits = o.fits; few = o.few; ends = omega arith })
 
 -- bytes that show where something ended are not cut before
-shown-not-cut : (at m : ℕ) (a rest bytes : List ℕ) → IsCut at bytes → bytes ≡ started m (a ++ rest) → EndsUnit rest → shown_by (at + m + 3 + length a) rest ≤ input_limit → ⊥
+shown-not-cut : (at m : ℕ) (a rest bytes : List ℕ) → IsCut at bytes → bytes ≡ started m (a ++ rest) → EndsUnit rest →
+    shown_by (at + m + 3 + length a) rest ≤ input_limit → ⊥
 shown-not-cut at m a rest bytes c e ends shown = by (cut-start at m (a ++ rest) bytes c e)
   where
     by : (input_limit < at + m + 3) ⊎ Reaches at m (a ++ rest) c.rest → ⊥
@@ -217,7 +225,8 @@ stray-not-cut at bytes p h c = by c.undecided
         let s : p < input_limit = h.shown in
         let e : p ≡ at + h.zeros = h.place_is in
         omega arith
-    by (inr o) = code-not-stray at o.zeros ((o.body ++ replicate o.held 0) ++ c.rest) bytes p (c.whole ∙ ap (λ l. l ++ c.rest) o.whole ∙ started-append o.zeros (o.body ++ replicate o.held 0) c.rest) h
+    by (inr o) = code-not-stray at o.zeros ((o.body ++ replicate o.held 0) ++ c.rest) bytes p
+        (c.whole ∙ ap (λ l. l ++ c.rest) o.whole ∙ started-append o.zeros (o.body ++ replicate o.held 0) c.rest) h
 
 zeros-not-cut : (at : ℕ) (bytes : List ℕ) → HasTail at bytes Zeros → IsCut at bytes → ⊥
 zeros-not-cut at bytes z c =
@@ -229,7 +238,8 @@ zeros-not-cut at bytes z c =
     omega arith
 
 bare-not-cut : (at : ℕ) (bytes : List ℕ) (p : ℕ) → IsBare at bytes p → IsCut at bytes → ⊥
-bare-not-cut at bytes p b c = shown-not-cut at b.zeros [] b.rest bytes c b.whole b.ends (let e : p ≡ at + b.zeros + 3 = b.place_is in let s : p + min 3 (length b.rest) ≤ input_limit = b.shown in omega arith)
+bare-not-cut at bytes p b c = shown-not-cut at b.zeros [] b.rest bytes c b.whole b.ends
+    (let e : p ≡ at + b.zeros + 3 = b.place_is in let s : p + min 3 (length b.rest) ≤ input_limit = b.shown in omega arith)
 
 long-not-ended : (m : ℕ) (a rest bytes : List ℕ) (at p : ℕ) → IsLong at bytes p → bytes ≡ started m (a ++ rest) → EndsUnit rest → length a ≤ unit_limit → ⊥
 long-not-ended m a rest bytes at p l e ends fits =
@@ -242,7 +252,8 @@ long-not-ended m a rest bytes at p l e ends fits =
 pub first-not-tail : (at : ℕ) (bytes : List ℕ) (u : NalUnit) (rest : List ℕ) (tail : Tail) → Next at bytes u rest → HasTail at bytes tail → ⊥
 first-not-tail at bytes u rest Zeros f h = code-not-zeros f.first.zeros h.0 (u.body ++ rest) (sym f.first.whole ∙ h.1)
 first-not-tail at bytes u rest (Stray p) f h = code-not-stray at f.first.zeros (u.body ++ rest) bytes p f.first.whole h
-first-not-tail at bytes u rest (Bare p) f h = no-body u.body f.first.body (same-start f.first.zeros h.zeros (u.body ++ rest) h.rest (sym f.first.whole ∙ h.whole)).rest_is h.ends
+first-not-tail at bytes u rest (Bare p) f h =
+    no-body u.body f.first.body (same-start f.first.zeros h.zeros (u.body ++ rest) h.rest (sym f.first.whole ∙ h.whole)).rest_is h.ends
   where
     no-body : (b : List ℕ) → IsBody b → b ++ rest ≡ h.rest → EndsUnit h.rest → ⊥
     no-body [] p e q = absurd (omega (arith, p.0))
@@ -293,7 +304,8 @@ same-tail at bytes Cut (Long q) a b = absurd (long-not-cut at bytes q b a)
 same-tail at bytes Cut Cut a b = refl
 
 -- the rest of a stream goes with its first unit
-pub splits-after : (at : ℕ) (bytes : List ℕ) (u v : NalUnit) (x y : List ℕ) (units : List NalUnit) (tail : Tail) → First at bytes u x → First at bytes v y → Splits (past v) y units tail → Splits (past u) x units tail
+pub splits-after : (at : ℕ) (bytes : List ℕ) (u v : NalUnit) (x y : List ℕ) (units : List NalUnit) (tail : Tail) → First at bytes u x → First at bytes v y →
+    Splits (past v) y units tail → Splits (past u) x units tail
 splits-after at bytes u v x y units tail f g s =
     let same = same-first at bytes u v x y f g in
     subst (λ w. Splits (past w) x units tail) (sym same.unit_is) (subst (λ r. Splits (past v) r units tail) (sym same.rest_is) s)

@@ -1,5 +1,6 @@
 -- A unit that waits is the first of the bytes that are left.
-use Rattle.std.proofs.Common.{◌≡◌, ℕ, zero, suc, ◌+◌, ◌*◌, ◌<◌, ◌≤◌, min, inl, inr, Bool, true, false, List, [], ◌∷◌, ◌++◌, length, replicate, Option, Some, None, refl, ap, sym, ◌∙◌, subst, arith, append_assoc, length-append}
+use Rattle.std.proofs.Common.{◌≡◌, ℕ, zero, suc, ◌+◌, ◌*◌, ◌<◌, ◌≤◌, min, inl, inr, Bool, true, false, List, [], ◌∷◌, ◌++◌, length, replicate, Option, Some}
+use Rattle.std.proofs.Common.{None, refl, ap, sym, ◌∙◌, subst, arith, append_assoc, length-append}
 use Rattle.std.proofs.lemmas.List.{length-replicate}
 use Rattle.h264_base.specs.declared.rule.Rule.TheVariants.{EmptyUnit}
 use Rattle.h264_base.specs.declared.stop.Stop.{Stop}
@@ -19,8 +20,10 @@ abbrev pub splitting : Phase → ℕ → ℕ → List ℕ → Option Stop → Sp
 splitting phase at lead body stop = record { at = at; rest = rest_of phase lead body; waiting = waits phase; ended = has_ended phase; stop = stop }
 
 -- a unit and what follows it
-next-unit : (at lead : ℕ) (body rest bytes : List ℕ) → bytes ≡ started lead (body ++ rest) → IsBody body → length body ≤ unit_limit → EndsUnit rest → at + lead + 3 + length body + min 3 (length rest) ≤ input_limit → Next at bytes (record { from = at + lead + 3; body = body }) rest
-next-unit at lead body rest bytes e b fits ends shown = record { first = record { zeros = lead; whole = e; body = b; ends = ends; from = refl }; fits = fits; shown = shown }
+next-unit : (at lead : ℕ) (body rest bytes : List ℕ) → bytes ≡ started lead (body ++ rest) → IsBody body → length body ≤ unit_limit → EndsUnit rest →
+    at + lead + 3 + length body + min 3 (length rest) ≤ input_limit → Next at bytes (record { from = at + lead + 3; body = body }) rest
+next-unit at lead body rest bytes e b fits ends shown =
+    record { first = record { zeros = lead; whole = e; body = b; ends = ends; from = refl }; fits = fits; shown = shown }
 
 live-none : (stop : Option Stop) (code : Bool) → IsLive stop (Waiting code) → stop ≡ None
 live-none None code h = refl
@@ -35,16 +38,21 @@ code-undecided : (code : Bool) → IsUndecided (0 ∷ 0 ∷ third code ∷ [])
 code-undecided true = inr (record { zeros = 0; body = []; held = 0; whole = refl; inner = tt; fits = omega arith; few = omega arith })
 code-undecided false = inl (3, refl)
 
-pub taken-waiting : (at lead : ℕ) (body : List ℕ) (stop : Option Stop) (code : Bool) (new : Splitting) (unit : NalUnit) → IsKept (Waiting code) at lead body → IsLive stop (Waiting code) →
-    unit ≡ record { from = at + lead + 3; body = body } → new.at ≡ at + lead + 3 + length body → new.rest ≡ 0 ∷ 0 ∷ third code ∷ [] → new.waiting ≡ false → new.ended ≡ false → new.stop ≡ stop →
+pub taken-waiting : (at lead : ℕ) (body : List ℕ) (stop : Option Stop) (code : Bool) (new : Splitting) (unit : NalUnit) → IsKept (Waiting code) at lead body →
+    IsLive stop (Waiting code) →
+    unit ≡ record { from = at + lead + 3; body = body } → new.at ≡ at + lead + 3 + length body → new.rest ≡ 0 ∷ 0 ∷ third code ∷ [] → new.waiting ≡ false →
+    new.ended ≡ false → new.stop ≡ stop →
     Taken (splitting (Waiting code) at lead body stop) new unit
 taken-waiting at lead body stop code new unit k live u a r w e s =
-    let n : length (started lead (body ++ 0 ∷ 0 ∷ third code ∷ [])) ≡ lead + 3 + (length body + 3) = length-started lead _ ∙ ap (λ n. lead + 3 + n) (length-append body _) in
+    let n : length (started lead (body ++ 0 ∷ 0 ∷ third code ∷ [])) ≡ lead + 3 + (length body + 3) = length-started lead _ ∙
+    ap (λ n. lead + 3 + n) (length-append body _) in
     let fits : at + length (started lead (body ++ 0 ∷ 0 ∷ third code ∷ [])) ≤ input_limit = k.1 in
     let first : (more : List ℕ) → Next at (started lead (body ++ 0 ∷ 0 ∷ third code ∷ []) ++ more) unit (new.rest ++ more) = λ more.
     subst (λ v. Next at (started lead (body ++ 0 ∷ 0 ∷ third code ∷ []) ++ more) v (new.rest ++ more)) (sym u)
     (subst (λ l. Next at (started lead (body ++ 0 ∷ 0 ∷ third code ∷ []) ++ more) (record { from = at + lead + 3; body = body }) (l ++ more)) (sym r)
-    (next-unit at lead body (0 ∷ 0 ∷ third code ∷ more) _ (started-append lead (body ++ 0 ∷ 0 ∷ third code ∷ []) more ∙ ap (started lead) (append_assoc body (0 ∷ 0 ∷ third code ∷ []) more)) k.0.0 k.0.1 (refl, refl, third-low code) (omega arith))) in
+    (next-unit at lead body (0 ∷ 0 ∷ third code ∷ more) _
+    (started-append lead (body ++ 0 ∷ 0 ∷ third code ∷ []) more ∙ ap (started lead) (append_assoc body (0 ∷ 0 ∷ third code ∷ []) more)) k.0.0 k.0.1
+    (refl, refl, third-low code) (omega arith))) in
     record {
       next = subst (λ v. Next at (started lead (body ++ 0 ∷ 0 ∷ third code ∷ [])) v new.rest) (sym u)
           (subst (λ l. Next at (started lead (body ++ 0 ∷ 0 ∷ third code ∷ [])) (record { from = at + lead + 3; body = body }) l) (sym r)
@@ -64,12 +72,15 @@ ends-zeros (suc zero) p = refl
 ends-zeros (suc (suc zero)) p = (refl, refl)
 ends-zeros (suc (suc (suc n))) p = absurd (omega arith)
 
-pub taken-last : (at lead : ℕ) (body : List ℕ) (stop : Option Stop) (zeros : ℕ) (new : Splitting) (unit : NalUnit) → IsKept (Last zeros) at lead body → IsLive stop (Last zeros) →
-    unit ≡ record { from = at + lead + 3; body = body } → new.at ≡ at + lead + 3 + length body → new.rest ≡ replicate zeros 0 → new.waiting ≡ false → new.ended ≡ true → new.stop ≡ stop →
+pub taken-last : (at lead : ℕ) (body : List ℕ) (stop : Option Stop) (zeros : ℕ) (new : Splitting) (unit : NalUnit) → IsKept (Last zeros) at lead body →
+    IsLive stop (Last zeros) →
+    unit ≡ record { from = at + lead + 3; body = body } → new.at ≡ at + lead + 3 + length body → new.rest ≡ replicate zeros 0 → new.waiting ≡ false →
+    new.ended ≡ true → new.stop ≡ stop →
     Taken (splitting (Last zeros) at lead body stop) new unit
 taken-last at lead body stop zeros new unit k live u a r w e s =
     let z : length {A = ℕ} (replicate zeros 0) ≡ zeros = length-replicate zeros 0 in
-    let n : length (started lead (body ++ replicate zeros 0)) ≡ lead + 3 + (length body + zeros) = length-started lead _ ∙ ap (λ n. lead + 3 + n) (length-append body _ ∙ ap (λ n. length body + n) z) in
+    let n : length (started lead (body ++ replicate zeros 0)) ≡ lead + 3 + (length body + zeros) = length-started lead _ ∙
+    ap (λ n. lead + 3 + n) (length-append body _ ∙ ap (λ n. length body + n) z) in
     let fits : at + length (started lead (body ++ replicate zeros 0)) ≤ input_limit = k.1 in
     record {
       next = subst (λ v. Next at (started lead (body ++ replicate zeros 0)) v new.rest) (sym u)
@@ -85,7 +96,8 @@ taken-last at lead body stop zeros new unit k live u a r w e s =
     }
 
 pub bare-finish : (at lead : ℕ) (body : List ℕ) (held : ℕ) (new : Splitting) → IsKept (Inside held) at lead body → length body ≡ 0 →
-    new ≡ stopped_by (No (8 * (at + lead + 3)) EmptyUnit) (splitting (Inside held) at lead body None) → FinishStops (splitting (Inside held) at lead body None) new (No (8 * (at + lead + 3)) EmptyUnit)
+    new ≡ stopped_by (No (8 * (at + lead + 3)) EmptyUnit) (splitting (Inside held) at lead body None) →
+    FinishStops (splitting (Inside held) at lead body None) new (No (8 * (at + lead + 3)) EmptyUnit)
 bare-finish at lead [] held new k none e =
     let z : length {A = ℕ} (replicate held 0) ≡ held = length-replicate held 0 in
     let n : length (started lead (replicate held 0)) ≡ lead + 3 + held = length-started lead _ ∙ ap (λ n. lead + 3 + n) z in

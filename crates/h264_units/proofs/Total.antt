@@ -1,5 +1,6 @@
 -- Each input has a list of units, and a tail.
-use Rattle.std.proofs.Common.{◌≡◌, ◌≢◌, ◌⊎◌, inl, inr, ℕ, zero, suc, ◌+◌, ◌-◌, ◌<◌, ◌≤◌, min, List, [], ◌∷◌, ◌++◌, length, replicate, take, drop, refl, ap, sym, ◌∙◌, subst, arith, append_assoc, length-append}
+use Rattle.std.proofs.Common.{◌≡◌, ◌≢◌, ◌⊎◌, inl, inr, ℕ, zero, suc, ◌+◌, ◌-◌, ◌<◌, ◌≤◌, min, List, [], ◌∷◌, ◌++◌, length, replicate, take, drop, refl, ap}
+use Rattle.std.proofs.Common.{sym, ◌∙◌, subst, arith, append_assoc, length-append}
 use Rattle.std.proofs.lemmas.Bool.{cases_lt}
 use Rattle.std.proofs.lemmas.List.{append-nil, length-replicate, length-take, length-drop, take-append-drop}
 use Rattle.std.proofs.lemmas.Bool.Decides.{eqb_tells}
@@ -18,7 +19,11 @@ ends? : (l : List ℕ) → EndsUnit l ⊎ (EndsUnit l → ⊥)
 ends? [] = inl tt
 ends? (x ∷ []) = same? x 0
 ends? (x ∷ y ∷ []) = elim (same? x 0) [ inr n ↦ inr (λ h. n h.0) | inl p ↦ elim (same? y 0) [ inr n ↦ inr (λ h. n h.1) | inl q ↦ inl (p, q) ] ]
-ends? (x ∷ y ∷ z ∷ l) = elim (same? x 0) [ inr n ↦ inr (λ h. n h.0) | inl p ↦ elim (same? y 0) [ inr n ↦ inr (λ h. n h.1) | inl q ↦ elim (low? z) [ inr n ↦ inr (λ h. n h.2) | inl r ↦ inl (p, q, r) ] ] ]
+ends? (x ∷ y ∷ z ∷ l) = elim (same? x 0) [
+  | inr n ↦ inr (λ h. n h.0)
+  | inl p ↦ elim (same? y 0)
+      [ inr n ↦ inr (λ h. n h.1) | inl q ↦ elim (low? z) [ inr n ↦ inr (λ h. n h.2) | inl r ↦ inl (p, q, r) ] ]
+]
 
 low : (z : ℕ) → z ≡ 0 → z < 2
 low z e = omega arith
@@ -60,7 +65,13 @@ ended : (bytes : List ℕ) → Ended bytes
 ended [] = record { body = []; rest = []; whole = refl; inner = tt; ends = tt }
 ended (x ∷ bytes) = elim (ends? (x ∷ bytes)) [
   | inl p ↦ record { body = []; rest = x ∷ bytes; whole = refl; inner = tt; ends = p }
-  | inr n ↦ let c = ended bytes in record { body = x ∷ c.body; rest = c.rest; whole = ap (λ l. x ∷ l) c.whole; inner = (λ h. n (subst (λ l. EndsUnit (x ∷ l)) (sym c.whole) (ends-both x c.body c.rest h c.ends)), c.inner); ends = c.ends }
+  | inr n ↦ let c = ended bytes in record {
+    body = x ∷ c.body;
+    rest = c.rest;
+    whole = ap (λ l. x ∷ l) c.whole;
+    inner = (λ h. n (subst (λ l. EndsUnit (x ∷ l)) (sym c.whole) (ends-both x c.body c.rest h c.ends)), c.inner);
+    ends = c.ends;
+  }
 ]
 
 record Lead (bytes : List ℕ) : Type 0 where
@@ -114,29 +125,88 @@ module _ (at : ℕ) (front more : List ℕ) (judged : IsFront at front more) (m 
 
   long : unit_limit < length c.body → SomeSplit at (front ++ more)
   long h = let f = front-fits at front more judged in
-      record { units = []; tail = Long (at + m + 3); splits = record { zeros = m; body = c.body; rest = c.rest ++ more; whole = following; inner = c.inner; too_many = h; place_is = refl; shown = let t = total in omega arith } }
+      record {
+        units = [];
+        tail = Long (at + m + 3);
+        splits = record {
+          zeros = m;
+          body = c.body;
+          rest = c.rest ++ more;
+          whole = following;
+          inner = c.inner;
+          too_many = h;
+          place_is = refl;
+          shown = let t = total in omega arith;
+        };
+      }
 
   -- the end is shown
-  shown : length c.body ≤ unit_limit → EndsUnit (c.rest ++ more) → at + m + 3 + length c.body + min 3 (length (c.rest ++ more)) ≤ input_limit → ((at' : ℕ) → at' ≡ at + m + 3 + length c.body → 0 < length c.body → SomeSplit at' (c.rest ++ more)) → SomeSplit at (front ++ more)
+  shown : length c.body ≤ unit_limit → EndsUnit (c.rest ++ more) → at + m + 3 + length c.body + min 3 (length (c.rest ++ more)) ≤ input_limit →
+      ((at' : ℕ) → at' ≡ at + m + 3 + length c.body → 0 < length c.body → SomeSplit at' (c.rest ++ more)) → SomeSplit at (front ++ more)
   shown fits ends by next = cases c.body refl
     where
       cases : (b : List ℕ) → c.body ≡ b → SomeSplit at (front ++ more)
-      cases [] b = record { units = []; tail = Bare (at + m + 3); splits = record { zeros = m; rest = c.rest ++ more; whole = following ∙ ap (λ l. started m (l ++ (c.rest ++ more))) b; ends = ends; place_is = refl; shown = omega arith } }
+      cases [] b = record {
+        units = [];
+        tail = Bare (at + m + 3);
+        splits = record {
+          zeros = m;
+          rest = c.rest ++ more;
+          whole = following ∙ ap (λ l. started m (l ++ (c.rest ++ more))) b;
+          ends = ends;
+          place_is = refl;
+          shown = omega arith;
+        };
+      }
       cases (y ∷ b) e =
           let u : NalUnit = record { from = at + m + 3; body = c.body } in
           let more_than_none : 0 < length c.body = let k = ap length e in omega arith in
           let n = next (past u) refl more_than_none in
-          record { units = u ∷ n.units; tail = n.tail; splits = (c.rest ++ more, record { first = record { zeros = m; whole = following; body = (more_than_none, c.inner); ends = ends; from = refl }; fits = fits; shown = by }, n.splits) }
+          record {
+            units = u ∷ n.units;
+            tail = n.tail;
+            splits = (
+              c.rest ++ more,
+              record {
+                first = record { zeros = m; whole = following; body = (more_than_none, c.inner); ends = ends; from = refl };
+                fits = fits;
+                shown = by;
+              },
+              n.splits,
+            );
+          }
 
   stays : length c.body ≤ unit_limit → length c.rest < 3 → (0 < length more) → at + length front ≡ input_limit → SomeSplit at (front ++ more)
-  stays fits short goes f = record { units = []; tail = Cut; splits = record { front = front; rest = more; whole = refl; front_ends = f; goes_on = goes; undecided = inr (record { zeros = m; body = c.body; held = length c.rest; whole = e ∙ ap (started m) (c.whole ∙ ap (λ l. c.body ++ l) (ends-zeros c.rest short c.ends)); inner = c.inner; fits = fits; few = short }) } }
+  stays fits short goes f = record {
+    units = [];
+    tail = Cut;
+    splits = record {
+      front = front;
+      rest = more;
+      whole = refl;
+      front_ends = f;
+      goes_on = goes;
+      undecided = inr (record {
+        zeros = m;
+        body = c.body;
+        held = length c.rest;
+        whole = e ∙
+            ap (started m) (c.whole ∙ ap (λ l. c.body ++ l) (ends-zeros c.rest short c.ends));
+        inner = c.inner;
+        fits = fits;
+        few = short;
+      });
+    };
+  }
 
   coded : ((at' : ℕ) → at' ≡ at + m + 3 + length c.body → 0 < length c.body → SomeSplit at' (c.rest ++ more)) → SomeSplit at (front ++ more)
   coded next = elim (cases_lt unit_limit (length c.body)) [
     | inl h ↦ long h
     | inr fits ↦ elim (cases_lt (length c.rest) 3) [
       | inl short ↦ ending judged fits short
-      | inr three ↦ let f = front-fits at front more judged in let t = total in let n : length (c.rest ++ more) ≡ length c.rest + length more = length-append c.rest more in shown fits (ends-on c.rest more three c.ends) (omega arith) next
+      | inr three ↦ let f = front-fits at front more judged in let t = total in
+          let n : length (c.rest ++ more) ≡ length c.rest + length more = length-append c.rest more in
+          shown fits (ends-on c.rest more three c.ends) (omega arith) next
     ]
   ]
     where
@@ -148,7 +218,8 @@ module _ (at : ℕ) (front more : List ℕ) (judged : IsFront at front more) (m 
           shown fits (subst EndsUnit (sym (append-nil c.rest) ∙ ap (λ l. c.rest ++ l) (sym f.0)) c.ends) (omega arith) next
       ending (inr f) fits short = stays fits short f.0 f.1
 
-after-lead : (fuel at : ℕ) (front more : List ℕ) → IsFront at front more → length front ≤ suc fuel → ((at : ℕ) (l : List ℕ) → IsFront at l more → length l ≤ fuel → SomeSplit at (l ++ more)) → SomeSplit at (front ++ more)
+after-lead : (fuel at : ℕ) (front more : List ℕ) → IsFront at front more → length front ≤ suc fuel →
+    ((at : ℕ) (l : List ℕ) → IsFront at l more → length l ≤ fuel → SomeSplit at (l ++ more)) → SomeSplit at (front ++ more)
 after-lead fuel at front more judged h next = by (lead front).other
   where
     l : Lead front
@@ -159,14 +230,32 @@ after-lead fuel at front more judged h next = by (lead front).other
         let n : length front ≡ l.count = ap length e ∙ length-replicate l.count 0 in
         let k : at + length front ≤ input_limit = f.1 in
         record { units = []; tail = Zeros; splits = (l.count, ap (λ x. front ++ x) f.0 ∙ append-nil front ∙ e, omega arith) }
-    only-zeros e (inr f) = record { units = []; tail = Cut; splits = record { front = front; rest = more; whole = refl; front_ends = f.1; goes_on = f.0; undecided = inl (l.count, e) } }
+    only-zeros e (inr f) = record {
+      units = [];
+      tail = Cut;
+      splits = record { front = front; rest = more; whole = refl; front_ends = f.1; goes_on = f.0; undecided = inl (l.count, e) };
+    }
 
     strays : (b : ℕ) (r : List ℕ) → l.after ≡ b ∷ r → b ≢ 0 → (b ≡ 1 → l.count < 2) → SomeSplit at (front ++ more)
     strays b r e n p =
         let w : front ≡ replicate l.count 0 ++ b ∷ r = l.whole ∙ ap (λ x. replicate l.count 0 ++ x) e in
-        let s : length front ≡ l.count + suc (length r) = ap length w ∙ length-append (replicate l.count 0) (b ∷ r) ∙ ap (λ k. k + suc (length r)) (length-replicate l.count 0) in
+        let s : length front ≡ l.count + suc (length r) = ap length w ∙ length-append (replicate l.count 0) (b ∷ r) ∙
+        ap (λ k. k + suc (length r)) (length-replicate l.count 0) in
         let f = front-fits at front more judged in
-        record { units = []; tail = Stray (at + l.count); splits = record { zeros = l.count; byte = b; rest = r ++ more; whole = ap (λ x. x ++ more) w ∙ append_assoc (replicate l.count 0) (b ∷ r) more; other = n; no_code = p; place_is = refl; shown = omega arith } }
+        record {
+          units = [];
+          tail = Stray (at + l.count);
+          splits = record {
+            zeros = l.count;
+            byte = b;
+            rest = r ++ more;
+            whole = ap (λ x. x ++ more) w ∙ append_assoc (replicate l.count 0) (b ∷ r) more;
+            other = n;
+            no_code = p;
+            place_is = refl;
+            shown = omega arith;
+          };
+        }
 
     codes : (m : ℕ) (r : List ℕ) → front ≡ started m r → SomeSplit at (front ++ more)
     codes m r e = coded at front more judged m r e (ended r) (λ at' p some.
@@ -179,13 +268,18 @@ after-lead fuel at front more judged h next = by (lead front).other
       | inr n ↦ strays o.0 o.1 o.2 o.3 (λ h. absurd (n h))
       | inl one ↦ elim (two? l.count) [
         | inr small ↦ strays o.0 o.1 o.2 o.3 (λ h. small)
-        | inl m ↦ codes m.0 o.1 (l.whole ∙ ap (λ x. replicate l.count 0 ++ x) (o.2 ∙ ap (λ b. b ∷ o.1) one) ∙ ap (λ k. replicate k 0 ++ 1 ∷ o.1) m.1 ∙ sym (code-zeros m.0 o.1))
+        | inl m ↦ codes m.0 o.1 (l.whole ∙ ap (λ x. replicate l.count 0 ++ x) (o.2 ∙ ap (λ b. b ∷ o.1) one) ∙ ap (λ k. replicate k 0 ++ 1 ∷ o.1) m.1 ∙
+            sym (code-zeros m.0 o.1))
       ]
     ]
 
 bounded : (fuel at : ℕ) (front more : List ℕ) → IsFront at front more → length front ≤ fuel → SomeSplit at (front ++ more)
 bounded zero at [] more (inl f) h = record { units = []; tail = Zeros; splits = (0, f.0, omega (arith, f.1)) }
-bounded zero at [] more (inr f) h = record { units = []; tail = Cut; splits = record { front = []; rest = more; whole = refl; front_ends = f.1; goes_on = f.0; undecided = inl (0, refl) } }
+bounded zero at [] more (inr f) h = record {
+  units = [];
+  tail = Cut;
+  splits = record { front = []; rest = more; whole = refl; front_ends = f.1; goes_on = f.0; undecided = inl (0, refl) };
+}
 bounded zero at (x ∷ front) more judged h = absurd (omega arith)
 bounded (suc fuel) at front more judged h = after-lead fuel at front more judged h (λ at l f k. bounded fuel at l more f k)
 
@@ -194,6 +288,7 @@ some-split at bytes h = elim (cases_lt input_limit (at + length bytes)) [
   | inl over ↦ let room = input_limit - at in
       let n = length-take room bytes in
       let d = length-drop room bytes in
-      subst (SomeSplit at) (take-append-drop room bytes) (bounded (length (take room bytes)) at (take room bytes) (drop room bytes) (inr (omega arith, omega arith)) (omega arith))
+      subst (SomeSplit at) (take-append-drop room bytes)
+      (bounded (length (take room bytes)) at (take room bytes) (drop room bytes) (inr (omega arith, omega arith)) (omega arith))
   | inr within ↦ subst (SomeSplit at) (append-nil bytes) (bounded (length bytes) at bytes [] (inl (refl, within)) (omega arith))
 ]

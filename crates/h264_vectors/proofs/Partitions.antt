@@ -1,5 +1,6 @@
 -- The blocks of a partition are predicted alike, once all parts of the macroblock are derived.
-use Rattle.std.proofs.Common.{◌≡◌, ◌≢◌, ℕ, zero, suc, ◌+◌, ◌*◌, ◌/◌, ◌%◌, ◌<◌, ◌==◌, nat_lt, Bool, true, false, ◌&&◌, List, [], ◌∷◌, replicate, get_or, Option, None, refl, sym, ap, ◌∙◌, arith, if◌then◌else◌}
+use Rattle.std.proofs.Common.{◌≡◌, ◌≢◌, ℕ, zero, suc, ◌+◌, ◌*◌, ◌/◌, ◌%◌, ◌<◌, ◌==◌, nat_lt, Bool, true, false, ◌&&◌, List, [], ◌∷◌, replicate, get_or}
+use Rattle.std.proofs.Common.{Option, None, refl, sym, ap, ◌∙◌, arith, if◌then◌else◌}
 use Rattle.std.specs.Prelude.{Result, Ok, Err, OnOk}
 use Rattle.std.specs.List.{list_all, range_with_len}
 use Rattle.std.proofs.lemmas.Bool.{ltb-true, false≢true}
@@ -35,12 +36,16 @@ on-ok (Err e) p = tt
 pub stay-same : (parts : List Part) (motions : List (Option Motion)) → StayAlike parts motions motions
 stay-same parts motions = record { each = λ i j h k side e. e }
 
-with-at : (motions : List (Option Motion)) (p : Part) (m : Motion) (n : ℕ) → n < 16 → get_or (with_part motions p m) n None ≡ in_part p n m (get_or motions n None)
+with-at : (motions : List (Option Motion)) (p : Part) (m : Motion) (n : ℕ) → n < 16 →
+    get_or (with_part motions p m) n None ≡ in_part p n m (get_or motions n None)
 unfolding with_part
 with-at motions p m n h = get_or-map-range_with_len (λ n. in_part p n m (get_or motions n None)) 0 16 n n None h (omega arith)
 
 pub stay-with : (motions : List (Option Motion)) (p : Part) (m : Motion) → StayAlike (p ∷ []) motions (with_part motions p m)
-stay-with motions p m = record { each = λ i j h k side e. with-at motions p m i h ∙ go i j (is_inside p i) (is_inside p j) refl refl (both (is_on_one_side p i j) true side).0 e ∙ sym (with-at motions p m j k) }
+stay-with motions p m = record {
+  each = λ i j h k side e. with-at motions p m i h ∙
+      go i j (is_inside p i) (is_inside p j) refl refl (both (is_on_one_side p i j) true side).0 e ∙ sym (with-at motions p m j k);
+}
   where
     go : (i j : ℕ) (a b : Bool) → is_inside p i ≡ a → is_inside p j ≡ b → is_on_one_side p i j ≡ true → get_or motions i None ≡ get_or motions j None →
         in_part p i m (get_or motions i None) ≡ in_part p j m (get_or motions j None)
@@ -72,7 +77,8 @@ all-below p n k e h = let same : 0 + k ≡ k = omega arith in sym (ap p same) �
 abbrev are_parted : Partition → List Part → Bool
 are_parted partition parts = list_all (λ n. nat_lt (first_of partition n) 16 && are_on_one_side parts n (first_of partition n)) (range_with_len 0 16)
 
-moves-by : (partition : Partition) (parts : List Part) (old new : List (Option Motion)) → are_parted partition parts ≡ true → old ≡ replicate 16 None → StayAlike parts old new → MovesByPartition partition new
+moves-by : (partition : Partition) (parts : List Part) (old new : List (Option Motion)) → are_parted partition parts ≡ true → old ≡ replicate 16 None →
+    StayAlike parts old new → MovesByPartition partition new
 moves-by partition parts old new e none stay = record {
   each = λ n h.
       let s = both _ _ (all-below (λ n. nat_lt (first_of partition n) 16 && are_on_one_side parts n (first_of partition n)) 16 n e h) in
@@ -80,15 +86,18 @@ moves-by partition parts old new e none stay = record {
       stay.each n (first_of partition n) h k s.1 (rw none (get_or-replicate 16 n None None h ∙ sym (get_or-replicate 16 (first_of partition n) None None k)));
 }
 
-pub moves16x16 : (old new : List (Option Motion)) → old ≡ replicate 16 None → StayAlike (part 0 0 4 4 direction.Median ∷ []) old new → MovesByPartition P16x16 new
+pub moves16x16 : (old new : List (Option Motion)) → old ≡ replicate 16 None → StayAlike (part 0 0 4 4 direction.Median ∷ []) old new →
+    MovesByPartition P16x16 new
 unfolding column_of row_of
 moves16x16 old new none stay = moves-by P16x16 _ old new refl none stay
 
-pub moves16x8 : (old new : List (Option Motion)) → old ≡ replicate 16 None → StayAlike (part 0 0 4 2 direction.FromB ∷ part 0 2 4 2 direction.FromA ∷ []) old new → MovesByPartition P16x8 new
+pub moves16x8 : (old new : List (Option Motion)) → old ≡ replicate 16 None →
+    StayAlike (part 0 0 4 2 direction.FromB ∷ part 0 2 4 2 direction.FromA ∷ []) old new → MovesByPartition P16x8 new
 unfolding column_of row_of
 moves16x8 old new none stay = moves-by P16x8 _ old new refl none stay
 
-pub moves8x16 : (old new : List (Option Motion)) → old ≡ replicate 16 None → StayAlike (part 0 0 2 4 direction.FromA ∷ part 2 0 2 4 direction.FromC ∷ []) old new → MovesByPartition P8x16 new
+pub moves8x16 : (old new : List (Option Motion)) → old ≡ replicate 16 None →
+    StayAlike (part 0 0 2 4 direction.FromA ∷ part 2 0 2 4 direction.FromC ∷ []) old new → MovesByPartition P8x16 new
 unfolding column_of row_of
 moves8x16 old new none stay = moves-by P8x16 _ old new refl none stay
 
@@ -147,18 +156,21 @@ unfolding column_of row_of
 kept3 = refl
 
 -- no partition of this sub-macroblock, which is of type t, or of another one, of type s
-kept : (q x y t s n : ℕ) (b : Bool) → keeps_all q x y ≡ true → n < 16 → (n / 4 == q) ≡ b → are_on_one_side (sub_parts_of x y t) n (first_by (if b then t else s) n) ≡ true
+kept : (q x y t s n : ℕ) (b : Bool) → keeps_all q x y ≡ true → n < 16 → (n / 4 == q) ≡ b →
+    are_on_one_side (sub_parts_of x y t) n (first_by (if b then t else s) n) ≡ true
 kept q x y t s n b e h i =
     let of_t = all-below (λ t. list_all (λ s. list_all (keeps_block q x y t s) (range_with_len 0 16)) (range_with_len 0 4)) 4 (within3 t) e (within-small t) in
     let of_s = all-below (λ s. list_all (keeps_block q x y (within3 t) s) (range_with_len 0 16)) 4 (within3 s) of_t (within-small s) in
     go b i (all-below (keeps_block q x y (within3 t) (within3 s)) 16 n of_s h)
   where
-    go : (b : Bool) → (n / 4 == q) ≡ b → keeps_block q x y (within3 t) (within3 s) n ≡ true → are_on_one_side (sub_parts_of x y t) n (first_by (if b then t else s) n) ≡ true
+    go : (b : Bool) → (n / 4 == q) ≡ b → keeps_block q x y (within3 t) (within3 s) n ≡ true →
+        are_on_one_side (sub_parts_of x y t) n (first_by (if b then t else s) n) ≡ true
     go true i k = rw (within-parts x y t, within-type t) (rw i at k)
     go false i k = rw (within-parts x y t, within-type s) (rw i at k)
 
 -- blocks of four sub-macroblocks, after the parts of each
-pub moves8x8 : (t0 t1 t2 t3 : ℕ) (a b c d e : List (Option Motion)) → a ≡ replicate 16 None → StayAlike (sub_parts_of 0 0 t0) a b → StayAlike (sub_parts_of 2 0 t1) b c → StayAlike (sub_parts_of 0 2 t2) c d → StayAlike (sub_parts_of 2 2 t3) d e →
+pub moves8x8 : (t0 t1 t2 t3 : ℕ) (a b c d e : List (Option Motion)) → a ≡ replicate 16 None → StayAlike (sub_parts_of 0 0 t0) a b →
+    StayAlike (sub_parts_of 2 0 t1) b c → StayAlike (sub_parts_of 0 2 t2) c d → StayAlike (sub_parts_of 2 2 t3) d e →
     MovesByPartition (P8x8 (sub_partition_of t0 ∷ sub_partition_of t1 ∷ sub_partition_of t2 ∷ sub_partition_of t3 ∷ [])) e
 moves8x8 t0 t1 t2 t3 a b c d e none first second third fourth = record { each = λ n h. by_quarter n h (n / 4) refl }
   where
@@ -169,7 +181,8 @@ moves8x8 t0 t1 t2 t3 a b c d e none first second third fourth = record { each = 
     small (suc (suc (suc t))) n h = omega arith
 
     of_type : (n t : ℕ) (b0 b1 b2 b3 : Bool) → n < 16 → (n / 4 == 0) ≡ b0 → (n / 4 == 1) ≡ b1 → (n / 4 == 2) ≡ b2 → (n / 4 == 3) ≡ b3 →
-        (if b0 then t0 else t) ≡ t → (if b1 then t1 else t) ≡ t → (if b2 then t2 else t) ≡ t → (if b3 then t3 else t) ≡ t → get_or e n None ≡ get_or e (first_by t n) None
+        (if b0 then t0 else t) ≡ t → (if b1 then t1 else t) ≡ t → (if b2 then t2 else t) ≡ t → (if b3 then t3 else t) ≡ t →
+        get_or e n None ≡ get_or e (first_by t n) None
     of_type n t b0 b1 b2 b3 h i0 i1 i2 i3 e0 e1 e2 e3 =
         let k = small t n h in
         let m = first_by t n in
@@ -181,10 +194,14 @@ moves8x8 t0 t1 t2 t3 a b c d e none first second third fourth = record { each = 
     types = sub_partition_of t0 ∷ sub_partition_of t1 ∷ sub_partition_of t2 ∷ sub_partition_of t3 ∷ []
 
     by_quarter : (n : ℕ) → n < 16 → (q : ℕ) → n / 4 ≡ q → get_or e n None ≡ get_or e (first_of (P8x8 types) n) None
-    by_quarter n h zero q = of_type n t0 true false false false h (rw q refl) (rw q refl) (rw q refl) (rw q refl) refl refl refl refl ∙ ap (λ z. get_or e (n / 4 * 4 + first_in_sub (get_or types z sub.P8x8) (n % 4)) None) (sym q)
-    by_quarter n h (suc zero) q = of_type n t1 false true false false h (rw q refl) (rw q refl) (rw q refl) (rw q refl) refl refl refl refl ∙ ap (λ z. get_or e (n / 4 * 4 + first_in_sub (get_or types z sub.P8x8) (n % 4)) None) (sym q)
-    by_quarter n h (suc (suc zero)) q = of_type n t2 false false true false h (rw q refl) (rw q refl) (rw q refl) (rw q refl) refl refl refl refl ∙ ap (λ z. get_or e (n / 4 * 4 + first_in_sub (get_or types z sub.P8x8) (n % 4)) None) (sym q)
-    by_quarter n h (suc (suc (suc zero))) q = of_type n t3 false false false true h (rw q refl) (rw q refl) (rw q refl) (rw q refl) refl refl refl refl ∙ ap (λ z. get_or e (n / 4 * 4 + first_in_sub (get_or types z sub.P8x8) (n % 4)) None) (sym q)
+    by_quarter n h zero q = of_type n t0 true false false false h (rw q refl) (rw q refl) (rw q refl) (rw q refl) refl refl refl refl ∙
+        ap (λ z. get_or e (n / 4 * 4 + first_in_sub (get_or types z sub.P8x8) (n % 4)) None) (sym q)
+    by_quarter n h (suc zero) q = of_type n t1 false true false false h (rw q refl) (rw q refl) (rw q refl) (rw q refl) refl refl refl refl ∙
+        ap (λ z. get_or e (n / 4 * 4 + first_in_sub (get_or types z sub.P8x8) (n % 4)) None) (sym q)
+    by_quarter n h (suc (suc zero)) q = of_type n t2 false false true false h (rw q refl) (rw q refl) (rw q refl) (rw q refl) refl refl refl refl ∙
+        ap (λ z. get_or e (n / 4 * 4 + first_in_sub (get_or types z sub.P8x8) (n % 4)) None) (sym q)
+    by_quarter n h (suc (suc (suc zero))) q = of_type n t3 false false false true h (rw q refl) (rw q refl) (rw q refl) (rw q refl) refl refl refl refl ∙
+        ap (λ z. get_or e (n / 4 * 4 + first_in_sub (get_or types z sub.P8x8) (n % 4)) None) (sym q)
     by_quarter n h (suc (suc (suc (suc q)))) f = absurd (omega arith)
 
 -- mb_type 3 and 4

@@ -1,5 +1,6 @@
 -- References and vectors of the blocks of a macroblock, part by part.
-use Rattle.std.proofs.Common.{◌≡◌, ◌≢◌, ◌==◌, ℕ, zero, suc, Bool, true, false, List, [], ◌∷◌, ◌++◌, map, replicate, get_or, ℤ, Option, Some, None, Result, Ok, Err, refl, ap, sym, ◌∙◌, if◌then◌else◌}
+use Rattle.std.proofs.Common.{◌≡◌, ◌≢◌, ◌==◌, ℕ, zero, suc, Bool, true, false, List, [], ◌∷◌, ◌++◌, map, replicate, get_or, ℤ, Option, Some, None, Result, Ok}
+use Rattle.std.proofs.Common.{Err, refl, ap, sym, ◌∙◌, if◌then◌else◌}
 use Rattle.std.specs.Option.{is_some}
 use Rattle.std.proofs.lemmas.Bool.{eqb-true}
 use Rattle.std.specs.List.{range_with_len}
@@ -26,7 +27,8 @@ pub places-with : (motions : List (Option Motion)) (p : Part) (m : Motion) → m
 unfolding with_part places_with
 places-with motions p m = go (range_with_len 0 16)
   where
-    go : (ns : List ℕ) → map is_some (map (λ n. in_part p n m (get_or motions n None)) ns) ≡ map (λ n. if is_inside p n then true else get_or (map is_some motions) n false) ns
+    go : (ns : List ℕ) → map is_some (map (λ n. in_part p n m (get_or motions n None)) ns) ≡
+        map (λ n. if is_inside p n then true else get_or (map is_some motions) n false) ns
     go [] = refl
     go (n ∷ ns) = rw (picked (is_inside p n) m (get_or motions n None) _ (sym (math.get_or-map is_some motions n None)), go ns) refl
 
@@ -39,12 +41,15 @@ some-of true v w e = (refl, cc)
 some-of false v w e = absurd (cc)
 
 -- the last of the parts with one index gives what they all give
-pub last : {X A S : Type 0} {took : S → List Call → Type 0} {failures : S → ℕ} {R : X → A → Type 0} {g : Grammar A} {old new : Reader} {s s' : S} (r : Result X Stop) → Meets (span took failures s s') R g old new r → Meets (span took failures s s') R (g >>= (λ v. Done v)) old new r
+pub last : {X A S : Type 0} {took : S → List Call → Type 0} {failures : S → ℕ} {R : X → A → Type 0} {g : Grammar A} {old new : Reader} {s s' : S}
+    (r : Result X Stop) → Meets (span took failures s s') R g old new r → Meets (span took failures s s') R (g >>= (λ v. Done v)) old new r
 last (Ok x) m = bind_as _ m (λ v e. done _ _ _ _ _ _ _ e)
 last (Err e) m = stop _ m
 
 -- once a vector has left its range
-pub derive-off : (width : ℕ) (slice : SliceContext) (picture : List CodedMacroblock) (blocks : List (Option Motion)) (places : List Bool) (d : Derived) (p : Part) (i : ℕ) (across down : ℤ) → Agrees false blocks places d → Agrees false blocks (places_with places p) (derive width slice picture d (record { place = p; ref_idx = i }) (record { across = across; down = down }))
+pub derive-off : (width : ℕ) (slice : SliceContext) (picture : List CodedMacroblock) (blocks : List (Option Motion)) (places : List Bool) (d : Derived)
+    (p : Part) (i : ℕ) (across down : ℤ) → Agrees false blocks places d →
+    Agrees false blocks (places_with places p) (derive width slice picture d (record { place = p; ref_idx = i }) (record { across = across; down = down }))
 unfolding derive with_vector
 derive-off width slice picture blocks places d p i across down a = record {
   fits = rw (sym a.fits) refl;
@@ -52,7 +57,10 @@ derive-off width slice picture blocks places d p i across down a = record {
   derived = places-with d.motions p _ ∙ ap (λ s. places_with s p) a.derived;
 }
 
-pub derive-out : (width : ℕ) (slice : SliceContext) (picture : List CodedMacroblock) (blocks : List (Option Motion)) (places : List Bool) (d : Derived) (p : Part) (i : ℕ) (across down : ℤ) (predicted : Vector) → Agrees true blocks places d → predicted ≡ predicted_vector width picture slice.number blocks p i → vector_fits slice.vector_limit (moved predicted across down) ≡ false → Agrees false blocks (places_with places p) (derive width slice picture d (record { place = p; ref_idx = i }) (record { across = across; down = down }))
+pub derive-out : (width : ℕ) (slice : SliceContext) (picture : List CodedMacroblock) (blocks : List (Option Motion)) (places : List Bool) (d : Derived)
+    (p : Part) (i : ℕ) (across down : ℤ) (predicted : Vector) → Agrees true blocks places d →
+    predicted ≡ predicted_vector width picture slice.number blocks p i → vector_fits slice.vector_limit (moved predicted across down) ≡ false →
+    Agrees false blocks (places_with places p) (derive width slice picture d (record { place = p; ref_idx = i }) (record { across = across; down = down }))
 unfolding derive with_vector
 derive-out width slice picture blocks places d p i across down predicted a e o =
     let q : predicted ≡ predicted_vector width picture slice.number d.motions p i = rw (a.same refl) at e in
@@ -62,7 +70,11 @@ derive-out width slice picture blocks places d p i across down predicted a e o =
       derived = places-with d.motions p _ ∙ ap (λ s. places_with s p) a.derived;
     }
 
-pub derive-in : (width : ℕ) (slice : SliceContext) (picture : List CodedMacroblock) (blocks next : List (Option Motion)) (places : List Bool) (d : Derived) (p : Part) (i : ℕ) (across down : ℤ) (predicted v : Vector) → Agrees true blocks places d → predicted ≡ predicted_vector width picture slice.number blocks p i → vector_fits slice.vector_limit (moved predicted across down) ≡ true → v ≡ moved predicted across down → next ≡ with_part blocks p (motion_of slice i v) → Agrees true next (places_with places p) (derive width slice picture d (record { place = p; ref_idx = i }) (record { across = across; down = down }))
+pub derive-in : (width : ℕ) (slice : SliceContext) (picture : List CodedMacroblock) (blocks next : List (Option Motion)) (places : List Bool) (d : Derived)
+    (p : Part) (i : ℕ) (across down : ℤ) (predicted v : Vector) → Agrees true blocks places d →
+    predicted ≡ predicted_vector width picture slice.number blocks p i → vector_fits slice.vector_limit (moved predicted across down) ≡ true →
+    v ≡ moved predicted across down → next ≡ with_part blocks p (motion_of slice i v) →
+    Agrees true next (places_with places p) (derive width slice picture d (record { place = p; ref_idx = i }) (record { across = across; down = down }))
 unfolding derive with_vector
 derive-in width slice picture blocks next places d p i across down predicted v a e o f n =
     let q : predicted ≡ predicted_vector width picture slice.number d.motions p i = rw (a.same refl) at e in

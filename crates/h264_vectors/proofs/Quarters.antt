@@ -1,5 +1,6 @@
 -- Parts that are made of whole 8x8 blocks, and what is kept of them block by block.
-use Rattle.std.proofs.Common.{◌≡◌, ◌≢◌, ℕ, zero, suc, ◌+◌, ◌*◌, ◌/◌, ◌%◌, ◌<◌, ◌≤◌, Bool, true, false, List, length, set, get_or, Option, Some, None, refl, sym, ◌∙◌, arith, ◌⊎◌, inl, inr, ◌&&◌, nat_lt, if◌then◌else◌}
+use Rattle.std.proofs.Common.{◌≡◌, ◌≢◌, ℕ, zero, suc, ◌+◌, ◌*◌, ◌/◌, ◌%◌, ◌<◌, ◌≤◌, Bool, true, false, List, length, set, get_or, Option, Some, None, refl}
+use Rattle.std.proofs.Common.{sym, ◌∙◌, arith, ◌⊎◌, inl, inr, ◌&&◌, nat_lt, if◌then◌else◌}
 use Rattle.std.proofs.lemmas.Bool.{cases_lt, lt-ltb, le-ltb}
 use Rattle.std.proofs.lemmas.Bool.Decides.{eqb_tells}
 use Rattle.std.proofs.lemmas.List.{ext_get_or, get_or-set_other, length-set}
@@ -33,10 +34,12 @@ inside-quarter p q k w e =
     rw (column, row, lies-even p.x p.wide (q % 2) (k % 2) w.0 w.1 (omega arith), lies-even p.y p.high (q / 2) (k / 2 % 2) w.2 w.3 (omega arith)) refl
 
 -- the rule by quarters, where it is known whether the part has the quarter
-by-quarter : (p : Part) (q k : ℕ) (m : Motion) (old : Option Motion) (on : Bool) → IsOfQuarters p → has_quarter p q ≡ on → k / 4 ≡ q → in_part p k m old ≡ (if on then Some m else old)
+by-quarter : (p : Part) (q k : ℕ) (m : Motion) (old : Option Motion) (on : Bool) → IsOfQuarters p → has_quarter p q ≡ on → k / 4 ≡ q →
+    in_part p k m old ≡ (if on then Some m else old)
 by-quarter p q k m old on w h e = rw (inside-quarter p q k w e, h) refl
 
-pub none-filled : (motions : List (Option Motion)) (p : Part) (q : ℕ) (m : Motion) → IsOfQuarters p → has_quarter p q ≡ false → IsQuarterFilled motions motions p q m
+pub none-filled : (motions : List (Option Motion)) (p : Part) (q : ℕ) (m : Motion) → IsOfQuarters p → has_quarter p q ≡ false →
+    IsQuarterFilled motions motions p q m
 none-filled motions p q m w h k few = elim (eqb_tells (k / 4) q) [
   | inl same ↦ rw (same.0, by-quarter p q k m (get_or motions k None) false w h same.1) refl
   | inr other ↦ rw other.0 refl
@@ -46,9 +49,15 @@ none-filled motions p q m w h k few = elim (eqb_tells (k / 4) q) [
 abbrev four_set : List (Option Motion) → ℕ → Option Motion → List (Option Motion)
 four_set l i a = set (set (set (set l i a) (i + 1) a) (i + 2) a) (i + 3) a
 
-four-other : (l : List (Option Motion)) (i k : ℕ) (a : Option Motion) → k ≢ i → k ≢ i + 1 → k ≢ i + 2 → k ≢ i + 3 → get_or (four_set l i a) k None ≡ get_or l k None
+four-other : (l : List (Option Motion)) (i k : ℕ) (a : Option Motion) → k ≢ i → k ≢ i + 1 → k ≢ i + 2 → k ≢ i + 3 →
+    get_or (four_set l i a) k None ≡ get_or l k None
 four-other l i k a e f g h =
-    rw (get_or-set_other (set (set (set l i a) (i + 1) a) (i + 2) a) (i + 3) k a None h, get_or-set_other (set (set l i a) (i + 1) a) (i + 2) k a None g, get_or-set_other (set l i a) (i + 1) k a None f, get_or-set_other l i k a None e) refl
+    rw (
+      get_or-set_other (set (set (set l i a) (i + 1) a) (i + 2) a) (i + 3) k a None h,
+      get_or-set_other (set (set l i a) (i + 1) a) (i + 2) k a None g,
+      get_or-set_other (set l i a) (i + 1) k a None f,
+      get_or-set_other l i k a None e,
+    ) refl
 
 -- the last write to a place, or one before it
 one-set : (l : List (Option Motion)) (i k : ℕ) (a : Option Motion) → i < length l → (k ≡ i) ⊎ (get_or l k None ≡ a) → get_or (set l i a) k None ≡ a
@@ -74,14 +83,18 @@ four-same l i k a long few low high =
       ]))
     ])
 
-pub one-filled : (motions : List (Option Motion)) (p : Part) (q : ℕ) (m : Motion) → length motions ≡ 16 → q < 4 → IsOfQuarters p → has_quarter p q ≡ true → IsQuarterFilled motions (four_set motions (4 * q) (Some m)) p q m
+pub one-filled : (motions : List (Option Motion)) (p : Part) (q : ℕ) (m : Motion) → length motions ≡ 16 → q < 4 → IsOfQuarters p → has_quarter p q ≡ true →
+    IsQuarterFilled motions (four_set motions (4 * q) (Some m)) p q m
 one-filled motions p q m long small w h k few = elim (eqb_tells (k / 4) q) [
-  | inl same ↦ let e = same.1 in rw (same.0, by-quarter p q k m (get_or motions k None) true w h e) (four-same motions (4 * q) k (Some m) long (omega arith) (omega arith) (omega arith))
-  | inr other ↦ let e = other.1 in rw other.0 (four-other motions (4 * q) k (Some m) (λ f. e (omega arith)) (λ f. e (omega arith)) (λ f. e (omega arith)) (λ f. e (omega arith)))
+  | inl same ↦ let e = same.1 in rw (same.0, by-quarter p q k m (get_or motions k None) true w h e)
+      (four-same motions (4 * q) k (Some m) long (omega arith) (omega arith) (omega arith))
+  | inr other ↦ let e = other.1 in rw other.0
+      (four-other motions (4 * q) k (Some m) (λ f. e (omega arith)) (λ f. e (omega arith)) (λ f. e (omega arith)) (λ f. e (omega arith)))
 ]
 
 -- four quarters are all blocks
-pub all-filled : (a b c d e : List (Option Motion)) (p : Part) (m : Motion) → length e ≡ 16 → IsQuarterFilled a b p 0 m → IsQuarterFilled b c p 1 m → IsQuarterFilled c d p 2 m → IsQuarterFilled d e p 3 m → e ≡ with_part a p m
+pub all-filled : (a b c d e : List (Option Motion)) (p : Part) (m : Motion) → length e ≡ 16 → IsQuarterFilled a b p 0 m → IsQuarterFilled b c p 1 m →
+    IsQuarterFilled c d p 2 m → IsQuarterFilled d e p 3 m → e ≡ with_part a p m
 unfolding with_part
 all-filled a b c d e p m long first second third fourth =
     ext_get_or None e (with_part a p m) (long ∙ sym (length-map-range_with_len (λ n. in_part p n m (get_or a n None)) 0 16))

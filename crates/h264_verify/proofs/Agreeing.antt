@@ -12,7 +12,8 @@ pub each-slice : {P Q : CodedSlice → Type 0} → ((s : CodedSlice) → P s →
 each-slice f [] h = tt
 each-slice f (s ∷ slices) h = (f s h.0, each-slice f slices h.1)
 
-pub refers-agree : (frames others : ℕ → Frame) (p : CodedPicture) (ps : List CodedPicture) (place : ℕ → ℕ) (reference : ℕ → Component → ℕ → ℕ → ℕ) → Agree (length ps) frames others → (s : CodedSlice) → Refers frames p ps place reference s → Refers others p ps place reference s
+pub refers-agree : (frames others : ℕ → Frame) (p : CodedPicture) (ps : List CodedPicture) (place : ℕ → ℕ) (reference : ℕ → Component → ℕ → ℕ → ℕ) →
+    Agree (length ps) frames others → (s : CodedSlice) → Refers frames p ps place reference s → Refers others p ps place reference s
 refers-agree frames others p ps place reference a s h = record {
   before = h.before;
   samples = λ k n l e c x y. h.samples k n l e c x y ∙ ap (λ (f : Frame). at (plane_of c f) x y) (a n (h.before k n l e));

@@ -46,7 +46,8 @@ of-more m n (Shows e ∷ told) l h = (omega (arith, l, h.0), of-more m n told l 
 
 -- ---- decoded pictures
 
-pub decoded-agree : (n : ℕ) (frames others : ℕ → Frame) (p : CodedPicture) (ps : List CodedPicture) → length (p ∷ ps) ≤ n → Agree n frames others → HasFrame frames (p ∷ ps) → HasFrame others (p ∷ ps)
+pub decoded-agree : (n : ℕ) (frames others : ℕ → Frame) (p : CodedPicture) (ps : List CodedPicture) → length (p ∷ ps) ≤ n → Agree n frames others →
+    HasFrame frames (p ∷ ps) → HasFrame others (p ∷ ps)
 decoded-agree n frames others p ps l a h =
     let a' : Agree (length ps) frames others = λ k m. a k (omega (arith, l, m)) in
     let d : IsDecoded others p ps (frames (length ps)) = record {
@@ -70,11 +71,13 @@ calls-agree n frames others (Shows e ∷ told) a h =
     ap (λ (f : Frame). frame_call e.count f e.of.rectangle ∷ calls_of frames told) (a e.of.picture h.0)
     ∙ ap (λ (l : List Call). shown_call others e ∷ l) (calls-agree n frames others told a h.1)
 
-pub decoded-told-agree : (n : ℕ) (frames others : ℕ → Frame) (told : List Told) → Agree n frames others → AreOf n told → AreDecoded frames told → AreDecoded others told
+pub decoded-told-agree : (n : ℕ) (frames others : ℕ → Frame) (told : List Told) → Agree n frames others → AreOf n told → AreDecoded frames told →
+    AreDecoded others told
 decoded-told-agree n frames others [] a h d = tt
 decoded-told-agree n frames others (Said call ∷ told) a h d = decoded-told-agree n frames others told a h.1 d
 decoded-told-agree n frames others (Decodes [] ∷ told) a h d = (tt, decoded-told-agree n frames others told a h.1 d.1)
-decoded-told-agree n frames others (Decodes (p ∷ ps) ∷ told) a h d = (decoded-agree n frames others p ps h.0 a d.0, decoded-told-agree n frames others told a h.1 d.1)
+decoded-told-agree n frames others (Decodes (p ∷ ps) ∷ told) a h d =
+    (decoded-agree n frames others p ps h.0 a d.0, decoded-told-agree n frames others told a h.1 d.1)
 decoded-told-agree n frames others (Shows e ∷ told) a h d = decoded-told-agree n frames others told a h.1 d
 
 pub calls-both : (frames : ℕ → Frame) (xs ys : List Told) → calls_of frames (xs ++ ys) ≡ calls_of frames xs ++ calls_of frames ys
@@ -103,11 +106,13 @@ none-said frames = (tt, refl)
 
 -- calls, as they are
 as-said : (frames : ℕ → Frame) (calls : List Call) → took_with frames (λ (l k : List Call). k ≡ l) calls (map Said calls)
-as-said frames calls = (tells-said frames (λ (l k : List Call). k ≡ l) [] calls calls (record { told = λ before e. ap (λ (l : List Call). l ++ calls) e })).told [] (none-said frames)
+as-said frames calls = (tells-said frames (λ (l k : List Call). k ≡ l) [] calls calls
+    (record { told = λ before e. ap (λ (l : List Call). l ++ calls) e })).told [] (none-said frames)
 
 module _ {S : Type 0} (took : S → List Call → Type 0) (n : ℕ) (frames others : ℕ → Frame) where
   -- Before it, the calls may have been made as they are, with no frames.
-  pub tells-agree : (s s' : S) (more : List Told) → Agree n frames others → AreOf n more → Tells (took_with frames took) s s' more → Tells (took_with others took) s s' more
+  pub tells-agree : (s s' : S) (more : List Told) → Agree n frames others → AreOf n more → Tells (took_with frames took) s s' more →
+      Tells (took_with others took) s s' more
   unfolding took_with
   tells-agree s s' more agree of t = record {
     told = λ before h.
@@ -115,11 +120,15 @@ module _ {S : Type 0} (took : S → List Call → Type 0) (n : ℕ) (frames othe
         let said = as-said frames calls in
         let k = t.told (map Said calls) (said.0, subst (took s) (sym said.1) h.1) in
         let same : calls_of frames (map Said calls ++ more) ≡ calls_of others (before ++ more) =
-        calls-both frames (map Said calls) more ∙ ap (λ (l : List Call). l ++ calls_of frames more) said.1 ∙ ap (λ (l : List Call). calls ++ l) (calls-agree n frames others more agree of) ∙ sym (calls-both others before more) in
-        (decoded-both others before more h.0 (decoded-told-agree n frames others more agree of (decoded-last frames (map Said calls) more k.0)), subst (took s') same k.1);
+        calls-both frames (map Said calls) more ∙ ap (λ (l : List Call). l ++ calls_of frames more) said.1 ∙
+        ap (λ (l : List Call). calls ++ l) (calls-agree n frames others more agree of) ∙ sym (calls-both others before more) in (
+          decoded-both others before more h.0 (decoded-told-agree n frames others more agree of (decoded-last frames (map Said calls) more k.0)),
+          subst (took s') same k.1,
+        );
   }
 
-  pub front-agree : (s s' : S) (more : List Told) → Agree n frames others → AreOf n more → TellsFront (took_with frames took) s s' more → TellsFront (took_with others took) s s' more
+  pub front-agree : (s s' : S) (more : List Told) → Agree n frames others → AreOf n more → TellsFront (took_with frames took) s s' more →
+      TellsFront (took_with others took) s s' more
   front-agree s s' more agree of t = record {
     front = t.front;
     rest = t.rest;
@@ -127,7 +136,8 @@ module _ {S : Type 0} (took : S → List Call → Type 0) (n : ℕ) (frames othe
     tells = tells-agree s s' t.front agree (of-front n t.front t.rest (subst (AreOf n) t.whole of)) t.tells;
   }
 
-  pub plays-agree : {X A : Type 0} (failures : S → ℕ) (view : X → A) (o : Outcome A) (s s' : S) (r : Result X Stop) → Agree n frames others → AreOf n o.calls → Plays (span (took_with frames took) failures s s') view o r → Plays (span (took_with others took) failures s s') view o r
+  pub plays-agree : {X A : Type 0} (failures : S → ℕ) (view : X → A) (o : Outcome A) (s s' : S) (r : Result X Stop) → Agree n frames others →
+      AreOf n o.calls → Plays (span (took_with frames took) failures s s') view o r → Plays (span (took_with others took) failures s s') view o r
   plays-agree {X} {A} failures view o s s' r agree of p = record { plays = by r p.plays }
     where
       by : (r : Result X Stop) → PlaysBy (span (took_with frames took) failures s s') view o r → PlaysBy (span (took_with others took) failures s s') view o r

@@ -45,9 +45,11 @@ ends-within p ps s room =
 
 -- ---- of units that are legal
 
-module _ (target : Target) (before : History) (told : List Told) (l : AreLegal (terms_of modes.Full target) before told) (later : List CodedPicture) (p : CodedPicture) (ps : List CodedPicture) where
+module _ (target : Target) (before : History) (told : List Told) (l : AreLegal (terms_of modes.Full target) before told) (later : List CodedPicture)
+    (p : CodedPicture) (ps : List CodedPicture) where
   newest : runs_of before ≡ later ++ p ∷ ps → (e : Bool) × AreSound e (p ∷ ps)
-  newest e = sound-at (has_ended (goes_on before) false) later p ps (subst (λ (all : List CodedPicture). AreSound (has_ended (goes_on before) false) all) e (stands target before told l).sound)
+  newest e = sound-at (has_ended (goes_on before) false) later p ps
+      (subst (λ (all : List CodedPicture). AreSound (has_ended (goes_on before) false) all) e (stands target before told l).sound)
 
   pub legal-predicted : runs_of before ≡ later ++ p ∷ ps → ArePredicted p ps
   legal-predicted e = are-predicted p ps (read-at later p ps (subst AreRead e (stands target before told l).read)).slices
@@ -60,18 +62,21 @@ module _ (target : Target) (before : History) (told : List Told) (l : AreLegal (
 
   pub legal-ends : ended_pictures (goes_on before) false (runs_of before) ≡ later ++ p ∷ ps → EndsWithin p ps
   legal-ends e =
-      ends-within p ps (ended-at later p ps (subst (λ (all : List CodedPicture). AreSound true all) e (ended-are (goes_on before) (runs_of before) (stands target before told l).sound)))
+      ends-within p ps (ended-at later p ps (subst (λ (all : List CodedPicture). AreSound true all) e
+      (ended-are (goes_on before) (runs_of before) (stands target before told l).sound)))
       (room-at later p ps (subst EachRoom e (ended-room (goes_on before) (runs_of before) (legal-room target before told l))))
 
 -- ---- of a stream whose end is legal too
 
-module _ (target : Target) (units : History) (first last : List Told) (bit : ℕ) (l : AreLegal (terms_of modes.Full target) units first) (end : AreMet (end_steps modes.Full units bit) last) where
+module _ (target : Target) (units : History) (first last : List Told) (bit : ℕ) (l : AreLegal (terms_of modes.Full target) units first)
+    (end : AreMet (end_steps modes.Full units bit) last) where
   is-decodable : (later : List CodedPicture) (p : CodedPicture) (ps : List CodedPicture) → runs_of units ≡ later ++ p ∷ ps → IsDecodable p ps
   is-decodable later p ps e = record {
     predicted = legal-predicted target units first l later p ps e;
     held = legal-among target units first l later p ps e;
     decodes = legal-decodes target units first l later p ps e;
-    ends = ends-within p ps (ended-at later p ps (subst (λ (all : List CodedPicture). AreSound true all) e (all-sound target units first last bit l end))) (room-at later p ps (subst EachRoom e (legal-room target units first l)));
+    ends = ends-within p ps (ended-at later p ps (subst (λ (all : List CodedPicture). AreSound true all) e (all-sound target units first last bit l end)))
+        (room-at later p ps (subst EachRoom e (legal-room target units first l)));
   }
 
   each-decodable : (later ps : List CodedPicture) → runs_of units ≡ later ++ ps → EachIsDecodable ps
@@ -79,7 +84,8 @@ module _ (target : Target) (units : History) (first last : List Told) (bit : ℕ
   each-decodable later (p ∷ ps) e = (is-decodable later p ps e, each-decodable (later ++ p ∷ []) ps (e ∙ sym (append_assoc later (p ∷ []) ps)))
 
 -- its pictures, where slice data are read
-pub are-decodable : (mode : Mode) (target : Target) (units : History) (first last : List Told) (bit : ℕ) → AreLegal (terms_of mode target) units first → AreMet (end_steps mode units bit) last → AreDecodable mode (runs_of units)
+pub are-decodable : (mode : Mode) (target : Target) (units : History) (first last : List Told) (bit : ℕ) → AreLegal (terms_of mode target) units first →
+    AreMet (end_steps mode units bit) last → AreDecodable mode (runs_of units)
 are-decodable modes.Units target units first last bit l e = tt
 are-decodable modes.Headers target units first last bit l e = tt
 are-decodable modes.Full target units first last bit l e = each-decodable target units first last bit l e [] (runs_of units) refl
@@ -89,5 +95,6 @@ pub decodable-at : (later : List CodedPicture) (p : CodedPicture) (ps : List Cod
 decodable-at [] p ps d = d.0
 decodable-at (q ∷ later) p ps d = decodable-at later p ps d.1
 
-pub whole-decodable : (target : Target) (bytes : List ℕ) (told : List Told) (summary : Summary) (h : Holds (terms_of modes.Full target) bytes told summary) (later : List CodedPicture) (p : CodedPicture) (ps : List CodedPicture) → runs_of h.units ≡ later ++ p ∷ ps → IsDecodable p ps
+pub whole-decodable : (target : Target) (bytes : List ℕ) (told : List Told) (summary : Summary) (h : Holds (terms_of modes.Full target) bytes told summary)
+    (later : List CodedPicture) (p : CodedPicture) (ps : List CodedPicture) → runs_of h.units ≡ later ++ p ∷ ps → IsDecodable p ps
 whole-decodable target bytes told summary h later p ps e = decodable-at later p ps (subst EachIsDecodable e h.pictures)

@@ -1,5 +1,6 @@
 -- The end of the picture that may go on, by what is kept of the slices.
-use Rattle.std.proofs.Common.{◌≡◌, ℕ, ◌-◌, Bool, true, false, List, [], ◌∷◌, map, length, Option, Some, None, Result, Ok, Err, OnOk, refl, ap, sym, ◌∙◌, subst, arith, if◌then◌else◌}
+use Rattle.std.proofs.Common.{◌≡◌, ℕ, ◌-◌, Bool, true, false, List, [], ◌∷◌, map, length, Option, Some, None, Result, Ok, Err, OnOk, refl, ap, sym, ◌∙◌}
+use Rattle.std.proofs.Common.{subst, arith, if◌then◌else◌}
 use Rattle.std.specs.Result.{result_unwrap_or}
 use Rattle.h264_base.specs.declared.stop.Stop.{Stop}
 use Rattle.h264_marking.specs.declared.frame.Numbering.{Numbering}
@@ -36,7 +37,8 @@ module _ (slices : Slices) (o : OpenPicture) (number : ℕ) (is : slices.picture
       ∙ ap (λ (x : ℕ). ended_by p x slices.held) n
       ∙ ap (λ (r : References). ended_by p (length ps) r) k.held
 
-  judged-by : (on : Bool) (pictures : List CodedPicture) → KeepsPictures on false pictures slices → mark_answer answer ≡ judged (if on then end_of_picture pictures else [])
+  judged-by : (on : Bool) (pictures : List CodedPicture) → KeepsPictures on false pictures slices →
+      mark_answer answer ≡ judged (if on then end_of_picture pictures else [])
   judged-by on [] k = absurd (subst (HoldsOpen None) is k.picture)
   judged-by false (p ∷ ps) k = absurd (subst (HoldsOpen None) is k.picture)
   judged-by true (p ∷ ps) k = ap mark_answer (marked-as p ps k) ∙ marked-judged _
@@ -44,28 +46,33 @@ module _ (slices : Slices) (o : OpenPicture) (number : ℕ) (is : slices.picture
   pub closing-judged : (before : History) → KeepsSlices before false slices → mark_answer answer ≡ judged (closing_demands before)
   closing-judged before k = judged-by (goes_on before) (runs_of before) k.kept
 
-  held-then : (on : Bool) (pictures : List CodedPicture) → KeepsPictures on false pictures slices → result_unwrap_or answer slices.held ≡ held_by true on pictures
+  held-then : (on : Bool) (pictures : List CodedPicture) → KeepsPictures on false pictures slices →
+      result_unwrap_or answer slices.held ≡ held_by true on pictures
   held-then on [] k = absurd (subst (HoldsOpen None) is k.picture)
   held-then false (p ∷ ps) k = absurd (subst (HoldsOpen None) is k.picture)
-  held-then true (p ∷ ps) k = ap (λ (r : Result References ℕ). result_unwrap_or r slices.held) (marked-as p ps k) ∙ ap (λ (r : References). result_unwrap_or (ended_by p (length ps) (held_in (p ∷ ps))) r) k.held
+  held-then true (p ∷ ps) k = ap (λ (r : Result References ℕ). result_unwrap_or r slices.held) (marked-as p ps k) ∙
+      ap (λ (r : References). result_unwrap_or (ended_by p (length ps) (held_in (p ∷ ps))) r) k.held
 
   pub closing-held : (before : History) → KeepsSlices before false slices → result_unwrap_or answer slices.held ≡ held_by true (goes_on before) (runs_of before)
   closing-held before k = held-then (goes_on before) (runs_of before) k.kept
 
 -- nothing goes on
-none-held : (on : Bool) (pictures : List CodedPicture) (slices : Slices) → slices.picture ≡ None → KeepsPictures on false pictures slices → slices.held ≡ held_by true on pictures
+none-held : (on : Bool) (pictures : List CodedPicture) (slices : Slices) → slices.picture ≡ None → KeepsPictures on false pictures slices →
+    slices.held ≡ held_by true on pictures
 none-held true [] slices is k = k.held
 none-held false [] slices is k = k.held
 none-held true (p ∷ ps) slices is k = absurd (subst (HoldsOpen (Some p)) is k.picture)
 none-held false (p ∷ ps) slices is k = k.held
 
-none-judged : (on : Bool) (pictures : List CodedPicture) (slices : Slices) → slices.picture ≡ None → KeepsPictures on false pictures slices → (let r : Result (Unit {0}) Stop = Ok tt in r ≡ judged (if on then end_of_picture pictures else []))
+none-judged : (on : Bool) (pictures : List CodedPicture) (slices : Slices) → slices.picture ≡ None → KeepsPictures on false pictures slices →
+    (let r : Result (Unit {0}) Stop = Ok tt in r ≡ judged (if on then end_of_picture pictures else []))
 none-judged true [] slices is k = refl
 none-judged false pictures slices is k = refl
 none-judged true (p ∷ ps) slices is k = absurd (subst (HoldsOpen (Some p)) is k.picture)
 
 -- what is kept once it has ended
-closed-pictures : (on : Bool) (pictures : List CodedPicture) (old new : Slices) → KeepsPictures on false pictures old → new ≡ record old { held = new.held } → new.held ≡ held_by true on pictures → KeepsPictures on true pictures new
+closed-pictures : (on : Bool) (pictures : List CodedPicture) (old new : Slices) → KeepsPictures on false pictures old → new ≡ record old { held = new.held } →
+    new.held ≡ held_by true on pictures → KeepsPictures on true pictures new
 closed-pictures on pictures old new k same held = record {
   picture = subst (λ (s : Slices). HoldsOpen (open_of on pictures) s.picture) (sym same) k.picture;
   end = subst (λ (s : Slices). HoldsEnd pictures s.picture) (sym same) k.end;
@@ -77,7 +84,8 @@ closed-pictures on pictures old new k same held = record {
   held = held;
 }
 
-pub closed-slices : (before : History) (old new : Slices) (r : Result (Unit {0}) Stop) → KeepsSlices before false old → r ≡ judged (closing_demands before) → new ≡ record old { held = new.held } → new.held ≡ held_by true (goes_on before) (runs_of before) → OnOk r (KeepsSlices before true new)
+pub closed-slices : (before : History) (old new : Slices) (r : Result (Unit {0}) Stop) → KeepsSlices before false old → r ≡ judged (closing_demands before) →
+    new ≡ record old { held = new.held } → new.held ≡ held_by true (goes_on before) (runs_of before) → OnOk r (KeepsSlices before true new)
 closed-slices before old new (Err e) k j same held = tt
 closed-slices before old new (Ok x) k j same held = record {
   due = ap (λ (s : Slices). s.due) same ∙ k.due;
@@ -88,4 +96,5 @@ closed-slices before old new (Ok x) k j same held = record {
 }
 
 pub none-closed : (before : History) (slices : Slices) → slices.picture ≡ None → KeepsSlices before false slices → KeepsSlices before true slices
-none-closed before slices is k = closed-slices before slices slices (Ok tt) k (none-judged (goes_on before) (runs_of before) slices is k.kept) refl (none-held (goes_on before) (runs_of before) slices is k.kept)
+none-closed before slices is k = closed-slices before slices slices (Ok tt) k (none-judged (goes_on before) (runs_of before) slices is k.kept) refl
+    (none-held (goes_on before) (runs_of before) slices is k.kept)

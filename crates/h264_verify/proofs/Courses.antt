@@ -1,5 +1,6 @@
 -- The course of a unit, and the same step by step.
-use Rattle.std.proofs.Common.{◌≡◌, ℕ, ◌*◌, Bool, true, false, List, [], ◌∷◌, ◌++◌, map, length, Result, Ok, Err, refl, ap, sym, ◌∙◌, subst, append_assoc, ◌==◌, ◌≤◌, arith, if◌then◌else◌}
+use Rattle.std.proofs.Common.{◌≡◌, ℕ, ◌*◌, Bool, true, false, List, [], ◌∷◌, ◌++◌, map, length, Result, Ok, Err, refl, ap, sym, ◌∙◌, subst, append_assoc}
+use Rattle.std.proofs.Common.{◌==◌, ◌≤◌, arith, if◌then◌else◌}
 use Rattle.std.proofs.lemmas.List.{append-nil}
 use Rattle.h264_base.specs.Call.{span}
 use Rattle.h264_base.specs.declared.mode.Mode.{Mode}
@@ -39,7 +40,8 @@ use Rattle.h264_verify.specs.declared.state.Terms.{Terms}
 use Rattle.h264_verify.specs.Units.{unit_call, is_slice, slice_unit, other_content, picture_demand, summary_of}
 use Rattle.h264_verify.specs.Order.{content, content_steps, data_course, content_course, frames_at, end_steps}
 use Rattle.h264_verify.specs.StepOutcome.{steps_outcome, structure_from, course_outcome}
-use Rattle.h264_verify.specs.UnitOutcome.{sps_outcome, pps_outcome, slice_outcome, header_content, whole_slice, joined, joined_on, joined_other, joined_by, unit_by_steps, unit_outcome, end_outcome}
+use Rattle.h264_verify.specs.UnitOutcome.{sps_outcome, pps_outcome, slice_outcome, header_content, whole_slice, joined, joined_on, joined_other, joined_by}
+use Rattle.h264_verify.specs.UnitOutcome.{unit_by_steps, unit_outcome, end_outcome}
 use Rattle.h264_verify.proofs.Stepping.{outcome, needs-judged, steps-append}
 use Rattle.h264_verify.proofs.Playing.{plays-on, plays-stops, gives-plays, plays-as}
 use Rattle.h264_verify.proofs.Growing.{closing-of}
@@ -76,28 +78,37 @@ seen f (Ok x) = Ok (f x.0, x.1)
 seen f (Err e) = Err e
 
 module _ {A B : Type 0} (body : Body) (f : A → B) where
-  as-seen : (es : List Element) (a : Result (A × ℕ) Stop) → (let r : Run B = then_run (record { elements = es; answer = a }) (λ x j. run (Done (f x)) body j) in outcome (map (said_of body) r.elements) r.answer ≡ outcome (map (said_of body) es) (seen f a))
+  as-seen : (es : List Element) (a : Result (A × ℕ) Stop) →
+      (let r : Run B = then_run (record { elements = es; answer = a }) (λ x j. run (Done (f x)) body j) in
+      outcome (map (said_of body) r.elements) r.answer ≡ outcome (map (said_of body) es) (seen f a))
   unfolding run
   as-seen es (Ok x) = ap (λ (l : List Element). outcome (map (said_of body) l) (let r : Result (B × ℕ) Stop = Ok (f x.0, x.1) in r)) (append-nil es)
   as-seen es (Err e) = refl
 
-  pub structure-seen : (g : Grammar A) (i : ℕ) → structure_from (◌bind◌ g (λ x. Done (f x))) body i ≡ outcome (structure_from g body i).calls (seen f (structure_from g body i).answer)
-  structure-seen g i = ap (λ (r : Run B). outcome (map (said_of body) r.elements) r.answer) (run-bind g (λ x. Done (f x)) body i) ∙ as-seen (run g body i).elements (run g body i).answer
+  pub structure-seen : (g : Grammar A) (i : ℕ) → structure_from (◌bind◌ g (λ x. Done (f x))) body i ≡
+      outcome (structure_from g body i).calls (seen f (structure_from g body i).answer)
+  structure-seen g i = ap (λ (r : Run B). outcome (map (said_of body) r.elements) r.answer) (run-bind g (λ x. Done (f x)) body i) ∙
+      as-seen (run g body i).elements (run g body i).answer
 
 -- what was read is judged, and nothing is read after it
-module _ {A : Type 0} (mode : Mode) (before : History) (unit : NalUnit) (f : A → Content) (none : (x : A) (bit : ℕ) → course_outcome (body_of unit) (data_course mode before unit (f x) bit) ≡ gives (f x)) where
+module _ {A : Type 0} (mode : Mode) (before : History) (unit : NalUnit) (f : A → Content)
+    (none : (x : A) (bit : ℕ) → course_outcome (body_of unit) (data_course mode before unit (f x) bit) ≡ gives (f x)) where
   abbrev one_more : Content → History
   one_more found = record { unit = unit; content = found } ∷ before
 
-  plain-by : (told : List Told) (a : Result (A × ℕ) Stop) → joined_on mode before unit (outcome told (seen f a)) ≡ joined mode before unit (outcome told (value_of a) >>= λ x. gives (f x))
+  plain-by : (told : List Told) (a : Result (A × ℕ) Stop) →
+      joined_on mode before unit (outcome told (seen f a)) ≡ joined mode before unit (outcome told (value_of a) >>= λ x. gives (f x))
   unfolding ◌>>=◌
   plain-by told (Ok x) =
-      ap (λ (o : Outcome Content). with_calls told (steps_outcome (content_steps mode before unit (f x.0)) >>= λ _. o >>= λ found. gives (one_more found))) (none x.0 x.1)
+      ap (λ (o : Outcome Content). with_calls told (steps_outcome (content_steps mode before unit (f x.0)) >>= λ _. o >>= λ found. gives (one_more found)))
+      (none x.0 x.1)
       ∙ ap (λ (l : List Told). with_calls l (steps_outcome (content_steps mode before unit (f x.0)) >>= λ _. gives (one_more (f x.0)))) (sym (append-nil told))
   plain-by told (Err e) = refl
 
-  plain : (g : Grammar A) → joined_on mode before unit (structure_from (◌bind◌ g (λ x. Done (f x))) (body_of unit) 0) ≡ joined mode before unit (structure_outcome g (body_of unit) >>= λ x. gives (f x))
-  plain g = ap (λ (o : Outcome (Content × ℕ)). joined_on mode before unit o) (structure-seen (body_of unit) f g 0) ∙ plain-by (structure_from g (body_of unit) 0).calls (structure_from g (body_of unit) 0).answer
+  plain : (g : Grammar A) → joined_on mode before unit (structure_from (◌bind◌ g (λ x. Done (f x))) (body_of unit) 0) ≡
+      joined mode before unit (structure_outcome g (body_of unit) >>= λ x. gives (f x))
+  plain g = ap (λ (o : Outcome (Content × ℕ)). joined_on mode before unit o) (structure-seen (body_of unit) f g 0) ∙
+      plain-by (structure_from g (body_of unit) 0).calls (structure_from g (body_of unit) 0).answer
 
 module _ (before : History) (unit : NalUnit) where
   abbrev on : Mode → Grammar Content → Outcome History
@@ -107,23 +118,28 @@ module _ (before : History) (unit : NalUnit) where
   unfolding ◌>>=◌ run course_outcome
   passed-is mode = refl
 
-  none-sps : (mode : Mode) (set : Sps) (bit : ℕ) → course_outcome (body_of unit) (data_course mode before unit (contents.OfSps set) bit) ≡ gives (contents.OfSps set)
+  none-sps : (mode : Mode) (set : Sps) (bit : ℕ) → course_outcome (body_of unit) (data_course mode before unit (contents.OfSps set) bit) ≡
+      gives (contents.OfSps set)
   unfolding course_outcome
   none-sps mode set bit = refl
 
-  none-pps : (mode : Mode) (set : Pps) (bit : ℕ) → course_outcome (body_of unit) (data_course mode before unit (contents.OfPps set) bit) ≡ gives (contents.OfPps set)
+  none-pps : (mode : Mode) (set : Pps) (bit : ℕ) → course_outcome (body_of unit) (data_course mode before unit (contents.OfPps set) bit) ≡
+      gives (contents.OfPps set)
   unfolding course_outcome
   none-pps mode set bit = refl
 
-  none-header : (h : Header) (bit : ℕ) → course_outcome (body_of unit) (data_course modes.Headers before unit (contents.OfSlice h []) bit) ≡ gives (contents.OfSlice h [])
+  none-header : (h : Header) (bit : ℕ) → course_outcome (body_of unit) (data_course modes.Headers before unit (contents.OfSlice h []) bit) ≡
+      gives (contents.OfSlice h [])
   unfolding course_outcome
   none-header h bit = refl
 
-  sps-is : (terms : Terms) → on terms.mode (◌bind◌ (sps terms.target) (λ set. Done (contents.OfSps set))) ≡ joined terms.mode before unit (sps_outcome terms.target unit)
+  sps-is : (terms : Terms) → on terms.mode (◌bind◌ (sps terms.target) (λ set. Done (contents.OfSps set))) ≡
+      joined terms.mode before unit (sps_outcome terms.target unit)
   unfolding sps_outcome
   sps-is terms = plain terms.mode before unit contents.OfSps (none-sps terms.mode) (sps terms.target)
 
-  pps-is : (terms : Terms) → on terms.mode (◌bind◌ (pps terms.target) (λ set. Done (contents.OfPps set))) ≡ joined terms.mode before unit (pps_outcome terms.target unit)
+  pps-is : (terms : Terms) → on terms.mode (◌bind◌ (pps terms.target) (λ set. Done (contents.OfPps set))) ≡
+      joined terms.mode before unit (pps_outcome terms.target unit)
   unfolding pps_outcome
   pps-is terms = plain terms.mode before unit contents.OfPps (none-pps terms.mode) (pps terms.target)
 
@@ -135,7 +151,8 @@ module _ (before : History) (unit : NalUnit) where
   unfolding whole_slice
   whole-is = refl
 
-  other-by : (b : Bool) (mode : Mode) (slice : Outcome History) → on mode (header_content before unit) ≡ slice → on mode (if b then header_content before unit else Done contents.Passed) ≡ (if b then slice else joined mode before unit (gives contents.Passed))
+  other-by : (b : Bool) (mode : Mode) (slice : Outcome History) → on mode (header_content before unit) ≡ slice →
+      on mode (if b then header_content before unit else Done contents.Passed) ≡ (if b then slice else joined mode before unit (gives contents.Passed))
   other-by true mode slice e = e
   other-by false mode slice e = passed-is mode
 
@@ -145,7 +162,12 @@ module _ (before : History) (unit : NalUnit) where
   other-is modes.Headers kind = other-by (is_slice kind) modes.Headers (joined modes.Headers before unit (slice_outcome before unit)) header-is
   other-is modes.Full kind = other-by (is_slice kind) modes.Full (whole_slice before unit) whole-is
 
-  content-by : (a b : Bool) (terms : Terms) (kind : ℕ) → on terms.mode (if a then ◌bind◌ (sps terms.target) (λ set. Done (contents.OfSps set)) else (if b then ◌bind◌ (pps terms.target) (λ set. Done (contents.OfPps set)) else other_content terms.mode kind before unit)) ≡ (if a then joined terms.mode before unit (sps_outcome terms.target unit) else (if b then joined terms.mode before unit (pps_outcome terms.target unit) else joined_other terms.mode kind before unit))
+  content-by : (a b : Bool) (terms : Terms) (kind : ℕ) →
+      on terms.mode (if a then ◌bind◌ (sps terms.target)
+      (λ set. Done (contents.OfSps set)) else (if b then ◌bind◌ (pps terms.target) (λ set. Done (contents.OfPps set)) else other_content terms.mode kind
+      before unit)) ≡ (if a then joined terms.mode before unit
+      (sps_outcome terms.target unit) else (if b then joined terms.mode before unit (pps_outcome terms.target unit) else joined_other terms.mode kind before
+      unit))
   content-by true b terms kind = sps-is terms
   content-by false true terms kind = pps-is terms
   content-by false false terms kind = other-is terms.mode kind
@@ -155,13 +177,19 @@ module _ (before : History) (unit : NalUnit) where
   content-is terms kind = content-by (kind == 7) (kind == 8) terms kind
 
   -- what is in a unit, by its course and by its parts
-  content-joined : (terms : Terms) → (course_outcome (body_of unit) (content_course terms before unit) >>= λ found. gives (record { unit = unit; content = found } ∷ before)) ≡ joined_by terms (nal_unit_type (header_of unit)) before unit
+  content-joined : (terms : Terms) → (course_outcome (body_of unit) (content_course terms before unit) >>= λ found. gives
+      (record { unit = unit; content = found } ∷ before)) ≡ joined_by terms (nal_unit_type (header_of unit)) before unit
   unfolding course_outcome
   content-joined terms =
       let join : Content → Outcome History = λ found. gives (record { unit = unit; content = found } ∷ before) in
       let read = structure_from (content terms (nal_unit_type (header_of unit)) before unit) (body_of unit) 0 in
-      bind-assoc read (λ x. steps_outcome (content_steps terms.mode before unit x.0) >>= λ _. course_outcome (body_of unit) (data_course terms.mode before unit x.0 x.1)) join
-      ∙ bind-same read (λ x. (steps_outcome (content_steps terms.mode before unit x.0) >>= λ _. course_outcome (body_of unit) (data_course terms.mode before unit x.0 x.1)) >>= join) (λ x. steps_outcome (content_steps terms.mode before unit x.0) >>= λ _. course_outcome (body_of unit) (data_course terms.mode before unit x.0 x.1) >>= join) (λ x. bind-assoc (steps_outcome (content_steps terms.mode before unit x.0)) (λ _. course_outcome (body_of unit) (data_course terms.mode before unit x.0 x.1)) join)
+      bind-assoc read (λ x. steps_outcome (content_steps terms.mode before unit x.0) >>= λ _. course_outcome (body_of unit)
+      (data_course terms.mode before unit x.0 x.1)) join
+      ∙ bind-same read (λ x. (steps_outcome (content_steps terms.mode before unit x.0) >>= λ _. course_outcome (body_of unit)
+      (data_course terms.mode before unit x.0 x.1)) >>= join)
+      (λ x. steps_outcome (content_steps terms.mode before unit x.0) >>= λ _. course_outcome (body_of unit) (data_course terms.mode before unit x.0 x.1)
+      >>= join) (λ x. bind-assoc (steps_outcome (content_steps terms.mode before unit x.0))
+      (λ _. course_outcome (body_of unit) (data_course terms.mode before unit x.0 x.1)) join)
       ∙ content-is terms (nal_unit_type (header_of unit))
 
 -- What comes of a unit, step by step.
@@ -170,15 +198,22 @@ unfolding unit_outcome unit_by_steps course_outcome
 by-steps terms before unit =
     let call = Said (unit_call unit.from (header_of unit) (length unit.body)) in
     let hs = header_demands (8 * unit.from) (header_of unit) in
-    let cs = whole_at terms.mode (nal_unit_type (header_of unit)) before ++ (needs (closing_at (nal_unit_type (header_of unit)) before) ++ frames_at terms.mode (nal_unit_type (header_of unit)) before) in
+    let cs = whole_at terms.mode (nal_unit_type (header_of unit)) before ++
+    (needs (closing_at (nal_unit_type (header_of unit)) before) ++ frames_at terms.mode (nal_unit_type (header_of unit)) before) in
     let o = course_outcome (body_of unit) (content_course terms before unit) in
     let join : Content → Outcome History = λ found. gives (record { unit = unit; content = found } ∷ before) in
     ap (λ (q : Outcome History). answers (emulation_checked unit.from unit.body) >>= λ _. q)
     (bind-assoc (steps_outcome (needs hs)) (λ _. tells call >>= λ _. steps_outcome cs >>= λ _. o) join
-    ∙ ap (λ (q : Outcome History). steps_outcome (needs hs) >>= λ _. q) (bind-assoc (tells call) (λ _. steps_outcome cs >>= λ _. o) join ∙ ap (λ (q : Outcome History). tells call >>= λ _. q) (bind-assoc (steps_outcome cs) (λ _. o) join ∙ ap (λ (q : Outcome History). steps_outcome cs >>= λ _. q) (content-joined before unit terms)))
-    ∙ ap (λ (q : Outcome (Unit {0})). q >>= λ _. tells call >>= λ _. steps_outcome cs >>= λ _. joined_by terms (nal_unit_type (header_of unit)) before unit) (needs-judged hs))
+    ∙ ap (λ (q : Outcome History). steps_outcome (needs hs) >>= λ _. q)
+    (bind-assoc (tells call) (λ _. steps_outcome cs >>= λ _. o) join ∙
+    ap (λ (q : Outcome History). tells call >>= λ _. q)
+    (bind-assoc (steps_outcome cs) (λ _. o) join ∙ ap (λ (q : Outcome History). steps_outcome cs >>= λ _. q) (content-joined before unit terms)))
+    ∙ ap (λ (q : Outcome (Unit {0})). q >>= λ _. tells call >>= λ _. steps_outcome cs >>= λ _. joined_by terms (nal_unit_type (header_of unit)) before unit)
+    (needs-judged hs))
 
-pub plays-course : {S X : Type 0} (took : S → List Told → Type 0) (failures : S → ℕ) (view : X → History) (terms : Terms) (before : History) (unit : NalUnit) (s s' : S) (r : Result X Stop) → Plays (span took failures s s') view (unit_by_steps terms before unit) r → Plays (span took failures s s') view (unit_outcome terms before unit) r
+pub plays-course : {S X : Type 0} (took : S → List Told → Type 0) (failures : S → ℕ) (view : X → History) (terms : Terms) (before : History) (unit : NalUnit)
+    (s s' : S) (r : Result X Stop) → Plays (span took failures s s') view (unit_by_steps terms before unit) r →
+    Plays (span took failures s s') view (unit_outcome terms before unit) r
 plays-course took failures view terms before unit s s' r p = subst (λ o. Plays (span took failures s s') view o r) (sym (by-steps terms before unit)) p
 
 -- no fewer pictures have ended once the newest has
@@ -189,7 +224,8 @@ ended-grows true false (p ∷ ps) = omega arith
 ended-grows false ends (p ∷ ps) = omega arith
 
 -- what the end of a picture tells, if it ends
-frames-of : (ends : Bool) (mode : Mode) (before : History) → AreOf (length (ended_pictures (may_go_on before) ends (runs_of before))) (steps_outcome (if ends then closing_frames mode before else [])).calls
+frames-of : (ends : Bool) (mode : Mode) (before : History) →
+    AreOf (length (ended_pictures (may_go_on before) ends (runs_of before))) (steps_outcome (if ends then closing_frames mode before else [])).calls
 frames-of true mode before = closing-of mode before
 frames-of false mode before = tt
 
@@ -201,24 +237,29 @@ of-needs : (n : ℕ) (ds : List Demand) (steps : List Step) → AreOf n (steps_o
 of-needs n [] steps h = h
 of-needs n (d ∷ ds) steps h = of-either n d.met (steps_outcome (needs ds ++ steps)) (No d.bit d.rule) (of-needs n ds steps h)
 
-of-picture : (n : ℕ) (pictures : List CodedPicture) (steps : List Step) → AreOf n (steps_outcome steps).calls → AreOf n (steps_outcome (whole_picture pictures ++ steps)).calls
+of-picture : (n : ℕ) (pictures : List CodedPicture) (steps : List Step) → AreOf n (steps_outcome steps).calls →
+    AreOf n (steps_outcome (whole_picture pictures ++ steps)).calls
 of-picture n [] steps h = h
 of-picture n (p ∷ ps) steps h = of-either n _ (steps_outcome steps) _ h
 
-of-open : (n : ℕ) (on : Bool) (pictures : List CodedPicture) (steps : List Step) → AreOf n (steps_outcome steps).calls → AreOf n (steps_outcome ((if on then whole_picture pictures else []) ++ steps)).calls
+of-open : (n : ℕ) (on : Bool) (pictures : List CodedPicture) (steps : List Step) → AreOf n (steps_outcome steps).calls →
+    AreOf n (steps_outcome ((if on then whole_picture pictures else []) ++ steps)).calls
 of-open n true pictures steps h = of-picture n pictures steps h
 of-open n false pictures steps h = h
 
-of-whole : (n : ℕ) (mode : Mode) (before : History) (steps : List Step) → AreOf n (steps_outcome steps).calls → AreOf n (steps_outcome (whole_steps mode before ++ steps)).calls
+of-whole : (n : ℕ) (mode : Mode) (before : History) (steps : List Step) → AreOf n (steps_outcome steps).calls →
+    AreOf n (steps_outcome (whole_steps mode before ++ steps)).calls
 of-whole n modes.Units before steps h = h
 of-whole n modes.Headers before steps h = h
 of-whole n modes.Full before steps h = of-open n (may_go_on before) (runs_of before) steps h
 
-of-ended : (n : ℕ) (ends : Bool) (mode : Mode) (before : History) (steps : List Step) → AreOf n (steps_outcome steps).calls → AreOf n (steps_outcome ((if ends then whole_steps mode before else []) ++ steps)).calls
+of-ended : (n : ℕ) (ends : Bool) (mode : Mode) (before : History) (steps : List Step) → AreOf n (steps_outcome steps).calls →
+    AreOf n (steps_outcome ((if ends then whole_steps mode before else []) ++ steps)).calls
 of-ended n true mode before steps h = of-whole n mode before steps h
 of-ended n false mode before steps h = h
 
-pub closing-all : (ends : Bool) (mode : Mode) (before : History) → AreOf (length (ended_pictures (may_go_on before) ends (runs_of before))) (steps_outcome (close_steps mode ends before)).calls
+pub closing-all : (ends : Bool) (mode : Mode) (before : History) →
+    AreOf (length (ended_pictures (may_go_on before) ends (runs_of before))) (steps_outcome (close_steps mode ends before)).calls
 closing-all ends mode before =
     let n = length (ended_pictures (may_go_on before) ends (runs_of before)) in
     of-ended n ends mode before _ (of-needs n (if ends then closing_demands before else []) _ (frames-of ends mode before))
@@ -232,25 +273,35 @@ module _ {S : Type 0} (took : S → List Told → Type 0) (failures : S → ℕ)
   three xs ys zs ts = append_assoc xs (ys ++ zs) ts ∙ ap (λ (l : List Step). xs ++ l) (append_assoc ys zs ts)
 
   end-is : steps_outcome (end_steps mode before bit) ≡ (steps_outcome (close_steps mode true before) >>= λ _. steps_outcome after_last)
-  end-is = ap steps_outcome (sym (three (whole_steps mode before) (needs (closing_demands before)) (closing_frames mode before) after_last)) ∙ steps-append (close_steps mode true before) after_last
+  end-is = ap steps_outcome (sym (three (whole_steps mode before) (needs (closing_demands before)) (closing_frames mode before) after_last)) ∙
+      steps-append (close_steps mode true before) after_last
 
   -- it stops while the last picture ends
-  pub end-stops : (s s' : S) (e : Stop) → Plays {X = Unit {0}} (span took failures s s') (λ u. u) (steps_outcome (close_steps mode true before)) (Err e) → Plays {X = Summary} (span took failures s s') (λ u. u) (end_outcome mode before bit) (Err e)
+  pub end-stops : (s s' : S) (e : Stop) → Plays {X = Unit {0}} (span took failures s s') (λ u. u) (steps_outcome (close_steps mode true before)) (Err e) →
+      Plays {X = Summary} (span took failures s s') (λ u. u) (end_outcome mode before bit) (Err e)
   unfolding end_outcome
-  end-stops s s' e p = plays-stops {X = Unit {0}} took failures (λ u. u) (λ u. u) (steps_outcome (end_steps mode before bit)) _ s s' e (plays-as took failures (λ u. u) _ _ s s' (Err e) end-is (plays-stops took failures (λ u. u) (λ u. u) (steps_outcome (close_steps mode true before)) _ s s' e p))
+  end-stops s s' e p = plays-stops {X = Unit {0}} took failures (λ u. u) (λ u. u) (steps_outcome (end_steps mode before bit)) _ s s' e
+      (plays-as took failures (λ u. u) _ _ s s' (Err e) end-is
+      (plays-stops took failures (λ u. u) (λ u. u) (steps_outcome (close_steps mode true before)) _ s s' e p))
 
-  module _ (s s1 s2 : S) (z : Unit {0}) (ended : Plays (span took failures s s1) (λ (u : Unit {0}). u) (steps_outcome (close_steps mode true before)) (Ok z)) where
-    end-steps : (r : Result (Unit {0}) Stop) → Plays (span took failures s1 s2) (λ u. u) (steps_outcome after_last) r → Plays (span took failures s s2) (λ u. u) (steps_outcome (end_steps mode before bit)) r
-    end-steps r p = plays-as took failures (λ u. u) _ _ s s2 r end-is (plays-on took failures (λ u. u) (λ u. u) (steps_outcome (close_steps mode true before)) (λ _. steps_outcome after_last) s s1 s2 z r ended p)
+  module _ (s s1 s2 : S) (z : Unit {0}) (ended : Plays (span took failures s s1) (λ (u : Unit {0}). u) (steps_outcome (close_steps mode true before)) (Ok z))
+    where
+      end-steps : (r : Result (Unit {0}) Stop) → Plays (span took failures s1 s2) (λ u. u) (steps_outcome after_last) r →
+          Plays (span took failures s s2) (λ u. u) (steps_outcome (end_steps mode before bit)) r
+      end-steps r p = plays-as took failures (λ u. u) _ _ s s2 r end-is
+          (plays-on took failures (λ u. u) (λ u. u) (steps_outcome (close_steps mode true before)) (λ _. steps_outcome after_last) s s1 s2 z r ended p)
 
-    -- it stops after that
-    pub end-broken : (e : Stop) → Plays {X = Unit {0}} (span took failures s1 s2) (λ u. u) (steps_outcome after_last) (Err e) → Plays {X = Summary} (span took failures s s2) (λ u. u) (end_outcome mode before bit) (Err e)
-    unfolding end_outcome
-    end-broken e p = plays-stops {X = Unit {0}} took failures (λ u. u) (λ u. u) (steps_outcome (end_steps mode before bit)) _ s s2 e (end-steps (Err e) p)
+      -- it stops after that
+      pub end-broken : (e : Stop) → Plays {X = Unit {0}} (span took failures s1 s2) (λ u. u) (steps_outcome after_last) (Err e) →
+          Plays {X = Summary} (span took failures s s2) (λ u. u) (end_outcome mode before bit) (Err e)
+      unfolding end_outcome
+      end-broken e p = plays-stops {X = Unit {0}} took failures (λ u. u) (λ u. u) (steps_outcome (end_steps mode before bit)) _ s s2 e (end-steps (Err e) p)
 
-    -- all rules are met
-    pub end-gives : (v : Unit {0}) (summary : Summary) → Plays (span took failures s1 s2) (λ (u : Unit {0}). u) (steps_outcome after_last) (Ok v) → summary ≡ summary_of mode before → Plays (span took failures s s2) (λ u. u) (end_outcome mode before bit) (Ok summary)
-    unfolding end_outcome
-    end-gives v summary p e =
-        subst (λ (w : Summary). Plays (span took failures s s2) (λ u. u) (end_outcome mode before bit) (Ok w)) (sym e)
-        (plays-on took failures (λ (u : Unit {0}). u) (λ u. u) (steps_outcome (end_steps mode before bit)) (λ _. gives (summary_of mode before)) s s2 s2 v (Ok (summary_of mode before)) (end-steps (Ok v) p) (gives-plays took failures (λ u. u) (summary_of mode before) s2))
+      -- all rules are met
+      pub end-gives : (v : Unit {0}) (summary : Summary) → Plays (span took failures s1 s2) (λ (u : Unit {0}). u) (steps_outcome after_last) (Ok v) →
+          summary ≡ summary_of mode before → Plays (span took failures s s2) (λ u. u) (end_outcome mode before bit) (Ok summary)
+      unfolding end_outcome
+      end-gives v summary p e =
+          subst (λ (w : Summary). Plays (span took failures s s2) (λ u. u) (end_outcome mode before bit) (Ok w)) (sym e)
+          (plays-on took failures (λ (u : Unit {0}). u) (λ u. u) (steps_outcome (end_steps mode before bit)) (λ _. gives (summary_of mode before)) s s2 s2 v
+          (Ok (summary_of mode before)) (end-steps (Ok v) p) (gives-plays took failures (λ u. u) (summary_of mode before) s2))

@@ -39,10 +39,13 @@ module _ (Q : List Told → Type 0) where
   AreKept (Reads g bit next) = (found : Content) (end : ℕ) → AreKept (next found end)
   AreKept (Ends found) = Unit {0}
 
-  pub course-keeps : IsClosed → (body : Body) (course : Course) → AreKept course → (calls : List Told) (answer : Result Content Stop) → Runs body course calls answer → Q calls
-  course-keeps c body (Takes steps course) k calls answer (inl h) = subst Q (sym h.4) (c.both h.0 h.1 (k.0.met h.0 h.2) (course-keeps c body course k.1 h.1 answer h.3))
+  pub course-keeps : IsClosed → (body : Body) (course : Course) → AreKept course →
+      (calls : List Told) (answer : Result Content Stop) → Runs body course calls answer → Q calls
+  course-keeps c body (Takes steps course) k calls answer (inl h) =
+      subst Q (sym h.4) (c.both h.0 h.1 (k.0.met h.0 h.2) (course-keeps c body course k.1 h.1 answer h.3))
   course-keeps c body (Takes steps course) k calls answer (inr h) = k.0.stops calls h.0 h.1
-  course-keeps c body (Reads g bit next) k calls answer (inl h) = subst Q (sym h.6) (c.both (told body h.0) h.3 (c.elements body h.0) (course-keeps c body (next h.1 h.2) (k h.1 h.2) h.3 answer h.5))
+  course-keeps c body (Reads g bit next) k calls answer (inl h) =
+      subst Q (sym h.6) (c.both (told body h.0) h.3 (c.elements body h.0) (course-keeps c body (next h.1 h.2) (k h.1 h.2) h.3 answer h.5))
   course-keeps c body (Reads g bit next) k calls answer (inr h) = subst Q (sym h.3) (c.elements body h.0)
   course-keeps c body (Ends found) k calls answer h = subst Q (sym h.0) c.none
 
@@ -65,9 +68,18 @@ module _ (Q : List Told → Type 0) where
   data-keeps before unit (contents.OfSlice h ms) bit = λ found end. tt
   data-keeps before unit contents.Passed bit = tt
 
-  pub unit-keeps : (target : Target) (before : History) (unit : NalUnit) → UnitKeeps before unit → AreKept (unit_course (terms_of modes.Full target) before unit)
-  unit-keeps target before unit k = (k.rules (header_demands (8 * unit.from) (header_of unit)), (k.said (unit_call unit.from (header_of unit) (length unit.body)), (k.ends, λ found bit. (content-keeps before unit k found, data-keeps before unit found bit))))
+  pub unit-keeps : (target : Target) (before : History) (unit : NalUnit) → UnitKeeps before unit →
+      AreKept (unit_course (terms_of modes.Full target) before unit)
+  unit-keeps target before unit k = (
+    k.rules (header_demands (8 * unit.from) (header_of unit)),
+    (
+      k.said (unit_call unit.from (header_of unit) (length unit.body)),
+      (k.ends, λ found bit. (content-keeps before unit k found, data-keeps before unit found bit)),
+    ),
+  )
 
-  pub stop-keeps : IsClosed → (target : Target) (before : History) (unit : NalUnit) → UnitKeeps before unit → (stop : Stop) (calls : List Told) → IsStop (terms_of modes.Full target) before unit stop calls → Q calls
+  pub stop-keeps : IsClosed → (target : Target) (before : History) (unit : NalUnit) → UnitKeeps before unit →
+      (stop : Stop) (calls : List Told) → IsStop (terms_of modes.Full target) before unit stop calls → Q calls
   stop-keeps c target before unit k stop calls (AtBytes place fault e n) = subst Q (sym n) c.none
-  stop-keeps c target before unit k stop calls (InCourse sound runs) = course-keeps c (body_of unit) (unit_course (terms_of modes.Full target) before unit) (unit-keeps target before unit k) calls (Err stop) runs
+  stop-keeps c target before unit k stop calls (InCourse sound runs) =
+      course-keeps c (body_of unit) (unit_course (terms_of modes.Full target) before unit) (unit-keeps target before unit k) calls (Err stop) runs

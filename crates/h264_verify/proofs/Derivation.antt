@@ -17,10 +17,12 @@ use Rattle.h264_verify.proofs.Verdicts.{legal-unit, stop-unit, stopped-not, ok-s
 
 module _ (terms : Terms) where
   -- legal units lead from the beginning to where they stand
-  legal-leads : (after before : History) (told : List Told) (units : List NalUnit) (calls : List Told) → AreLegal terms before told → Leads (judging terms) before units calls after → Leads (judging terms) [] (in_order before units) (told ++ calls) after
+  legal-leads : (after before : History) (told : List Told) (units : List NalUnit) (calls : List Told) → AreLegal terms before told →
+      Leads (judging terms) before units calls after → Leads (judging terms) [] (in_order before units) (told ++ calls) after
   legal-leads after [] told units calls l k = subst (λ (cs : List Told). Leads (judging terms) [] units (cs ++ calls) after) (sym l) k
   legal-leads after (r ∷ before) told units calls l k =
-      subst (λ (cs : List Told). Leads (judging terms) [] (in_order before (r.unit ∷ units)) cs after) (sym (append_assoc l.0 l.1 calls) ∙ ap (λ (c : List Told). c ++ calls) (sym l.4))
+      subst (λ (cs : List Told). Leads (judging terms) [] (in_order before (r.unit ∷ units)) cs after)
+      (sym (append_assoc l.0 l.1 calls) ∙ ap (λ (c : List Told). c ++ calls) (sym l.4))
       (legal-leads after before l.0 (r.unit ∷ units) (l.1 ++ calls) l.2 (r ∷ before, l.1, calls, legal-unit terms before r l.1 l.3, k, refl))
 
   -- the next of these units leads no further
@@ -29,7 +31,8 @@ module _ (terms : Terms) where
   Halts at (unit ∷ units) = (after : History) (calls : List Told) → unit_outcome terms at unit ≡ outcome calls (Ok after) → ⊥
 
   -- where two ways along the same units halt, they have come to the same
-  one-way : (old : History) (us vs ys zs : List NalUnit) (cs ds : List Told) (m n : History) → Leads (judging terms) old us cs m → Leads (judging terms) old vs ds n → us ++ ys ≡ vs ++ zs → Halts m ys → Halts n zs → m ≡ n
+  one-way : (old : History) (us vs ys zs : List NalUnit) (cs ds : List Told) (m n : History) → Leads (judging terms) old us cs m →
+      Leads (judging terms) old vs ds n → us ++ ys ≡ vs ++ zs → Halts m ys → Halts n zs → m ≡ n
   one-way old [] [] ys zs cs ds m n a b e h k = a.1 ∙ sym b.1
   one-way old [] (v ∷ vs) [] zs cs ds m n a b e h k = cc
   one-way old [] (v ∷ vs) (y ∷ ys) zs cs ds m n a b e h k =
@@ -47,22 +50,29 @@ module _ (terms : Terms) where
       one-way b.0 us vs ys zs a.2 b.2 m n (subst (λ (s : History). Leads (judging terms) s us a.2 m) mid a.4) b.4 rest h k
 
   -- of units that are legal, up to where both halt
-  one-legal : (m n : History) (ys zs : List NalUnit) (told others : List Told) → AreLegal terms m told → AreLegal terms n others → in_order m ys ≡ in_order n zs → Halts m ys → Halts n zs → m ≡ n
+  one-legal : (m n : History) (ys zs : List NalUnit) (told others : List Told) → AreLegal terms m told → AreLegal terms n others →
+      in_order m ys ≡ in_order n zs → Halts m ys → Halts n zs → m ≡ n
   one-legal m n ys zs told others a b e h k =
-      one-way [] (in_order m []) (in_order n []) ys zs (told ++ []) (others ++ []) m n (legal-leads m m told [] [] a (refl, refl)) (legal-leads n n others [] [] b (refl, refl)) (sym (in-order m ys) ∙ e ∙ in-order n zs) h k
+      one-way [] (in_order m []) (in_order n []) ys zs (told ++ []) (others ++ []) m n (legal-leads m m told [] [] a (refl, refl))
+      (legal-leads n n others [] [] b (refl, refl)) (sym (in-order m ys) ∙ e ∙ in-order n zs) h k
 
   -- those before a stop
-  halts : (before : History) (units : List NalUnit) (tail : Tail) (end : ℕ) (stop : Stop) (calls : List Told) → IsStopAfter terms before (remainder units tail end) stop calls → Halts before units
-  halts before units tail end stop calls (AtNext unit later e s) = subst (Halts before) (sym e) (λ after others o. stopped-not calls others stop after (sym (stop-unit terms before unit stop calls s) ∙ o))
+  halts : (before : History) (units : List NalUnit) (tail : Tail) (end : ℕ) (stop : Stop) (calls : List Told) →
+      IsStopAfter terms before (remainder units tail end) stop calls → Halts before units
+  halts before units tail end stop calls (AtNext unit later e s) =
+      subst (Halts before) (sym e) (λ after others o. stopped-not calls others stop after (sym (stop-unit terms before unit stop calls s) ∙ o))
   halts before units tail end stop calls (AtTail e t n) = subst (Halts before) (sym e) tt
   halts before units tail end stop calls (AtEnd e t s) = subst (Halts before) (sym e) tt
 
-  pub one-whole : (bytes : List ℕ) (told others : List Told) (summary other : Summary) (h : Holds terms bytes told summary) (k : Holds terms bytes others other) → h.units ≡ k.units
+  pub one-whole : (bytes : List ℕ) (told others : List Told) (summary other : Summary) (h : Holds terms bytes told summary)
+      (k : Holds terms bytes others other) → h.units ≡ k.units
   one-whole bytes told others summary other h k =
       let same = same-units 0 bytes (in_order h.units []) (in_order k.units []) Zeros Zeros h.stream k.stream in
       one-legal h.units k.units [] [] h.first k.first h.legal k.legal same.units_are tt tt
 
-  pub one-stop : (bytes : List ℕ) (told others : List Told) (stop other : Stop) (h : StopsAt terms bytes told stop) (k : StopsAt terms bytes others other) → h.before ≡ k.before
+  pub one-stop : (bytes : List ℕ) (told others : List Told) (stop other : Stop) (h : StopsAt terms bytes told stop) (k : StopsAt terms bytes others other) →
+      h.before ≡ k.before
   one-stop bytes told others stop other h k =
       let same = same-units 0 bytes (in_order h.before h.units) (in_order k.before k.units) h.tail k.tail h.stream k.stream in
-      one-legal h.before k.before h.units k.units h.first k.first h.legal k.legal same.units_are (halts h.before h.units h.tail (length bytes) stop h.last h.stops) (halts k.before k.units k.tail (length bytes) other k.last k.stops)
+      one-legal h.before k.before h.units k.units h.first k.first h.legal k.legal same.units_are
+      (halts h.before h.units h.tail (length bytes) stop h.last h.stops) (halts k.before k.units k.tail (length bytes) other k.last k.stops)

@@ -1,5 +1,6 @@
 -- The steps of a session one after another, with frames to which more come.
-use Rattle.std.proofs.Common.{◌≡◌, ℕ, ◌≤◌, ◌==◌, ◌||◌, ◌&&◌, Bool, true, false, IsFalse, drop, List, [], ◌++◌, length, ◌+◌, ◌*◌, ◌⊎◌, inl, inr, Option, Result, Ok, Err, refl, ap, sym, ◌∙◌, subst, arith}
+use Rattle.std.proofs.Common.{◌≡◌, ℕ, ◌≤◌, ◌==◌, ◌||◌, ◌&&◌, Bool, true, false, IsFalse, drop, List, [], ◌++◌, length, ◌+◌, ◌*◌, ◌⊎◌, inl, inr, Option}
+use Rattle.std.proofs.Common.{Result, Ok, Err, refl, ap, sym, ◌∙◌, subst, arith}
 use Rattle.std.proofs.lemmas.Bool.{eqb-true}
 use Rattle.std.proofs.lemmas.List.{nil_from_length}
 use Rattle.h264_verify.specs.declared.state.Terms.{Terms}
@@ -52,15 +53,24 @@ told-agree n frames others told a h = record {
   decoded = decoded-told-agree n frames others told a h;
 }
 
-unfoldable pub goes-agree : {State Summary S : Type 0} {j : Judging State Summary} (took : S → List Call → Type 0) {failures : S → ℕ} (n : ℕ) (f g : ℕ → Frame) {old new : Standing State} {piece left : List ℕ} {s s' : S} → Agree n f g → (x : Goes j (span (took_with f took) failures s s') (stretch old new piece left)) → AreOf n x.calls → Goes j (span (took_with g took) failures s s') (stretch old new piece left)
+unfoldable pub goes-agree : {State Summary S : Type 0} {j : Judging State Summary} (took : S → List Call → Type 0) {failures : S → ℕ} (n : ℕ)
+    (f g : ℕ → Frame) {old new : Standing State} {piece left : List ℕ} {s s' : S} → Agree n f g →
+    (x : Goes j (span (took_with f took) failures s s') (stretch old new piece left)) → AreOf n x.calls →
+    Goes j (span (took_with g took) failures s s') (stretch old new piece left)
 goes-agree took n f g {s} {s'} a x o = record { calls = x.calls; tells = tells-agree took n f g s s' x.calls a o x.tells; way = x.way; after = x.after }
 
-unfoldable pub fed-agree : {State Summary S : Type 0} {j : Judging State Summary} (took : S → List Call → Type 0) {failures : S → ℕ} (n : ℕ) (f g : ℕ → Frame) {known : Option (List ℕ)} {bytes : List ℕ} {old new : Standing State} {s s' : S} → Agree n f g → (x : Fed j (span (took_with f took) failures s s') known bytes old new) → AreOf n x.goes.calls → Fed j (span (took_with g took) failures s s') known bytes old new
+unfoldable pub fed-agree : {State Summary S : Type 0} {j : Judging State Summary} (took : S → List Call → Type 0) {failures : S → ℕ} (n : ℕ) (f g : ℕ → Frame)
+    {known : Option (List ℕ)} {bytes : List ℕ} {old new : Standing State} {s s' : S} → Agree n f g →
+    (x : Fed j (span (took_with f took) failures s s') known bytes old new) → AreOf n x.goes.calls →
+    Fed j (span (took_with g took) failures s s') known bytes old new
 fed-agree took n f g a x o = record { fed = x.fed; left = x.left; known_is = x.known_is; whole = x.whole; goes = goes-agree took n f g a x.goes o }
 
 module _ {S : Type 0} {terms : Terms} {took : S → List Call → Type 0} {failures : S → ℕ} {frames : ℕ → Frame} {old : Standing History} where
   -- two steps
-  pub on-both : {mid split : Splitting} {first state : State} {piece left last : List ℕ} {s0 s1 s2 : S} (a : GoesOn terms (frame_span took failures frames s0 s1) (stretch old (standing mid first) piece left)) → GoesOn terms (frame_span took failures a.made s1 s2) (stretch (standing_after mid a.after) (standing split state) left last) → GoesOn terms (frame_span took failures frames s0 s2) (stretch old (standing split state) piece last)
+  pub on-both : {mid split : Splitting} {first state : State} {piece left last : List ℕ} {s0 s1 s2 : S}
+      (a : GoesOn terms (frame_span took failures frames s0 s1) (stretch old (standing mid first) piece left)) →
+      GoesOn terms (frame_span took failures a.made s1 s2) (stretch (standing_after mid a.after) (standing split state) left last) →
+      GoesOn terms (frame_span took failures frames s0 s2) (stretch old (standing split state) piece last)
   unfolding goes-both goes-agree
   on-both a b =
       let l : ended_in a.after ≤ ended_in b.after = b.grows in
@@ -75,15 +85,21 @@ module _ {S : Type 0} {terms : Terms} {took : S → List Call → Type 0} {failu
       }
 
   -- a step, and then a stop
-  pub on-stops : {mid : Splitting} {first : State} {piece left : List ℕ} {s0 s1 s2 : S} {stop : Stop} (a : GoesOn terms (frame_span took failures frames s0 s1) (stretch old (standing mid first) piece left)) → failures s1 ≡ failures s0 → StopsOn terms (frame_span took failures a.made s1 s2) (standing_after mid a.after) left stop → StopsOn terms (frame_span took failures frames s0 s2) old piece stop
+  pub on-stops : {mid : Splitting} {first : State} {piece left : List ℕ} {s0 s1 s2 : S} {stop : Stop}
+      (a : GoesOn terms (frame_span took failures frames s0 s1) (stretch old (standing mid first) piece left)) → failures s1 ≡ failures s0 →
+      StopsOn terms (frame_span took failures a.made s1 s2) (standing_after mid a.after) left stop →
+      StopsOn terms (frame_span took failures frames s0 s2) old piece stop
   on-stops {mid} {piece} {left} {s0} {s1} {s2} {stop} a k b = record {
     made = b.made;
     same = agree-both (ended_in old.state) (ended_in a.after) frames a.made b.made a.same a.grows b.same;
-    stops = stops-after (judging terms) (took_with b.made took) failures old (standing_after mid a.after) piece left s0 s1 s2 stop (goes-agree took (ended_in a.after) a.made b.made b.same a.goes a.of) k b.stops;
+    stops = stops-after (judging terms) (took_with b.made took) failures old (standing_after mid a.after) piece left s0 s1 s2 stop
+        (goes-agree took (ended_in a.after) a.made b.made b.same a.goes a.of) k b.stops;
   }
 
 -- where the sink failed, that is the stop
-pub stops-told : {S : Type 0} {terms : Terms} {took : S → List Call → Type 0} {failures : S → ℕ} {frames : ℕ → Frame} {old : Standing History} {piece : List ℕ} {s s' : S} {stop : Stop} → StopsOn terms (frame_span took failures frames s s') old piece stop → (failures s' ≡ failures s) ⊎ (stop ≡ Write)
+pub stops-told : {S : Type 0} {terms : Terms} {took : S → List Call → Type 0} {failures : S → ℕ} {frames : ℕ → Frame} {old : Standing History}
+    {piece : List ℕ} {s s' : S} {stop : Stop} → StopsOn terms (frame_span took failures frames s s') old piece stop → (failures s' ≡ failures s) ⊎
+    (stop ≡ Write)
 stops-told {terms = terms} {took = took} {failures = failures} {old = old} {piece = piece} {s = s} {s' = s'} {stop = stop} q = by stop q.stops.stops
   where
     by : (e : Stop) → StopsBy (judging terms) (span (took_with q.made took) failures s s') old piece e → (failures s' ≡ failures s) ⊎ (e ≡ Write)
@@ -99,31 +115,65 @@ told-err stop (inl e) = inl e
 told-err stop (inr e) = inr (ap Err e)
 
 -- two pieces, one after another, are as one
-pub on-then : {S : Type 0} {terms : Terms} {took : S → List Call → Type 0} {failures : S → ℕ} {frames : ℕ → Frame} {old : Standing History} {mid split : Splitting} {first state : State} {a b : List ℕ} {s0 s1 s2 : S} (f : GoesOn terms (frame_span took failures frames s0 s1) (stretch old (standing mid first) a [])) → GoesOn terms (frame_span took failures f.made s1 s2) (stretch (standing_after mid f.after) (standing split state) b []) → GoesOn terms (frame_span took failures frames s0 s2) (stretch old (standing split state) (a ++ b) [])
+pub on-then : {S : Type 0} {terms : Terms} {took : S → List Call → Type 0} {failures : S → ℕ} {frames : ℕ → Frame} {old : Standing History}
+    {mid split : Splitting} {first state : State} {a b : List ℕ} {s0 s1 s2 : S}
+    (f : GoesOn terms (frame_span took failures frames s0 s1) (stretch old (standing mid first) a [])) →
+    GoesOn terms (frame_span took failures f.made s1 s2) (stretch (standing_after mid f.after) (standing split state) b []) →
+    GoesOn terms (frame_span took failures frames s0 s2) (stretch old (standing split state) (a ++ b) [])
 unfolding goes-more
 on-then {terms} {took} {failures} {frames} {old} {mid} {first} {a} {b} {s0} {s1} f g =
-    let more : GoesOn terms (frame_span took failures frames s0 s1) (stretch old (standing mid first) (a ++ b) b) = record { made = f.made; same = f.same; after = f.after; grows = f.grows; keeps = f.keeps; goes = goes-more b f.goes; of = f.of } in
+    let more : GoesOn terms (frame_span took failures frames s0 s1) (stretch old (standing mid first) (a ++ b) b) =
+    record { made = f.made; same = f.same; after = f.after; grows = f.grows; keeps = f.keeps; goes = goes-more b f.goes; of = f.of } in
     on-both more g
 
 -- no step yet
-pub on-none : {S : Type 0} (terms : Terms) (took : S → List Call → Type 0) {failures : S → ℕ} (frames : ℕ → Frame) (split : Splitting) (before : History) (state : State) (piece : List ℕ) (s : S) → Keeps terms.mode frames before state → GoesOn terms (frame_span took failures frames s s) (stretch (standing_after split before) (standing split state) piece piece)
+pub on-none : {S : Type 0} (terms : Terms) (took : S → List Call → Type 0) {failures : S → ℕ} (frames : ℕ → Frame) (split : Splitting) (before : History)
+    (state : State) (piece : List ℕ) (s : S) → Keeps terms.mode frames before state →
+    GoesOn terms (frame_span took failures frames s s) (stretch (standing_after split before) (standing split state) piece piece)
 unfolding goes-none
-on-none terms took frames split before state piece s k = record { made = frames; same = agree-none (ended_in before) frames; after = before; grows = not-less (ended_in before); keeps = k; goes = goes-none (judging terms) (took_with frames took) (standing_after split before) piece s; of = tt }
+on-none terms took frames split before state piece s k =
+    record {
+      made = frames;
+      same = agree-none (ended_in before) frames;
+      after = before;
+      grows = not-less (ended_in before);
+      keeps = k;
+      goes = goes-none (judging terms) (took_with frames took) (standing_after split before) piece s;
+      of = tt;
+    }
 
 -- nothing of the piece is left
-pub on-end : {S : Type 0} {terms : Terms} {took : S → List Call → Type 0} {failures : S → ℕ} {frames : ℕ → Frame} {old : Standing History} {split : Splitting} {state : State} {piece rest : List ℕ} {s s' : S} → rest ≡ [] → GoesOn terms (frame_span took failures frames s s') (stretch old (standing split state) piece rest) → GoesOn terms (frame_span took failures frames s s') (stretch old (standing split state) piece [])
-on-end {terms} {took} {failures} {frames} {old} {split} {state} {piece} {s} {s'} e g = subst (λ left. GoesOn terms (frame_span took failures frames s s') (stretch old (standing split state) piece left)) e g
+pub on-end : {S : Type 0} {terms : Terms} {took : S → List Call → Type 0} {failures : S → ℕ} {frames : ℕ → Frame} {old : Standing History} {split : Splitting}
+    {state : State} {piece rest : List ℕ} {s s' : S} → rest ≡ [] →
+    GoesOn terms (frame_span took failures frames s s') (stretch old (standing split state) piece rest) →
+    GoesOn terms (frame_span took failures frames s s') (stretch old (standing split state) piece [])
+on-end {terms} {took} {failures} {frames} {old} {split} {state} {piece} {s} {s'} e g =
+    subst (λ left. GoesOn terms (frame_span took failures frames s s') (stretch old (standing split state) piece left)) e g
 
 pub none-left : (rest : List ℕ) → (length rest == 0) ≡ true → rest ≡ []
 none-left rest e = nil_from_length rest (eqb-true (length rest) 0 e)
 
 -- no unit has come yet
-pub on-push : {S : Type 0} (terms : Terms) (took : S → List Call → Type 0) {failures : S → ℕ} (frames : ℕ → Frame) (before : History) (state : State) (s : S) {old mid new : Splitting} {piece : List ℕ} {n : ℕ} → Pushed old mid piece n → new ≡ mid → Keeps terms.mode frames before state → GoesOn terms (frame_span took failures frames s s) (stretch (standing_after old before) (standing new state) piece (drop n piece))
+pub on-push : {S : Type 0} (terms : Terms) (took : S → List Call → Type 0) {failures : S → ℕ} (frames : ℕ → Frame) (before : History) (state : State) (s : S)
+    {old mid new : Splitting} {piece : List ℕ} {n : ℕ} → Pushed old mid piece n → new ≡ mid → Keeps terms.mode frames before state →
+    GoesOn terms (frame_span took failures frames s s) (stretch (standing_after old before) (standing new state) piece (drop n piece))
 unfolding goes-none-taken goes-push
-on-push terms took frames before state s {old} {mid} {new} {piece} {n} p e k = record { made = frames; same = agree-none (ended_in before) frames; after = before; grows = not-less (ended_in before); keeps = k; goes = goes-none-taken (judging terms) (took_with frames took) old mid new before piece n s p e; of = tt }
+on-push terms took frames before state s {old} {mid} {new} {piece} {n} p e k =
+    record {
+      made = frames;
+      same = agree-none (ended_in before) frames;
+      after = before;
+      grows = not-less (ended_in before);
+      keeps = k;
+      goes = goes-none-taken (judging terms) (took_with frames took) old mid new before piece n s p e;
+      of = tt;
+    }
 
 -- a unit
-pub on-unit : {S X : Type 0} {terms : Terms} {took : S → List Call → Type 0} {failures : S → ℕ} {frames : ℕ → Frame} {before : History} {unit : NalUnit} {state : State} {s s' : S} {x : X} {old mid new : Splitting} {piece : List ℕ} {n : ℕ} → Pushed old mid piece n → Taken mid new unit → IsFalse mid.ended → Turns terms (frame_span took failures frames s s') before unit state (Ok x) → GoesOn terms (frame_span took failures frames s s') (stretch (standing_after old before) (standing new state) piece (drop n piece))
+pub on-unit : {S X : Type 0} {terms : Terms} {took : S → List Call → Type 0} {failures : S → ℕ} {frames : ℕ → Frame} {before : History} {unit : NalUnit}
+    {state : State} {s s' : S} {x : X} {old mid new : Splitting} {piece : List ℕ} {n : ℕ} → Pushed old mid piece n → Taken mid new unit → IsFalse mid.ended →
+    Turns terms (frame_span took failures frames s s') before unit state (Ok x) →
+    GoesOn terms (frame_span took failures frames s s') (stretch (standing_after old before) (standing new state) piece (drop n piece))
 unfolding goes-both goes-push goes-unit
 on-unit {X} {terms} {took} {failures} {frames} {before} {unit} {s} {s'} {x} {old} {mid} {new} {piece} {n} p t live turn =
     let grows = unit-grows terms before turn.after unit turn.plays.plays.0 in
@@ -133,44 +183,60 @@ on-unit {X} {terms} {took} {failures} {frames} {before} {unit} {s} {s'} {x} {old
       after = turn.after;
       grows = grows.0;
       keeps = turn.keeps;
-      goes = goes-both (goes-push (judging terms) (took_with turn.made took) old mid before piece n s p) (goes-unit (judging terms) (took_with turn.made took) failures (λ (y : X). turn.after) mid new before unit (drop n piece) s s' x t live turn.plays);
+      goes = goes-both (goes-push (judging terms) (took_with turn.made took) old mid before piece n s p)
+          (goes-unit (judging terms) (took_with turn.made took) failures (λ (y : X). turn.after) mid new before unit (drop n piece) s s' x t live turn.plays);
       of = grows.1;
     }
 
 -- there are units and frames of which it is kept
-pub on-keeps : {S : Type 0} {terms : Terms} {took : S → List Call → Type 0} {failures : S → ℕ} {frames : ℕ → Frame} {old : Standing History} {split : Splitting} {state : State} {piece left : List ℕ} {s s' : S} → GoesOn terms (frame_span took failures frames s s') (stretch old (standing split state) piece left) → KeepsSome terms.mode false state
+pub on-keeps : {S : Type 0} {terms : Terms} {took : S → List Call → Type 0} {failures : S → ℕ} {frames : ℕ → Frame} {old : Standing History}
+    {split : Splitting} {state : State} {piece left : List ℕ} {s s' : S} →
+    GoesOn terms (frame_span took failures frames s s') (stretch old (standing split state) piece left) → KeepsSome terms.mode false state
 on-keeps g = record { frames = g.made; before = g.after; keeps = g.keeps }
 
 -- ---- the end of the input
 
 -- a unit, and then the end
-pub finishes-both : {S X : Type 0} {terms : Terms} {took : S → List Call → Type 0} {failures : S → ℕ} {frames : ℕ → Frame} {before : History} {unit : NalUnit} {state : State} {bit : ℕ} {s s' s'' : S} {x : X} {r : Result Summary Stop} (old mid new : Splitting) (end : ℕ) → Finished old mid → Taken mid new unit → end ≡ new.at + length new.rest → bit ≡ 8 * end → (r ≡ Err Memory → ⊥) → (t : Turns terms (frame_span took failures frames s s') before unit state (Ok x)) → EndsAll terms.mode (frame_span took failures t.made s' s'') t.after bit (λ (y : Summary). y) r → FinishesOn terms (frame_span took failures frames s s'') (standing_after old before) r
+pub finishes-both : {S X : Type 0} {terms : Terms} {took : S → List Call → Type 0} {failures : S → ℕ} {frames : ℕ → Frame} {before : History} {unit : NalUnit}
+    {state : State} {bit : ℕ} {s s' s'' : S} {x : X} {r : Result Summary Stop} (old mid new : Splitting) (end : ℕ) → Finished old mid → Taken mid new unit →
+    end ≡ new.at + length new.rest → bit ≡ 8 * end → (r ≡ Err Memory → ⊥) →
+    (t : Turns terms (frame_span took failures frames s s') before unit state (Ok x)) →
+    EndsAll terms.mode (frame_span took failures t.made s' s'') t.after bit (λ (y : Summary). y) r →
+    FinishesOn terms (frame_span took failures frames s s'') (standing_after old before) r
 finishes-both {X} {terms} {took} {failures} {frames} {before} {unit} {s} {s'} {s''} {x} {r} old mid new end f t n e quiet turn last =
     let grows = unit-grows terms before turn.after unit turn.plays.plays.0 in
-    let first : Plays (span (took_with last.made took) failures s s') (λ (y : X). turn.after) (unit_outcome terms before unit) (Ok x) = plays-agree took (ended_in turn.after) turn.made last.made failures (λ (y : X). turn.after) (unit_outcome terms before unit) s s' (Ok x) last.same grows.1 turn.plays in
-    let ends : Plays (span (took_with last.made took) failures s' s'') (λ (y : Summary). y) (end_outcome terms.mode turn.after (8 * end)) r = subst (λ (b : ℕ). Plays (span (took_with last.made took) failures s' s'') (λ (y : Summary). y) (end_outcome terms.mode turn.after b) r) e last.plays in
+    let first : Plays (span (took_with last.made took) failures s s') (λ (y : X). turn.after) (unit_outcome terms before unit) (Ok x) =
+    plays-agree took (ended_in turn.after) turn.made last.made failures (λ (y : X). turn.after) (unit_outcome terms before unit) s s' (Ok x) last.same
+    grows.1 turn.plays in
+    let ends : Plays (span (took_with last.made took) failures s' s'') (λ (y : Summary). y) (end_outcome terms.mode turn.after (8 * end)) r =
+    subst (λ (b : ℕ). Plays (span (took_with last.made took) failures s' s'') (λ (y : Summary). y) (end_outcome terms.mode turn.after b) r) e
+    last.plays in
     record {
       made = last.made;
       same = agree-both (ended_in before) (ended_in turn.after) frames turn.made last.made turn.same grows.0 last.same;
-      finishes = finish-unit (judging terms) (took_with last.made took) failures (λ (y : X). turn.after) old mid new before unit s s' s'' end x r f t first n quiet ends;
+      finishes = finish-unit (judging terms) (took_with last.made took) failures (λ (y : X). turn.after) old mid new before unit s s' s'' end x r f t first n
+          quiet ends;
     }
 
 -- ---- want of memory
 
 -- it was refused for bytes
-pub on-bytes : {S : Type 0} (terms : Terms) (took : S → List Call → Type 0) (failures : S → ℕ) (frames : ℕ → Frame) (old : Standing History) (piece : List ℕ) (s : S) (stop : Stop) → stop ≡ Memory → StopsOn terms (frame_span took failures frames s s) old piece stop
+pub on-bytes : {S : Type 0} (terms : Terms) (took : S → List Call → Type 0) (failures : S → ℕ) (frames : ℕ → Frame) (old : Standing History) (piece : List ℕ)
+    (s : S) (stop : Stop) → stop ≡ Memory → StopsOn terms (frame_span took failures frames s s) old piece stop
 on-bytes {S} terms took failures frames old piece s stop e =
     subst (λ (x : Stop). StopsOn terms (frame_span took failures frames s s) old piece x) (sym e)
     (record { made = frames; same = agree-none (ended_in old.state) frames; stops = memory-stops (judging terms) (took_with frames took) failures old piece s })
 
 -- at the end of the input
-pub finishes-bytes : {S : Type 0} (terms : Terms) (took : S → List Call → Type 0) (failures : S → ℕ) (frames : ℕ → Frame) (old : Standing History) (s : S) (stop : Stop) → stop ≡ Memory → FinishesOn terms (frame_span took failures frames s s) old (Err stop)
+pub finishes-bytes : {S : Type 0} (terms : Terms) (took : S → List Call → Type 0) (failures : S → ℕ) (frames : ℕ → Frame) (old : Standing History) (s : S)
+    (stop : Stop) → stop ≡ Memory → FinishesOn terms (frame_span took failures frames s s) old (Err stop)
 finishes-bytes {S} terms took failures frames old s stop e =
     subst (λ (x : Stop). FinishesOn terms (frame_span took failures frames s s) old (Err x)) (sym e)
     (record { made = frames; same = agree-none (ended_in old.state) frames; finishes = finish-bytes (judging terms) (took_with frames took) failures old s })
 
 -- a unit was left open, and is read
-pub last-read : (mode : Mode) (old mid new : Splitting) (unit : NalUnit) → Finished old mid → Taken mid new unit → is_read mode unit ≡ true → LastIsRead mode old
+pub last-read : (mode : Mode) (old mid new : Splitting) (unit : NalUnit) → Finished old mid → Taken mid new unit → is_read mode unit ≡ true →
+    LastIsRead mode old
 last-read mode old mid new unit f t r = record {
   unit = unit;
   rest = new.rest;

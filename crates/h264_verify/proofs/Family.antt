@@ -21,16 +21,21 @@ use Rattle.h264_verify.proofs.Named.{AreRead, HasSize, names-size}
 -- ---- two families
 
 module _ (frames others : ℕ → Frame) where
-  same-at : (pictures : List CodedPicture) → AreSameOn frames others pictures → (n : ℕ) (size : FrameSize) → HasSize pictures n size → HaveSameSamples frames others n size
+  same-at : (pictures : List CodedPicture) → AreSameOn frames others pictures → (n : ℕ) (size : FrameSize) → HasSize pictures n size →
+      HaveSameSamples frames others n size
   same-at [] s n size h = absurd h
-  same-at (p ∷ ps) s n size (inl h) = subst (λ k. HaveSameSamples frames others k size) (sym h.0) (subst (λ z. HaveSameSamples frames others (length ps) z) h.1 s.0)
+  same-at (p ∷ ps) s n size (inl h) = subst (λ k. HaveSameSamples frames others k size) (sym h.0)
+      (subst (λ z. HaveSameSamples frames others (length ps) z) h.1 s.0)
   same-at (p ∷ ps) s n size (inr h) = same-at ps s.1 n size h
 
   pub same-on : (pictures : List CodedPicture) → AreRead pictures → HaveFrames frames pictures → HaveFrames others pictures → AreSameOn frames others pictures
   same-on [] r h k = tt
   same-on (p ∷ ps) r h k =
-      let rest = same-on ps r.1 h.1 k.1 in
-      (alike frames others p ps (frames (length ps)) (others (length ps)) h.0 k.0 r.0.slices (each-slice (λ s names i n l e. same-at ps rest n p.first.sps.frame_size (names i n l e)) (slices_of p) (names-size p ps r.0 r.1)), rest)
+      let rest = same-on ps r.1 h.1 k.1 in (
+        alike frames others p ps (frames (length ps)) (others (length ps)) h.0 k.0 r.0.slices
+            (each-slice (λ s names i n l e. same-at ps rest n p.first.sps.frame_size (names i n l e)) (slices_of p) (names-size p ps r.0 r.1)),
+        rest,
+      )
 
   ended-read : (on : Bool) (pictures : List CodedPicture) → AreRead pictures → AreRead (ended_pictures on false pictures)
   ended-read on [] r = tt
@@ -38,11 +43,16 @@ module _ (frames others : ℕ → Frame) where
   ended-read false (p ∷ ps) r = r
 
   -- of the pictures that have ended in units that are legal
-  pub legal-family : (target : Target) (before : History) (calls : List Told) → AreLegal (terms_of modes.Full target) before calls → AreDecoded frames calls → AreDecoded others calls → AreSameOn frames others (ended_pictures (goes_on before) false (runs_of before))
+  pub legal-family : (target : Target) (before : History) (calls : List Told) → AreLegal (terms_of modes.Full target) before calls → AreDecoded frames calls →
+      AreDecoded others calls → AreSameOn frames others (ended_pictures (goes_on before) false (runs_of before))
   legal-family target before calls l d e =
       let s = stands target before calls l in
-      same-on (ended_pictures (goes_on before) false (runs_of before)) (ended-read (goes_on before) (runs_of before) s.read) (s.frames frames d) (s.frames others e)
+      same-on (ended_pictures (goes_on before) false (runs_of before)) (ended-read (goes_on before) (runs_of before) s.read) (s.frames frames d)
+      (s.frames others e)
 
   -- of all pictures of a stream
-  pub one-family : (target : Target) (bytes : List ℕ) (calls : List Told) (summary : Summary) (h : Holds (terms_of modes.Full target) bytes calls summary) → AreDecoded frames calls → AreDecoded others calls → AreSameOn frames others (runs_of h.units)
-  one-family target bytes calls summary h d e = same-on (runs_of h.units) (stands target h.units h.first h.legal).read (all-frames target bytes calls summary h frames d) (all-frames target bytes calls summary h others e)
+  pub one-family : (target : Target) (bytes : List ℕ) (calls : List Told) (summary : Summary) (h : Holds (terms_of modes.Full target) bytes calls summary) →
+      AreDecoded frames calls → AreDecoded others calls → AreSameOn frames others (runs_of h.units)
+  one-family target bytes calls summary h d e =
+      same-on (runs_of h.units) (stands target h.units h.first h.legal).read (all-frames target bytes calls summary h frames d)
+      (all-frames target bytes calls summary h others e)

@@ -36,11 +36,23 @@ still-sized None old new e h = tt
 still-sized (Some f) old new e h = e ∙ h
 
 -- one more missing number is filled
-pub gap-filled : {X E : Type 0} (frames : ℕ → Frame) (t : Turn) (next : ℕ) (held : References) (old : Decoder) (out : Output) (r : Result X E) → FillsFrames frames t next old →
-    OnOk r (KeepsBuffer (missing_turn held t.buffer).buffer (length t.written + length (missing_turn held t.buffer).written) out) → OnOk r (HasFrames frames (lent old.work) out) → OnOk r (IsOrdered next out) → OnOk r (IsReady (lent old.work) out) →
+pub gap-filled : {X E : Type 0} (frames : ℕ → Frame) (t : Turn) (next : ℕ) (held : References) (old : Decoder) (out : Output) (r : Result X E) →
+    FillsFrames frames t next old →
+    OnOk r (KeepsBuffer (missing_turn held t.buffer).buffer (length t.written + length (missing_turn held t.buffer).written) out) →
+    OnOk r (HasFrames frames (lent old.work) out) → OnOk r (IsOrdered next out) → OnOk r (IsReady (lent old.work) out) →
     OnOk r (FillsFrames frames (turn_then t (missing_turn held)) next (record old { output = out }))
 gap-filled frames t next held old out (Ok x) k b f o a = record {
-  output = record { buffer = subst (λ (n : ℕ). KeepsBuffer (missing_turn held t.buffer).buffer n out) (sym (length-append t.written (missing_turn held t.buffer).written)) b; frames_are = f; ordered = o; ready = a; format = k.output.format };
-  settled = record { released = k.settled.released; sized = still-sized old.format old.output out (sym b.same.size ∙ size-missing held t.buffer ∙ k.output.buffer.same.size) k.settled.sized };
+  output = record {
+    buffer = subst (λ (n : ℕ). KeepsBuffer (missing_turn held t.buffer).buffer n out)
+        (sym (length-append t.written (missing_turn held t.buffer).written)) b;
+    frames_are = f;
+    ordered = o;
+    ready = a;
+    format = k.output.format;
+  };
+  settled = record {
+    released = k.settled.released;
+    sized = still-sized old.format old.output out (sym b.same.size ∙ size-missing held t.buffer ∙ k.output.buffer.same.size) k.settled.sized;
+  };
 }
 gap-filled frames t next held old out (Err e) k b f o a = tt

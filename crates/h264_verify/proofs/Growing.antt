@@ -1,5 +1,6 @@
 -- What a unit tells is of the pictures that have ended after it, and no fewer have ended after a unit than before it.
-use Rattle.std.proofs.Common.{◌≡◌, ℕ, ◌+◌, ◌<◌, ◌≤◌, ◌*◌, nat_le, ℤ, Bool, true, false, not, ◌&&◌, ◌||◌, ◌==◌, List, [], ◌∷◌, ◌++◌, map, length, Option, Some, None, Result, Ok, Err, refl, ap, sym, subst, arith, if◌then◌else◌}
+use Rattle.std.proofs.Common.{◌≡◌, ℕ, ◌+◌, ◌<◌, ◌≤◌, ◌*◌, nat_le, ℤ, Bool, true, false, not, ◌&&◌, ◌||◌, ◌==◌, List, [], ◌∷◌, ◌++◌, map, length, Option, Some}
+use Rattle.std.proofs.Common.{None, Result, Ok, Err, refl, ap, sym, subst, arith, if◌then◌else◌}
 use Rattle.std.specs.Option.{is_some, option_map}
 use Rattle.std.proofs.lemmas.Bool.Decides.{nat_tests}
 use Rattle.h264_base.specs.declared.mode.Mode.{Mode}
@@ -11,7 +12,8 @@ use Rattle.h264_base.specs.declared.stop.Stop.{Stop}
 use Rattle.h264_base.specs.declared.stop.Stop.TheVariants.{No, Outside}
 use Rattle.h264_base.specs.Body.{Body, place}
 use Rattle.h264_base.specs.Word.{value_at, closes_at, ends_at, no_zero_at, padding}
-use Rattle.h264_base.specs.Grammar.{Grammar, Element, Found, found as found_at, Ahead, ahead, bytes_at, Done, Read, Check, Support, More, Align, Bytes, Close, ◌>>=◌ as ◌bind◌, check}
+use Rattle.h264_base.specs.Grammar.{Grammar, Element, Found, found as found_at, Ahead, ahead, bytes_at, Done, Read, Check, Support, More, Align, Bytes, Close}
+use Rattle.h264_base.specs.Grammar.{◌>>=◌ as ◌bind◌, check}
 use Rattle.h264_base.specs.Run.{Run, run, stopped, element_run, align_run}
 use Rattle.h264_bits.specs.Forms.{natural}
 use Rattle.h264_units.specs.Stream.{NalUnit}
@@ -39,7 +41,8 @@ use Rattle.h264_dpb.specs.Bumping.{marked}
 use Rattle.h264_dpb.specs.Buffered.{Buffered}
 use Rattle.h264_dpb.specs.Ending.{ended_of}
 use Rattle.h264_dpb.specs.Kept.{Each}
-use Rattle.h264_dpb.specs.Turns.{Shown, Turn, turn_then, stays, still, entry_of, empties, flush_turn, reference_turn, other_turn, missing_turn, way_turn, store_turn, end_turn}
+use Rattle.h264_dpb.specs.Turns.{Shown, Turn, turn_then, stays, still, entry_of, empties, flush_turn, reference_turn, other_turn, missing_turn, way_turn}
+use Rattle.h264_dpb.specs.Turns.{store_turn, end_turn}
 use Rattle.h264_dpb.proofs.Every.{each-append, each-marked, both-flushed, both-made_room, both-reference, both-other}
 use Rattle.h264_verify.specs.Telling.{Told, Said, Decodes, Shows, said_of, IsOf, AreOf}
 use Rattle.h264_verify.specs.Content.{Content}
@@ -49,7 +52,8 @@ use Rattle.h264_verify.specs.Steps.{Step, Needs, Tells, needs, Course}
 use Rattle.h264_verify.specs.UnitHeader.{header_of, nal_unit_type}
 use Rattle.h264_verify.specs.Order.{header_demands}
 use Rattle.h264_verify.specs.History.{History, maps_of}
-use Rattle.h264_verify.specs.Pictures.{CodedSlice, CodedPicture, sets_at, with_sets, ends_picture, goes_on, open_of, begins_after, begins_at, joined_to, joined_by, runs_of, coded_of, prev_ref_frame_num_of, held_after}
+use Rattle.h264_verify.specs.Pictures.{CodedSlice, CodedPicture, sets_at, with_sets, ends_picture, goes_on, open_of, begins_after, begins_at, joined_to}
+use Rattle.h264_verify.specs.Pictures.{joined_by, runs_of, coded_of, prev_ref_frame_num_of, held_after}
 use Rattle.h264_verify.specs.Order.{closing_demands, closing_at}
 use Rattle.h264_verify.specs.Order.{whole_picture, whole_steps, whole_at}
 use Rattle.h264_verify.specs.Slices.{is_idr_due, new_num_demand, first_mb_demands}
@@ -62,7 +66,8 @@ use Rattle.h264_verify.specs.Outcome.{Outcome, ◌>>=◌, continued as outcome_o
 use Rattle.h264_verify.specs.StepOutcome.{steps_outcome, structure_from, course_outcome}
 use Rattle.h264_verify.specs.UnitOutcome.{unit_outcome}
 use Rattle.h264_verify.specs.Keeping.{ended_pictures, ended_in}
-use Rattle.h264_verify.specs.Buffering.{gap_on, gaps_turn, missing_before, gaps_before, ended_picture, ended_turn, after_all, within_newest, told_frames, told_picture, end_frames, closing_frames, missing_on, missing_steps, last_frames}
+use Rattle.h264_verify.specs.Buffering.{gap_on, gaps_turn, missing_before, gaps_before, ended_picture, ended_turn, after_all, within_newest, told_frames}
+use Rattle.h264_verify.specs.Buffering.{told_picture, end_frames, closing_frames, missing_on, missing_steps, last_frames}
 use Rattle.h264_header.proofs.Ids.{seen-there as some-mapped}
 use Rattle.h264_verify.proofs.AgreeingUnits.{of-both as told-both}
 
@@ -102,7 +107,8 @@ missing-of : (n : ℕ) (refs : References) (b : Buffered Shown) → Each (IsFirs
 unfolding missing_turn
 missing-of n refs b h = both-made_room (IsFirst n) _ _ (marked (still refs) b.entries) (each-marked (IsFirst n) (still refs) b.entries h)
 
-reference-of : (n : ℕ) (e : Entry Shown) (refs : References) (b : Buffered Shown) → e.of.picture < n → Each (IsFirst n) b.entries → TurnOf n (reference_turn e refs b)
+reference-of : (n : ℕ) (e : Entry Shown) (refs : References) (b : Buffered Shown) → e.of.picture < n → Each (IsFirst n) b.entries →
+    TurnOf n (reference_turn e refs b)
 unfolding reference_turn
 reference-of n e refs b l h = both-reference (IsFirst n) _ e (marked (still refs) b.entries) l (each-marked (IsFirst n) (still refs) b.entries h)
 
@@ -112,7 +118,8 @@ other-of n e b l h = both-other (IsFirst n) _ e b.entries l h
 
 store-of : (n : ℕ) (p : Ended) (refs : References) (b : Buffered Shown) → p.picture < n → Each (IsFirst n) b.entries → TurnOf n (store_turn p refs b)
 unfolding store_turn
-store-of n p refs b l h = way-by n p.reference (reference_turn (entry_of p) refs b) (other_turn (entry_of p) b) (reference-of n (entry_of p) refs b l h) (other-of n (entry_of p) b l h)
+store-of n p refs b l h = way-by n p.reference (reference_turn (entry_of p) refs b) (other_turn (entry_of p) b) (reference-of n (entry_of p) refs b l h)
+    (other-of n (entry_of p) b l h)
 
 end-turn-of : (n : ℕ) (p : Ended) (refs : References) (b : Buffered Shown) → p.picture < n → Each (IsFirst n) b.entries → TurnOf n (end_turn p refs b)
 end-turn-of n p refs b l h =
@@ -125,28 +132,34 @@ number-is : (p : CodedPicture) (ps : List CodedPicture) → (ended_picture p ps)
 unfolding ended_of
 number-is p ps = refl
 
-gaps-of : (n : ℕ) (current : Numbering) (numbers : List ℕ) (refs : References) (b : Buffered Shown) → Each (IsFirst n) b.entries → TurnOf n (gaps_turn current numbers refs b)
+gaps-of : (n : ℕ) (current : Numbering) (numbers : List ℕ) (refs : References) (b : Buffered Shown) → Each (IsFirst n) b.entries →
+    TurnOf n (gaps_turn current numbers refs b)
 gaps-of n current [] refs b h = (tt, h)
 gaps-of n current (number ∷ numbers) refs b h = by (filled (record current { frame_num = number }) refs) (gaps-of n current numbers)
   where
-    by : (o : Option References) → ((held : References) (left : Buffered Shown) → Each (IsFirst n) left.entries → TurnOf n (gaps_turn current numbers held left)) → TurnOf n (gap_on o (λ held. turn_then (missing_turn held b) (gaps_turn current numbers held)) b)
+    by : (o : Option References) → ((held : References) (left : Buffered Shown) → Each (IsFirst n) left.entries →
+        TurnOf n (gaps_turn current numbers held left)) → TurnOf n (gap_on o (λ held. turn_then (missing_turn held b) (gaps_turn current numbers held)) b)
     by None more = (tt, h)
-    by (Some held) more = let one = missing-of n held b h in then-of n (missing_turn held b) (gaps_turn current numbers held) one (more held (missing_turn held b).buffer one.1)
+    by (Some held) more = let one = missing-of n held b h in
+        then-of n (missing_turn held b) (gaps_turn current numbers held) one (more held (missing_turn held b).buffer one.1)
 
-ended-of : (p : CodedPicture) (ps : List CodedPicture) (b : Buffered Shown) → Each (IsFirst (length ps)) b.entries → TurnOf (length (p ∷ ps)) (ended_turn p ps b)
+ended-of : (p : CodedPicture) (ps : List CodedPicture) (b : Buffered Shown) → Each (IsFirst (length ps)) b.entries →
+    TurnOf (length (p ∷ ps)) (ended_turn p ps b)
 ended-of p ps b h =
     let number = number-is p ps in
     end-turn-of (length (p ∷ ps)) (ended_picture p ps) _ b (omega (arith, number)) (each-more (length ps) (length (p ∷ ps)) b.entries (omega arith) h)
 
 within-by : (p : CodedPicture) (ps : List CodedPicture) → TurnOf (length ps) (after_all ps) → TurnOf (length ps) (within_newest (p ∷ ps))
-within-by p ps h = then-of (length ps) (after_all ps) (gaps_before p ps) h (gaps-of (length ps) (numbering_of p.first.sps p.first.header) (missing_before p ps) (held_after ps) (after_all ps).buffer h.1)
+within-by p ps h = then-of (length ps) (after_all ps) (gaps_before p ps) h
+    (gaps-of (length ps) (numbering_of p.first.sps p.first.header) (missing_before p ps) (held_after ps) (after_all ps).buffer h.1)
 
 -- the frames that are written and that wait are of the pictures so far
 pub after-of : (ps : List CodedPicture) → TurnOf (length ps) (after_all ps)
 after-of [] = (tt, tt)
 after-of (p ∷ ps) =
     let within = within-by p ps (after-of ps) in
-    then-of (length (p ∷ ps)) (within_newest (p ∷ ps)) (ended_turn p ps) (turn-more (length ps) (length (p ∷ ps)) (within_newest (p ∷ ps)) (omega arith) within) (ended-of p ps (within_newest (p ∷ ps)).buffer within.1)
+    then-of (length (p ∷ ps)) (within_newest (p ∷ ps)) (ended_turn p ps)
+    (turn-more (length ps) (length (p ∷ ps)) (within_newest (p ∷ ps)) (omega arith) within) (ended-of p ps (within_newest (p ∷ ps)).buffer within.1)
 
 pub within-of : (p : CodedPicture) (ps : List CodedPicture) → TurnOf (length ps) (within_newest (p ∷ ps))
 within-of p ps = within-by p ps (after-of ps)
@@ -176,7 +189,8 @@ pub steps-of : (n : ℕ) (steps : List Step) → StepsOf n steps → AreOf n (st
 steps-of n [] h = tt
 steps-of n (Needs d ∷ steps) h = by d.met (steps-of n steps h)
   where
-    by : (b : Bool) → AreOf n (steps_outcome steps).calls → AreOf n (let o : Outcome (Unit {0}) = if b then steps_outcome steps else answers (Err (No d.bit d.rule)) in o.calls)
+    by : (b : Bool) → AreOf n (steps_outcome steps).calls →
+        AreOf n (let o : Outcome (Unit {0}) = if b then steps_outcome steps else answers (Err (No d.bit d.rule)) in o.calls)
     by true k = k
     by false k = tt
 steps-of n (Tells t ∷ steps) h = (h.0, steps-of n steps h.1)
@@ -201,15 +215,20 @@ end-frames-of mode (p ∷ ps) =
     (written-of (length (p ∷ ps)) mode _ (ended-of p ps (within_newest (p ∷ ps)).buffer (within-of p ps).1).0)
 
 -- those of missing numbers
-pub gap-of : (n : ℕ) (mode : Mode) (bit : ℕ) (current : Numbering) (numbers : List ℕ) (refs : References) (b : Buffered Shown) → Each (IsFirst n) b.entries → StepsOf n (missing_steps mode bit current numbers refs b)
+pub gap-of : (n : ℕ) (mode : Mode) (bit : ℕ) (current : Numbering) (numbers : List ℕ) (refs : References) (b : Buffered Shown) → Each (IsFirst n) b.entries →
+    StepsOf n (missing_steps mode bit current numbers refs b)
 gap-of n mode bit current [] refs b h = tt
 gap-of n mode bit current (number ∷ numbers) refs b h = by (filled (record current { frame_num = number }) refs) (gap-of n mode bit current numbers)
   where
-    by : (o : Option References) → ((held : References) (left : Buffered Shown) → Each (IsFirst n) left.entries → StepsOf n (missing_steps mode bit current numbers held left)) → StepsOf n (missing_on o (λ held. told_frames mode (missing_turn held b).written ++ missing_steps mode bit current numbers held (missing_turn held b).buffer))
+    by : (o : Option References) → ((held : References) (left : Buffered Shown) → Each (IsFirst n) left.entries →
+        StepsOf n (missing_steps mode bit current numbers held left)) →
+        StepsOf n (missing_on o (λ held. told_frames mode (missing_turn held b).written ++
+        missing_steps mode bit current numbers held (missing_turn held b).buffer))
     by None more = tt
     by (Some held) more =
         let one = missing-of n held b h in
-        steps-both n (told_frames mode (missing_turn held b).written) _ (written-of n mode (missing_turn held b).written one.0) (more held (missing_turn held b).buffer one.1)
+        steps-both n (told_frames mode (missing_turn held b).written) _ (written-of n mode (missing_turn held b).written one.0)
+        (more held (missing_turn held b).buffer one.1)
 
 -- and those that are left at the end of the input
 pub last-of : (mode : Mode) (pictures : List CodedPicture) → StepsOf (length pictures) (last_frames mode pictures)
@@ -225,8 +244,10 @@ all-ended false (p ∷ ps) = refl
 pub closing-steps : (mode : Mode) (before : History) → StepsOf (length (runs_of before)) (closing_frames mode before)
 closing-steps mode before = steps-if (length (runs_of before)) (goes_on before) (end_frames mode (runs_of before)) [] (end-frames-of mode (runs_of before)) tt
 
-pub closing-of : (mode : Mode) (before : History) → AreOf (length (ended_pictures (goes_on before) true (runs_of before))) (steps_outcome (closing_frames mode before)).calls
-closing-of mode before = subst (λ (ps : List CodedPicture). AreOf (length ps) (steps_outcome (closing_frames mode before)).calls) (sym (all-ended (goes_on before) (runs_of before))) (steps-of (length (runs_of before)) (closing_frames mode before) (closing-steps mode before))
+pub closing-of : (mode : Mode) (before : History) →
+    AreOf (length (ended_pictures (goes_on before) true (runs_of before))) (steps_outcome (closing_frames mode before)).calls
+closing-of mode before = subst (λ (ps : List CodedPicture). AreOf (length ps) (steps_outcome (closing_frames mode before)).calls)
+    (sym (all-ended (goes_on before) (runs_of before))) (steps-of (length (runs_of before)) (closing_frames mode before) (closing-steps mode before))
 
 -- ---- what a structure gives
 
@@ -260,7 +281,8 @@ all-any (Close g) = all-any g
 gives-any : {A : Type 0} (g : Grammar A) → Gives Any g
 gives-any g = record { all = all-any g }
 
-all-bind : {A B : Type 0} (P : A → Type 0) (Q : B → Type 0) (g : Grammar A) (f : A → Grammar B) → GivesAll P g → ((x : A) → P x → GivesAll Q (f x)) → GivesAll Q (◌bind◌ g f)
+all-bind : {A B : Type 0} (P : A → Type 0) (Q : B → Type 0) (g : Grammar A) (f : A → Grammar B) → GivesAll P g → ((x : A) → P x → GivesAll Q (f x)) →
+    GivesAll Q (◌bind◌ g f)
 unfolding ◌bind◌
 all-bind P Q (Done x) f h k = k x h
 all-bind P Q (Read name rule code next) f h k = λ e. all-bind P Q (next e) f (h e) k
@@ -271,7 +293,8 @@ all-bind P Q (Align g) f h k = all-bind P Q g f h k
 all-bind P Q (Bytes n next) f h k = λ bytes. all-bind P Q (next bytes) f (h bytes) k
 all-bind P Q (Close g) f h k = all-bind P Q g f h k
 
-gives-bind : {A B : Type 0} {P : A → Type 0} {Q : B → Type 0} {g : Grammar A} {f : A → Grammar B} → Gives P g → ((x : A) → P x → Gives Q (f x)) → Gives Q (◌bind◌ g f)
+gives-bind : {A B : Type 0} {P : A → Type 0} {Q : B → Type 0} {g : Grammar A} {f : A → Grammar B} → Gives P g → ((x : A) → P x → Gives Q (f x)) →
+    Gives Q (◌bind◌ g f)
 gives-bind {P} {Q} {g} {f} h k = record { all = all-bind P Q g f h.all (λ x p. (k x p).all) }
 
 gives-done : {A : Type 0} {P : A → Type 0} (x : A) → P x → Gives P (Done x)
@@ -292,11 +315,13 @@ GivenBy {A} P r = (x : A × ℕ) → r ≡ Ok x → P x.0
 given-err : {A : Type 0} (P : A → Type 0) (s : Stop) → GivenBy P (Err s)
 given-err P s x e = absurd cc
 
-given-test : {A : Type 0} (P : A → Type 0) (b : Bool) (r : Run A) (s : Stop) → (b ≡ true → GivenBy P r.answer) → GivenBy P (let q : Run A = if b then r else stopped s in q.answer)
+given-test : {A : Type 0} (P : A → Type 0) (b : Bool) (r : Run A) (s : Stop) → (b ≡ true → GivenBy P r.answer) →
+    GivenBy P (let q : Run A = if b then r else stopped s in q.answer)
 given-test P true r s h = h refl
 given-test P false r s h = given-err P s
 
-given-element : {A : Type 0} (P : A → Type 0) (body : Body) (name : ElementName) (rule : Rule) (i : ℕ) (next : ℕ → Found → Run A) (o : Option (ℤ × ℕ)) → ((j : ℕ) (e : Found) → GivenBy P (next j e).answer) → GivenBy P (element_run body name rule i next o).answer
+given-element : {A : Type 0} (P : A → Type 0) (body : Body) (name : ElementName) (rule : Rule) (i : ℕ) (next : ℕ → Found → Run A) (o : Option (ℤ × ℕ)) →
+    ((j : ℕ) (e : Found) → GivenBy P (next j e).answer) → GivenBy P (element_run body name rule i next o).answer
 given-element P body name rule i next None h = given-err P (No (place body i) rule)
 given-element P body name rule i next (Some x) h = h x.1 (found_at body (record { name = name; from = i; to = x.1; value = x.0 }))
 
@@ -307,13 +332,16 @@ given-align P body next (Some j) h = given-err P (No (place body j) CodeWord)
 given-all : {A : Type 0} (P : A → Type 0) (g : Grammar A) (body : Body) (i : ℕ) → GivesAll P g → GivenBy P (run g body i).answer
 unfolding run
 given-all {A} P (Done x) body i h = λ y e. let same : (x, i) ≡ y = cc in subst (λ (z : A × ℕ). P z.0) same h
-given-all P (Read name rule code k) body i h = given-element P body name rule i (λ j e. run (k e) body j) (value_at code body.bytes i) (λ j e. given-all P (k e) body j (h e))
+given-all P (Read name rule code k) body i h =
+    given-element P body name rule i (λ j e. run (k e) body j) (value_at code body.bytes i) (λ j e. given-all P (k e) body j (h e))
 given-all P (Check rule bit holds g) body i h = given-test P holds (run g body i) (No bit rule) (λ t. given-all P g body i (h t))
 given-all P (Support feature bit holds g) body i h = given-test P holds (run g body i) (Outside bit feature) (λ t. given-all P g body i h)
 given-all P (More k) body i h = given-all P (k (ahead body i (not (ends_at body.bytes i)))) body i (h (ahead body i (not (ends_at body.bytes i))))
 given-all P (Align g) body i h = given-align P body (run g body (i + padding i)) (no_zero_at (padding i) body.bytes i) (given-all P g body (i + padding i) h)
-given-all P (Bytes n k) body i h = given-test P (nat_le (i + 8 * n) (8 * length body.bytes)) (run (k (bytes_at n body.bytes i)) body (i + 8 * n)) (No (place body (8 * length body.bytes)) CodeWord) (λ t. given-all P (k (bytes_at n body.bytes i)) body (i + 8 * n) (h (bytes_at n body.bytes i)))
-given-all P (Close g) body i h = given-test P (closes_at body.bytes i) (run g body (8 * length body.bytes)) (No (place body i) Trailing) (λ t. given-all P g body (8 * length body.bytes) h)
+given-all P (Bytes n k) body i h = given-test P (nat_le (i + 8 * n) (8 * length body.bytes)) (run (k (bytes_at n body.bytes i)) body (i + 8 * n))
+    (No (place body (8 * length body.bytes)) CodeWord) (λ t. given-all P (k (bytes_at n body.bytes i)) body (i + 8 * n) (h (bytes_at n body.bytes i)))
+given-all P (Close g) body i h = given-test P (closes_at body.bytes i) (run g body (8 * length body.bytes)) (No (place body i) Trailing)
+    (λ t. given-all P g body (8 * length body.bytes) h)
 
 given : {A : Type 0} {P : A → Type 0} {g : Grammar A} (body : Body) (i : ℕ) → Gives P g → GivenBy P (run g body i).answer
 given {P} {g} body i h = given-all P g body i h.all
@@ -388,7 +416,8 @@ IsWith (contents.OfPps set) found = found ≡ contents.OfPps set
 IsWith (contents.OfSlice h macroblocks) found = (ms : List CodedMacroblock) × (found ≡ contents.OfSlice h ms)
 IsWith contents.Passed found = found ≡ contents.Passed
 
-whole-gives : (before : History) (unit : NalUnit) (h : Header) (macroblocks : List CodedMacroblock) → Gives (IsWith (contents.OfSlice h macroblocks)) (◌bind◌ (slice_data_at before unit h) (λ ms. Done (contents.OfSlice h ms)))
+whole-gives : (before : History) (unit : NalUnit) (h : Header) (macroblocks : List CodedMacroblock) →
+    Gives (IsWith (contents.OfSlice h macroblocks)) (◌bind◌ (slice_data_at before unit h) (λ ms. Done (contents.OfSlice h ms)))
 whole-gives before unit h macroblocks = gives-bind (gives-any (slice_data_at before unit h)) (λ ms _. gives-done (contents.OfSlice h ms) (ms, refl))
 
 -- ---- one part after another
@@ -408,7 +437,8 @@ in-turn {A} {B} o next y e = by o.answer refl e
     by (Ok x) q t = record { value = x; is = q; ends = t; calls = ap (λ (r : Result A Stop). (outcome_on o.calls next r).calls) q }
     by (Err s) q t = absurd cc
 
-in-turn-of : {A B : Type 0} {o : Outcome A} {next : A → Outcome B} {y : B} (n : ℕ) (j : InTurn o next y) → AreOf n o.calls → AreOf n (next j.value).calls → AreOf n (o >>= next).calls
+in-turn-of : {A B : Type 0} {o : Outcome A} {next : A → Outcome B} {y : B} (n : ℕ) (j : InTurn o next y) → AreOf n o.calls → AreOf n (next j.value).calls →
+    AreOf n (o >>= next).calls
 in-turn-of {o} {next} n j h k = subst (AreOf n) (sym j.calls) (told-both n o.calls (next j.value).calls h k)
 
 pub elements-of : (n : ℕ) (body : Body) (es : List Element) → AreOf n (map (said_of body) es)
@@ -420,7 +450,9 @@ record DataEnds (c found : Content) (told : List Told) : Type 0 where
   same : IsWith c found
   any : (n : ℕ) → AreOf n told
 
-data-ends : (mode : Mode) (before : History) (unit : NalUnit) (c : Content) (bit : ℕ) (found : Content) → (course_outcome (body_of unit) (data_course mode before unit c bit)).answer ≡ Ok found → DataEnds c found (course_outcome (body_of unit) (data_course mode before unit c bit)).calls
+data-ends : (mode : Mode) (before : History) (unit : NalUnit) (c : Content) (bit : ℕ) (found : Content) →
+    (course_outcome (body_of unit) (data_course mode before unit c bit)).answer ≡ Ok found →
+    DataEnds c found (course_outcome (body_of unit) (data_course mode before unit c bit)).calls
 unfolding course_outcome
 data-ends mode before unit (contents.OfSps set) bit found e = record { same = cc; any = λ n. tt }
 data-ends mode before unit (contents.OfPps set) bit found e = record { same = cc; any = λ n. tt }
@@ -438,12 +470,14 @@ data-ends mode before unit contents.Passed bit found e = record { same = cc; any
 
 -- ---- the rules of a slice
 
-gap-rules-of : (n : ℕ) (mode : Mode) (s : CodedSlice) (prev : ℕ) (refs : References) (b : Buffered Shown) → Each (IsFirst n) b.entries → StepsOf n (gap_rules mode s prev refs b)
+gap-rules-of : (n : ℕ) (mode : Mode) (s : CodedSlice) (prev : ℕ) (refs : References) (b : Buffered Shown) → Each (IsFirst n) b.entries →
+    StepsOf n (gap_rules mode s prev refs b)
 gap-rules-of n mode s prev refs b h =
     let idr = is_idr s.header in
     let bit = s.header.frame_num.bit in
     let current = numbering_of s.sps s.header in
-    steps-both n (missing_steps mode bit current (unused_short_term_frame_nums idr prev current) refs b) (needs (new_num_demand idr (is_reference s.header) bit prev current refs ∷ []))
+    steps-both n (missing_steps mode bit current (unused_short_term_frame_nums idr prev current) refs b)
+    (needs (new_num_demand idr (is_reference s.header) bit prev current refs ∷ []))
     (gap-of n mode bit current (unused_short_term_frame_nums idr prev current) refs b h) tt
 
 -- where a slice begins a picture, the pictures before it are among the first
@@ -454,15 +488,23 @@ first-of : (n : ℕ) (mode : Mode) (pictures : List CodedPicture) (s : CodedSlic
 first-of n mode pictures s l =
     steps-both n
     (gap_rules mode s (prev_ref_frame_num_of pictures) (held_after pictures) (after_all pictures).buffer) _
-    (gap-rules-of n mode s (prev_ref_frame_num_of pictures) (held_after pictures) (after_all pictures).buffer (each-more (length pictures) n (after_all pictures).buffer.entries l (after-of pictures).1)) tt
+    (gap-rules-of n mode s (prev_ref_frame_num_of pictures) (held_after pictures) (after_all pictures).buffer
+    (each-more (length pictures) n (after_all pictures).buffer.entries l (after-of pictures).1)) tt
 
-rules-of : (n : ℕ) (mode : Mode) (begins due : Bool) (maps : Maps) (pictures : List CodedPicture) (s : CodedSlice) → Begins n begins pictures → StepsOf n (rules_of mode begins due maps pictures s)
-rules-of n mode true due maps pictures s l = steps-both n (needs (first_mb_demands mode 0 s.header)) _ (needs-of n (first_mb_demands mode 0 s.header)) (first-of n mode pictures s (l refl))
-rules-of n mode false due maps pictures s l = steps-both n (needs (first_mb_demands mode (length (coded_of pictures)) s.header)) _ (needs-of n (first_mb_demands mode (length (coded_of pictures)) s.header)) tt
+rules-of : (n : ℕ) (mode : Mode) (begins due : Bool) (maps : Maps) (pictures : List CodedPicture) (s : CodedSlice) → Begins n begins pictures →
+    StepsOf n (rules_of mode begins due maps pictures s)
+rules-of n mode true due maps pictures s l =
+    steps-both n (needs (first_mb_demands mode 0 s.header)) _ (needs-of n (first_mb_demands mode 0 s.header)) (first-of n mode pictures s (l refl))
+rules-of n mode false due maps pictures s l =
+    steps-both n (needs (first_mb_demands mode (length (coded_of pictures)) s.header)) _
+    (needs-of n (first_mb_demands mode (length (coded_of pictures)) s.header)) tt
 
-steps-by : (n : ℕ) (mode : Mode) (o : Option (Pps × Sps)) (before : History) (unit : NalUnit) (h : Header) → Begins n (begins_at before h) (runs_of before) → StepsOf n (steps_by mode o before unit h)
+steps-by : (n : ℕ) (mode : Mode) (o : Option (Pps × Sps)) (before : History) (unit : NalUnit) (h : Header) → Begins n (begins_at before h) (runs_of before) →
+    StepsOf n (steps_by mode o before unit h)
 steps-by n mode None before unit h l = tt
-steps-by n mode (Some sets) before unit h l = steps-both n (rules_of mode (begins_at before h) (is_idr_due before) (maps_of before) (runs_of before) (with_sets unit h [] sets)) _ (rules-of n mode (begins_at before h) (is_idr_due before) (maps_of before) (runs_of before) (with_sets unit h [] sets) l) (tt, tt)
+steps-by n mode (Some sets) before unit h l =
+    steps-both n (rules_of mode (begins_at before h) (is_idr_due before) (maps_of before) (runs_of before) (with_sets unit h [] sets)) _
+    (rules-of n mode (begins_at before h) (is_idr_due before) (maps_of before) (runs_of before) (with_sets unit h [] sets) l) (tt, tt)
 
 picture-whole : (n : ℕ) (pictures : List CodedPicture) → StepsOf n (whole_picture pictures)
 picture-whole n [] = tt
@@ -484,11 +526,14 @@ closing-if : (n : ℕ) (mode : Mode) (before : History) (b : Bool) → Begins n 
 closing-if n mode before true l = steps-more (length (runs_of before)) n (closing_frames mode before) (l refl) (closing-steps mode before)
 closing-if n mode before false l = tt
 
-pub slice-of : (n : ℕ) (mode : Mode) (before : History) (unit : NalUnit) (h : Header) → Begins n (begins_at before h) (runs_of before) → StepsOf n (slice_steps mode before unit h)
+pub slice-of : (n : ℕ) (mode : Mode) (before : History) (unit : NalUnit) (h : Header) → Begins n (begins_at before h) (runs_of before) →
+    StepsOf n (slice_steps mode before unit h)
 slice-of n mode before unit h l =
-    steps-both n (if begins_at before h then whole_steps mode before else []) _ (steps-if n (begins_at before h) (whole_steps mode before) [] (whole-of n mode before) tt)
+    steps-both n (if begins_at before h then whole_steps mode before else []) _
+    (steps-if n (begins_at before h) (whole_steps mode before) [] (whole-of n mode before) tt)
     (steps-both n (needs (if begins_at before h then closing_demands before else [])) _ (needs-of n (if begins_at before h then closing_demands before else []))
-    (steps-both n (if begins_at before h then closing_frames mode before else []) _ (closing-if n mode before (begins_at before h) l) (steps-by n mode (sets_at before h) before unit h l)))
+    (steps-both n (if begins_at before h then closing_frames mode before else []) _ (closing-if n mode before (begins_at before h) l)
+    (steps-by n mode (sets_at before h) before unit h l)))
 
 -- ---- how many pictures have ended
 
@@ -513,7 +558,8 @@ passed-begins : (ends on : Bool) (pictures : List CodedPicture) → Begins (ende
 passed-begins true on pictures e = let whole = ended-whole pictures in omega arith
 passed-begins false on pictures e = absurd cc
 
-slice-grows : (on : Bool) (pictures : List CodedPicture) (s : CodedSlice) (b : Bool) → begins_after (open_of on pictures) s.header ≡ b → ended_by on pictures ≤ ended_by true (joined_to b s pictures)
+slice-grows : (on : Bool) (pictures : List CodedPicture) (s : CodedSlice) (b : Bool) → begins_after (open_of on pictures) s.header ≡ b →
+    ended_by on pictures ≤ ended_by true (joined_to b s pictures)
 slice-grows on pictures s true e = ended-few on pictures
 slice-grows on [] s false e = absurd cc
 slice-grows true (p ∷ ps) s false e = omega arith
@@ -546,27 +592,46 @@ module _ (terms : Terms) (before : History) (unit : NalUnit) where
   abbrev one_more : Content → History
   one_more found = record { unit = unit; content = found } ∷ before
 
-  sets-grow : (h : Header) (ms : List CodedMacroblock) (o : Option (Pps × Sps)) → is_some o ≡ true → is_slice kind ≡ true → sets_at before h ≡ o → UnitGrows terms.mode before (one_more (contents.OfSlice h ms)) unit (contents.OfSlice h [])
+  sets-grow : (h : Header) (ms : List CodedMacroblock) (o : Option (Pps × Sps)) → is_some o ≡ true → is_slice kind ≡ true → sets_at before h ≡ o →
+      UnitGrows terms.mode before (one_more (contents.OfSlice h ms)) unit (contents.OfSlice h [])
   sets-grow h ms None some slice e = absurd cc
   sets-grow h ms (Some sets) some slice e =
       let runs : runs_of (one_more (contents.OfSlice h ms)) ≡ joined_to (begins_at before h) (with_sets unit h ms sets) (runs_of before) =
       ap (λ (o : Option (Pps × Sps)). joined_by (option_map (with_sets unit h ms) o) (goes_on before) (runs_of before)) e in
       let begins : Begins (ended_in (one_more (contents.OfSlice h ms))) (begins_at before h) (runs_of before) =
-      subst (λ (ps : List CodedPicture). Begins (ended_by true ps) (begins_at before h) (runs_of before)) (sym runs) (slice-begins (begins_at before h) (runs_of before) (with_sets unit h ms sets)) in
+      subst (λ (ps : List CodedPicture). Begins (ended_by true ps) (begins_at before h) (runs_of before)) (sym runs)
+      (slice-begins (begins_at before h) (runs_of before) (with_sets unit h ms sets)) in
       record {
-        grows = subst (λ (ps : List CodedPicture). ended_in before ≤ ended_by true ps) (sym runs) (slice-grows (goes_on before) (runs_of before) (with_sets unit h ms sets) (begins_at before h) refl);
+        grows = subst (λ (ps : List CodedPicture). ended_in before ≤ ended_by true ps) (sym runs)
+            (slice-grows (goes_on before) (runs_of before) (with_sets unit h ms sets) (begins_at before h) refl);
         ends = λ t. absurd (let no = slice-goes kind slice in cc);
         steps = slice-of (ended_in (one_more (contents.OfSlice h ms))) terms.mode before unit h begins;
       }
 
   content-grows : (c : Content) → IsSound kind before c → (found : Content) → IsWith c found → UnitGrows terms.mode before (one_more found) unit c
-  content-grows (contents.OfSps set) sound found e = rw e (record { grows = passed-grows (ends_picture kind) (goes_on before) (runs_of before); ends = passed-begins (ends_picture kind) (goes_on before) (runs_of before); steps = tt })
-  content-grows (contents.OfPps set) sound found e = rw e (record { grows = passed-grows (ends_picture kind) (goes_on before) (runs_of before); ends = passed-begins (ends_picture kind) (goes_on before) (runs_of before); steps = tt })
+  content-grows (contents.OfSps set) sound found e =
+      rw e (record {
+        grows = passed-grows (ends_picture kind) (goes_on before) (runs_of before);
+        ends = passed-begins (ends_picture kind) (goes_on before) (runs_of before);
+        steps = tt;
+      })
+  content-grows (contents.OfPps set) sound found e =
+      rw e (record {
+        grows = passed-grows (ends_picture kind) (goes_on before) (runs_of before);
+        ends = passed-begins (ends_picture kind) (goes_on before) (runs_of before);
+        steps = tt;
+      })
   content-grows (contents.OfSlice h macroblocks) sound found e = rw e.1 (slice-any h macroblocks (sets-grow h e.0 (sets_at before h) sound.1 sound.0 refl))
     where
-      slice-any : (h : Header) (ms : List CodedMacroblock) → {after : History} → UnitGrows terms.mode before after unit (contents.OfSlice h []) → UnitGrows terms.mode before after unit (contents.OfSlice h ms)
+      slice-any : (h : Header) (ms : List CodedMacroblock) → {after : History} → UnitGrows terms.mode before after unit (contents.OfSlice h []) →
+          UnitGrows terms.mode before after unit (contents.OfSlice h ms)
       slice-any h ms g = record { grows = g.grows; ends = g.ends; steps = g.steps }
-  content-grows contents.Passed sound found e = rw e (record { grows = passed-grows (ends_picture kind) (goes_on before) (runs_of before); ends = passed-begins (ends_picture kind) (goes_on before) (runs_of before); steps = tt })
+  content-grows contents.Passed sound found e =
+      rw e (record {
+        grows = passed-grows (ends_picture kind) (goes_on before) (runs_of before);
+        ends = passed-begins (ends_picture kind) (goes_on before) (runs_of before);
+        steps = tt;
+      })
 
   abbrev Grows : History → List Told → Type 0
   Grows after calls = (ended_in before ≤ ended_in after) × AreOf (ended_in after) calls
@@ -577,7 +642,8 @@ module _ (terms : Terms) (before : History) (unit : NalUnit) where
   pub picture-end-of : (n : ℕ) → Begins n (ends_picture kind) (runs_of before) → StepsOf n picture_end
   picture-end-of n l =
       steps-both n (whole_at terms.mode kind before) _ (steps-if n (ends_picture kind) (whole_steps terms.mode before) [] (whole-of n terms.mode before) tt)
-      (steps-both n (needs (closing_at kind before)) (frames_at terms.mode kind before) (needs-of n (closing_at kind before)) (closing-if n terms.mode before (ends_picture kind) l))
+      (steps-both n (needs (closing_at kind before)) (frames_at terms.mode kind before) (needs-of n (closing_at kind before))
+      (closing-if n terms.mode before (ends_picture kind) l))
 
   -- the same once what stands after the content is read
   record ContentEnds (found : Content) (calls : List Told) : Type 0 where
@@ -603,10 +669,12 @@ module _ (terms : Terms) (before : History) (unit : NalUnit) where
       record {
         grows = grown.grows;
         ends = grown.ends;
-        of = in-turn-of n read (elements-of n body (run g body 0).elements) (in-turn-of n met (steps-of n (content_steps terms.mode before unit x.0) grown.steps) (rest.any n));
+        of = in-turn-of n read (elements-of n body (run g body 0).elements)
+            (in-turn-of n met (steps-of n (content_steps terms.mode before unit x.0) grown.steps) (rest.any n));
       }
 
-  course-grows : (found : Content) → (course_outcome (body_of unit) (unit_course terms before unit)).answer ≡ Ok found → Grows (one_more found) (course_outcome (body_of unit) (unit_course terms before unit)).calls
+  course-grows : (found : Content) → (course_outcome (body_of unit) (unit_course terms before unit)).answer ≡ Ok found →
+      Grows (one_more found) (course_outcome (body_of unit) (unit_course terms before unit)).calls
   unfolding course_outcome
   course-grows found e =
       let n = ended_in (one_more found) in
@@ -619,10 +687,14 @@ module _ (terms : Terms) (before : History) (unit : NalUnit) where
       let one = in-turn (steps_outcome first) (λ _. second) found e in
       let two = in-turn (steps_outcome said) (λ _. third) found one.ends in
       let three = in-turn (steps_outcome picture_end) (λ _. last) found two.ends in
-      let inner = content-ends found three.ends in
-      (inner.grows, in-turn-of n one (steps-of n first (needs-of n (header_demands (8 * unit.from) (header_of unit)))) (in-turn-of n two (tt, tt) (in-turn-of n three (steps-of n picture_end (picture-end-of n inner.ends)) inner.of)))
+      let inner = content-ends found three.ends in (
+        inner.grows,
+        in-turn-of n one (steps-of n first (needs-of n (header_demands (8 * unit.from) (header_of unit))))
+            (in-turn-of n two (tt, tt) (in-turn-of n three (steps-of n picture_end (picture-end-of n inner.ends)) inner.of)),
+      )
 
-pub unit-grows : (terms : Terms) (before after : History) (unit : NalUnit) → (unit_outcome terms before unit).answer ≡ Ok after → (ended_in before ≤ ended_in after) × AreOf (ended_in after) (unit_outcome terms before unit).calls
+pub unit-grows : (terms : Terms) (before after : History) (unit : NalUnit) → (unit_outcome terms before unit).answer ≡ Ok after →
+    (ended_in before ≤ ended_in after) × AreOf (ended_in after) (unit_outcome terms before unit).calls
 unfolding unit_outcome
 unit-grows terms before after unit e =
     let more : Content → Outcome History = λ found. gives (record { unit = unit; content = found } ∷ before) in
@@ -630,7 +702,8 @@ unit-grows terms before after unit e =
     let sound = in-turn (answers (emulation_checked unit.from unit.body)) (λ _. course >>= more) after e in
     let whole = in-turn course more after sound.ends in
     let same : (record { unit = unit; content = whole.value } ∷ before) ≡ after = cc (whole.ends) in
-    let grown = subst (λ (later : History). (ended_in before ≤ ended_in later) × AreOf (ended_in later) course.calls) same (course-grows terms before unit whole.value whole.is) in
+    let grown = subst (λ (later : History). (ended_in before ≤ ended_in later) × AreOf (ended_in later) course.calls) same
+    (course-grows terms before unit whole.value whole.is) in
     (grown.0, in-turn-of (ended_in after) sound tt (in-turn-of (ended_in after) whole grown.1 tt))
 
 -- what the end of the input tells is of all pictures

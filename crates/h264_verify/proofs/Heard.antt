@@ -27,30 +27,49 @@ read-whole n xs left e =
     (l ∙ sym (append-nil (take n xs)) ∙ ap (λ k. take n xs ++ k) (sym none), ap Some (sym none))
 
 -- These bytes are still to come.
-unfoldable pub fed-ahead : {S : Type 0} {terms : Terms} {took : S → List Call → Type 0} {failures : S → ℕ} {bytes : List ℕ} {session : Progress} {s s' : S} (more : List ℕ) → FedOn terms (span took failures s s') (Some []) bytes session → FedOn terms (span took failures s s') (Some more) (bytes ++ more) session
+unfoldable pub fed-ahead : {S : Type 0} {terms : Terms} {took : S → List Call → Type 0} {failures : S → ℕ} {bytes : List ℕ} {session : Progress} {s s' : S}
+    (more : List ℕ) → FedOn terms (span took failures s s') (Some []) bytes session →
+    FedOn terms (span took failures s s') (Some more) (bytes ++ more) session
 fed-ahead {bytes = bytes} more f = record {
   terms_is = f.terms_is;
   frames = f.frames;
   after = f.after;
   keeps = f.keeps;
-  fed = record { fed = f.fed.fed; left = more; known_is = refl; whole = ap (λ l. l ++ more) (f.fed.whole ∙ ap (λ l. f.fed.fed ++ l) (some-is [] f.fed.left f.fed.known_is) ∙ append-nil f.fed.fed); goes = f.fed.goes };
+  fed = record {
+    fed = f.fed.fed;
+    left = more;
+    known_is = refl;
+    whole = ap (λ l. l ++ more) (f.fed.whole ∙ ap (λ l. f.fed.fed ++ l) (some-is [] f.fed.left f.fed.known_is) ∙ append-nil f.fed.fed);
+    goes = f.fed.goes;
+  };
   of = f.of;
 }
 
 -- a piece more
-pub heard-more : {S : Type 0} {terms : Terms} {took : S → List Call → Type 0} {failures : S → ℕ} {bytes : List ℕ} {old new : Progress} {s0 s1 s2 : S} (piece : List ℕ) (n : ℕ) → new.terms ≡ old.terms → (f : FedOn terms (span took failures s0 s1) (Some []) bytes old) → GoesOn old.terms (frame_span took failures f.frames s1 s2) (stretch (standing_after old.split f.after) (standing new.split new.state) (take n piece) []) → FedOn terms (span took failures s0 s2) (Some []) (bytes ++ take n piece) new
+pub heard-more : {S : Type 0} {terms : Terms} {took : S → List Call → Type 0} {failures : S → ℕ} {bytes : List ℕ} {old new : Progress} {s0 s1 s2 : S}
+    (piece : List ℕ) (n : ℕ) → new.terms ≡ old.terms → (f : FedOn terms (span took failures s0 s1) (Some []) bytes old) →
+    GoesOn old.terms (frame_span took failures f.frames s1 s2) (stretch (standing_after old.split f.after) (standing new.split new.state) (take n piece) []) →
+    FedOn terms (span took failures s0 s2) (Some []) (bytes ++ take n piece) new
 unfolding fed-ahead
 heard-more piece n m f q = fed-more (Some []) piece n m (read-whole n piece) (fed-ahead (take n piece) f) q
 
 -- a stop at one
-pub heard-halts : {S : Type 0} {terms : Terms} {took : S → List Call → Type 0} {failures : S → ℕ} {bytes : List ℕ} {old : Progress} {s0 s1 s2 : S} {stop : Stop} (piece : List ℕ) (n : ℕ) → (f : FedOn terms (span took failures s0 s1) (Some []) bytes old) → failures s1 ≡ failures s0 → StopsOn old.terms (frame_span took failures f.frames s1 s2) (standing_after old.split f.after) (take n piece) stop → JudgesWith terms (span took failures s0 s2) (bytes ++ take n piece) (Err stop)
+pub heard-halts : {S : Type 0} {terms : Terms} {took : S → List Call → Type 0} {failures : S → ℕ} {bytes : List ℕ} {old : Progress} {s0 s1 s2 : S}
+    {stop : Stop} (piece : List ℕ) (n : ℕ) → (f : FedOn terms (span took failures s0 s1) (Some []) bytes old) → failures s1 ≡ failures s0 →
+    StopsOn old.terms (frame_span took failures f.frames s1 s2) (standing_after old.split f.after) (take n piece) stop →
+    JudgesWith terms (span took failures s0 s2) (bytes ++ take n piece) (Err stop)
 unfolding fed-ahead
 heard-halts piece n f k q = fed-halts (Some []) piece n (read-whole n piece) (fed-ahead (take n piece) f) k q
 
 -- none
-pub heard-none : {S : Type 0} {terms : Terms} {took : S → List Call → Type 0} {failures : S → ℕ} {bytes : List ℕ} {session : Progress} {s s' : S} → FedOn terms (span took failures s s') (Some []) bytes session → FedOn terms (span took failures s s') (Some []) (bytes ++ []) session
-heard-none {S} {terms} {took} {failures} {bytes} {session} {s} {s'} f = subst (λ l. FedOn terms (span took failures s s') (Some []) l session) (sym (append-nil bytes)) f
+pub heard-none : {S : Type 0} {terms : Terms} {took : S → List Call → Type 0} {failures : S → ℕ} {bytes : List ℕ} {session : Progress} {s s' : S} →
+    FedOn terms (span took failures s s') (Some []) bytes session → FedOn terms (span took failures s s') (Some []) (bytes ++ []) session
+heard-none {S} {terms} {took} {failures} {bytes} {session} {s} {s'} f =
+    subst (λ l. FedOn terms (span took failures s s') (Some []) l session) (sym (append-nil bytes)) f
 
 -- the source failed
-pub heard-fails : {S : Type 0} {terms : Terms} {took : S → List Call → Type 0} {failures : S → ℕ} {bytes : List ℕ} {session : Progress} {s s' : S} → FedOn terms (span took failures s s') (Some []) bytes session → failures s' ≡ failures s → JudgesWith terms (span took failures s s') (bytes ++ []) (Err Read)
-heard-fails {S} {terms} {took} {failures} {bytes} {session} {s} {s'} f k = subst (λ l. JudgesWith terms (span took failures s s') l (Err Read)) (sym (append-nil bytes)) (fed-fails f k)
+pub heard-fails : {S : Type 0} {terms : Terms} {took : S → List Call → Type 0} {failures : S → ℕ} {bytes : List ℕ} {session : Progress} {s s' : S} →
+    FedOn terms (span took failures s s') (Some []) bytes session → failures s' ≡ failures s →
+    JudgesWith terms (span took failures s s') (bytes ++ []) (Err Read)
+heard-fails {S} {terms} {took} {failures} {bytes} {session} {s} {s'} f k =
+    subst (λ l. JudgesWith terms (span took failures s s') l (Err Read)) (sym (append-nil bytes)) (fed-fails f k)

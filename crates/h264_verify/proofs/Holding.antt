@@ -11,27 +11,32 @@ use Rattle.h264_header.specs.declared.header.Header.{Header}
 use Rattle.h264_verify.proofs.Made.{made-then}
 
 -- there is a picture that begins
-pub enters-some : (frames : ℕ → Frame) (begins : Bool) (s : CodedSlice) (on : Bool) (pictures : List CodedPicture) (d : Decoder) → begins ≡ true → EntersBy frames begins s on pictures d → EntersSome d
+pub enters-some : (frames : ℕ → Frame) (begins : Bool) (s : CodedSlice) (on : Bool) (pictures : List CodedPicture) (d : Decoder) → begins ≡ true →
+    EntersBy frames begins s on pictures d → EntersSome d
 enters-some frames true s on pictures d b k = record { frames = frames; slice = s; pictures = pictures; keeps = k }
 enters-some frames false s on pictures d b k = cc
 
 -- the macroblocks of the picture that may go on
-pub coded-by : (frames : ℕ → Frame) (on : Bool) (pictures : List CodedPicture) (d : Decoder) → KeepsFrames frames on false pictures d → HoldsCoded (open_of on pictures) d.work
+pub coded-by : (frames : ℕ → Frame) (on : Bool) (pictures : List CodedPicture) (d : Decoder) → KeepsFrames frames on false pictures d →
+    HoldsCoded (open_of on pictures) d.work
 coded-by frames on [] d h = tt
 coded-by frames true (p ∷ ps) d h = h.picture.so_far.holds
 coded-by frames false (p ∷ ps) d h = tt
 
 -- once the newest picture has ended
-pub gap-by : (frames : ℕ → Frame) (on : Bool) (pictures : List CodedPicture) (d : Decoder) → KeepsFrames frames on true pictures d → FillsFrames frames (after_all pictures) (length pictures) d
+pub gap-by : (frames : ℕ → Frame) (on : Bool) (pictures : List CodedPicture) (d : Decoder) → KeepsFrames frames on true pictures d →
+    FillsFrames frames (after_all pictures) (length pictures) d
 gap-by frames on [] d h = record { output = h.output; settled = h.picture }
 gap-by frames true (p ∷ ps) d h = record { output = h.output; settled = h.picture }
 gap-by frames false (p ∷ ps) d h = record { output = h.output; settled = h.picture }
 
-pub ended-gap : (mode : Mode) (frames : ℕ → Frame) (on : Bool) (pictures : List CodedPicture) (decoder : Option Decoder) → WhereMade mode (KeepsFrames frames on true pictures) decoder → WhereMade mode (FillsFrames frames (after_all pictures) (length pictures)) decoder
+pub ended-gap : (mode : Mode) (frames : ℕ → Frame) (on : Bool) (pictures : List CodedPicture) (decoder : Option Decoder) →
+    WhereMade mode (KeepsFrames frames on true pictures) decoder → WhereMade mode (FillsFrames frames (after_all pictures) (length pictures)) decoder
 ended-gap mode frames on pictures decoder h = made-then _ _ mode decoder (gap-by frames on pictures) h
 
 -- what a slice that is no first one finds of its picture's macroblocks
-pub holds-newest : (on : Bool) (pictures : List CodedPicture) (h : Header) (begins : Bool) (work : Work) → begins ≡ begins_after (open_of on pictures) h → HoldsCoded (open_of on pictures) work → HoldsNewest begins pictures work
+pub holds-newest : (on : Bool) (pictures : List CodedPicture) (h : Header) (begins : Bool) (work : Work) → begins ≡ begins_after (open_of on pictures) h →
+    HoldsCoded (open_of on pictures) work → HoldsNewest begins pictures work
 holds-newest on pictures h true work b k = tt
 holds-newest on [] h false work b k = cc
 holds-newest true (p ∷ ps) h false work b k = k

@@ -1,5 +1,6 @@
 -- How a unit joins those before it.
-use Rattle.std.proofs.Common.{◌≡◌, ℕ, ◌+◌, ◌==◌, ◌||◌, ◌&&◌, not, true, false, Bool, ◌∷◌, [], List, Option, Some, None, Result, Ok, Err, OnOk, refl, ap, sym, subst, ◌∙◌, length}
+use Rattle.std.proofs.Common.{◌≡◌, ℕ, ◌+◌, ◌==◌, ◌||◌, ◌&&◌, not, true, false, Bool, ◌∷◌, [], List, Option, Some, None, Result, Ok, Err, OnOk, refl, ap, sym}
+use Rattle.std.proofs.Common.{subst, ◌∙◌, length}
 use native.Mathlib.Numerals.{unary_clauses}
 use Rattle.h264_base.specs.declared.mode.Mode.{Mode}
 use Rattle.h264_base.specs.declared.mode.Mode.TheVariants as modes
@@ -35,23 +36,35 @@ use Rattle.h264_verify.proofs.Entering.{IsNoSlice, EndsBefore, passed-keeps}
 use Rattle.h264_verify.specs.declared.slices.Slices.{Slices}
 use Rattle.h264_verify.proofs.Made.{made-then, some-made, none-made}
 
-module _ {S : Type 0} (mode : Mode) (frames : ℕ → Frame) (took : S → List Call → Type 0) (failures : S → ℕ) (ended : ℕ) (before : History) (unit : NalUnit) (content : Outcome Content) (new : State) where
+module _ {S : Type 0} (mode : Mode) (frames : ℕ → Frame) (took : S → List Call → Type 0) (failures : S → ℕ) (ended : ℕ) (before : History) (unit : NalUnit)
+    (content : Outcome Content) (new : State) where
   -- what was read is judged, and frames were made
-  pub joins-made : {X : Type 0} (made : ℕ → Frame) → Agree ended frames made → (view : X → Content) (s s1 s2 : S) (x : X) (r : Result (Unit {0}) Stop) → Plays (span (took_with made took) failures s s1) view content (Ok x) → Plays (span (took_with made took) failures s1 s2) (λ (u : Unit {0}). u) (steps_outcome (content_steps mode before unit (view x))) r → OnOk r (Keeps mode made (record { unit = unit; content = view x } ∷ before) new) → Joins mode (frame_span took failures frames s s2) ended (joined mode before unit content) new r
+  pub joins-made : {X : Type 0} (made : ℕ → Frame) → Agree ended frames made → (view : X → Content) (s s1 s2 : S) (x : X) (r : Result (Unit {0}) Stop) →
+      Plays (span (took_with made took) failures s s1) view content (Ok x) →
+      Plays (span (took_with made took) failures s1 s2) (λ (u : Unit {0}). u) (steps_outcome (content_steps mode before unit (view x))) r →
+      OnOk r (Keeps mode made (record { unit = unit; content = view x } ∷ before) new) →
+      Joins mode (frame_span took failures frames s s2) ended (joined mode before unit content) new r
   joins-made made a view s s1 s2 x r p q k = record {
     made = made;
     same = a;
     after = record { unit = unit; content = view x } ∷ before;
-    plays = plays-on (took_with made took) failures view (λ (u : Unit {0}). record { unit = unit; content = view x } ∷ before) content _ s s1 s2 x r p (plays-then (took_with made took) failures _ _ s1 s2 r q);
+    plays = plays-on (took_with made took) failures view (λ (u : Unit {0}). record { unit = unit; content = view x } ∷ before) content _ s s1 s2 x r p
+        (plays-then (took_with made took) failures _ _ s1 s2 r q);
     keeps = k;
   }
 
   -- what was read is judged
-  pub joins-on : {X : Type 0} (view : X → Content) (s s1 s2 : S) (x : X) (r : Result (Unit {0}) Stop) → Plays (span (took_with frames took) failures s s1) view content (Ok x) → Plays (span (took_with frames took) failures s1 s2) (λ (u : Unit {0}). u) (steps_outcome (content_steps mode before unit (view x))) r → OnOk r (Keeps mode frames (record { unit = unit; content = view x } ∷ before) new) → Joins mode (frame_span took failures frames s s2) ended (joined mode before unit content) new r
+  pub joins-on : {X : Type 0} (view : X → Content) (s s1 s2 : S) (x : X) (r : Result (Unit {0}) Stop) →
+      Plays (span (took_with frames took) failures s s1) view content (Ok x) →
+      Plays (span (took_with frames took) failures s1 s2) (λ (u : Unit {0}). u) (steps_outcome (content_steps mode before unit (view x))) r →
+      OnOk r (Keeps mode frames (record { unit = unit; content = view x } ∷ before) new) →
+      Joins mode (frame_span took failures frames s s2) ended (joined mode before unit content) new r
   joins-on view s s1 s2 x r p q k = joins-made frames (λ n h. refl) view s s1 s2 x r p q k
 
   -- it could not be read
-  pub joins-stops : {X : Type 0} (view : X → Content) (s s' : S) (e : Stop) → Plays {X = X} (span (took_with frames took) failures s s') view content (Err e) → Joins {X = Unit {0}} mode (frame_span took failures frames s s') ended (joined mode before unit content) new (Err e)
+  pub joins-stops : {X : Type 0} (view : X → Content) (s s' : S) (e : Stop) →
+      Plays {X = X} (span (took_with frames took) failures s s') view content (Err e) →
+      Joins {X = Unit {0}} mode (frame_span took failures frames s s') ended (joined mode before unit content) new (Err e)
   joins-stops view s s' e p = record {
     made = frames;
     same = λ n h. refl;
@@ -65,44 +78,59 @@ pub units-with : (before : History) (r : ReadUnit) (old new : ℕ) → new ≡ o
 units-with before r old new n k = simp unary_clauses at (n ∙ ap (λ x. x + 1) k)
 
 -- a picture that may go on is kept, or is none any more
-left-by : (frames : ℕ → Frame) (ends on : Bool) (pictures : List CodedPicture) (d : Decoder) → KeepsFrames frames on ends pictures d → KeepsFrames frames (not ends && on) false pictures d
+left-by : (frames : ℕ → Frame) (ends on : Bool) (pictures : List CodedPicture) (d : Decoder) → KeepsFrames frames on ends pictures d →
+    KeepsFrames frames (not ends && on) false pictures d
 left-by frames ends on [] d h = record { format = tt; output = h.output; picture = h.picture }
 left-by frames true true (p ∷ ps) d h = record { format = h.format; output = h.output; picture = h.picture }
 left-by frames true false (p ∷ ps) d h = record { format = h.format; output = h.output; picture = h.picture }
 left-by frames false true (p ∷ ps) d h = h
 left-by frames false false (p ∷ ps) d h = h
 
-left-decoder : (mode : Mode) (frames : ℕ → Frame) (ends on : Bool) (pictures : List CodedPicture) (d : Option Decoder) → WhereMade mode (KeepsFrames frames on ends pictures) d → WhereMade mode (KeepsFrames frames (not ends && on) false pictures) d
+left-decoder : (mode : Mode) (frames : ℕ → Frame) (ends on : Bool) (pictures : List CodedPicture) (d : Option Decoder) →
+    WhereMade mode (KeepsFrames frames on ends pictures) d → WhereMade mode (KeepsFrames frames (not ends && on) false pictures) d
 left-decoder mode frames ends on pictures d h = made-then _ _ mode d (left-by frames ends on pictures) h
 
-module _ (mode : Mode) (frames : ℕ → Frame) (before : History) (unit : NalUnit) (d : Option Decoder) (k : WhereMade mode (KeepsFrames frames (goes_on before) (ends_picture (nal_unit_type (header_of unit))) (runs_of before)) d) where
-  pub passed-decoder : (c : Content) → IsNoSlice c → WhereMade mode (KeepsFrames frames (goes_on (record { unit = unit; content = c } ∷ before)) false (runs_of (record { unit = unit; content = c } ∷ before))) d
+module _ (mode : Mode) (frames : ℕ → Frame) (before : History) (unit : NalUnit) (d : Option Decoder)
+    (k : WhereMade mode (KeepsFrames frames (goes_on before) (ends_picture (nal_unit_type (header_of unit))) (runs_of before)) d) where
+  pub passed-decoder : (c : Content) → IsNoSlice c →
+      WhereMade mode (KeepsFrames frames (goes_on (record { unit = unit; content = c } ∷ before)) false
+      (runs_of (record { unit = unit; content = c } ∷ before))) d
   passed-decoder (contents.OfSps set) h = left-decoder mode frames (ends_picture (nal_unit_type (header_of unit))) (goes_on before) (runs_of before) d k
   passed-decoder (contents.OfPps set) h = left-decoder mode frames (ends_picture (nal_unit_type (header_of unit))) (goes_on before) (runs_of before) d k
   passed-decoder (contents.OfSlice h ms) n = absurd n
   passed-decoder contents.Passed h = left-decoder mode frames (ends_picture (nal_unit_type (header_of unit))) (goes_on before) (runs_of before) d k
 
 -- a unit that is no slice belongs to what is kept
-pub passed-joins : (mode : Mode) (frames : ℕ → Frame) (before : History) (unit : NalUnit) (c : Content) (kind : ℕ) (old new : State) → IsNoSlice c → EndsBefore kind c → kind ≡ nal_unit_type (header_of unit) → KeepsWithin mode frames before (ends_picture kind) old → new.units ≡ old.units + 1 → new.sets ≡ maps_with (maps_of before) c → IsLeft (ends_picture kind) old.slices.picture new.slices.picture → new.slices.due ≡ ((kind == 10 || kind == 11) || old.slices.due) → new.slices ≡ record old.slices { picture = new.slices.picture; due = new.slices.due } → new.decoder ≡ old.decoder → Keeps mode frames (record { unit = unit; content = c } ∷ before) new
+pub passed-joins : (mode : Mode) (frames : ℕ → Frame) (before : History) (unit : NalUnit) (c : Content) (kind : ℕ) (old new : State) → IsNoSlice c →
+    EndsBefore kind c → kind ≡ nal_unit_type (header_of unit) → KeepsWithin mode frames before (ends_picture kind) old → new.units ≡ old.units + 1 →
+    new.sets ≡ maps_with (maps_of before) c → IsLeft (ends_picture kind) old.slices.picture new.slices.picture →
+    new.slices.due ≡ ((kind == 10 || kind == 11) || old.slices.due) → new.slices ≡ record old.slices { picture = new.slices.picture; due = new.slices.due } →
+    new.decoder ≡ old.decoder → Keeps mode frames (record { unit = unit; content = c } ∷ before) new
 passed-joins mode frames before unit c kind old new n b k keeps units sets left due same decoder = record {
   units = units-with before (record { unit = unit; content = c }) old.units new.units units keeps.units;
   sets = sets;
   slices = passed-keeps before unit kind old.slices new.slices k keeps.slices left due same c n b;
-  decoder = subst (λ d. WhereMade mode (KeepsFrames frames (goes_on (record { unit = unit; content = c } ∷ before)) false (runs_of (record { unit = unit; content = c } ∷ before))) d) (sym decoder) (passed-decoder mode frames before unit old.decoder (subst (λ (x : ℕ). WhereMade mode (KeepsFrames frames (goes_on before) (ends_picture x) (runs_of before)) old.decoder) k keeps.decoder) c n);
+  decoder = subst (λ d. WhereMade mode (KeepsFrames frames (goes_on (record { unit = unit; content = c } ∷ before)) false
+      (runs_of (record { unit = unit; content = c } ∷ before))) d) (sym decoder)
+      (passed-decoder mode frames before unit old.decoder
+      (subst (λ (x : ℕ). WhereMade mode (KeepsFrames frames (goes_on before) (ends_picture x) (runs_of before)) old.decoder) k keeps.decoder) c n);
 }
 
-pub units-other : (kind : ℕ) (before : History) (unit : NalUnit) → joined_other modes.Units kind before unit ≡ joined modes.Units before unit (gives contents.Passed)
+pub units-other : (kind : ℕ) (before : History) (unit : NalUnit) → joined_other modes.Units kind before unit ≡
+    joined modes.Units before unit (gives contents.Passed)
 unfolding joined_other
 units-other kind before unit = λ i. joined modes.Units before unit (gives contents.Passed)
 
 -- a unit that is no slice is passed over in every mode
-pub passed-other : (mode : Mode) (kind : ℕ) (before : History) (unit : NalUnit) → is_slice kind ≡ false → joined_other mode kind before unit ≡ joined mode before unit (gives contents.Passed)
+pub passed-other : (mode : Mode) (kind : ℕ) (before : History) (unit : NalUnit) → is_slice kind ≡ false →
+    joined_other mode kind before unit ≡ joined mode before unit (gives contents.Passed)
 unfolding joined_other
 passed-other modes.Units kind before unit e = units-other kind before unit
 passed-other modes.Headers kind before unit e = choice-false (is_slice kind) _ _ e
 passed-other modes.Full kind before unit e = choice-false (is_slice kind) _ _ e
 
-pub slice-other : (kind : ℕ) (before : History) (unit : NalUnit) → is_slice kind ≡ true → joined_other modes.Headers kind before unit ≡ joined modes.Headers before unit (slice_outcome before unit)
+pub slice-other : (kind : ℕ) (before : History) (unit : NalUnit) → is_slice kind ≡ true →
+    joined_other modes.Headers kind before unit ≡ joined modes.Headers before unit (slice_outcome before unit)
 unfolding joined_other
 slice-other kind before unit e = choice-true (is_slice kind) _ _ e
 
@@ -111,7 +139,8 @@ unfolding joined_other
 whole-other kind before unit e = choice-true (is_slice kind) _ _ e
 
 -- a slice that begins no picture goes on with the newest
-pub goes-newest : (on : Bool) (pictures : List CodedPicture) (h : Header) (begins : Bool) → begins ≡ begins_after (open_of on pictures) h → begins ≡ false → on ≡ true
+pub goes-newest : (on : Bool) (pictures : List CodedPicture) (h : Header) (begins : Bool) → begins ≡ begins_after (open_of on pictures) h → begins ≡ false →
+    on ≡ true
 goes-newest true pictures h begins e f = refl
 goes-newest false [] h begins e f = cc
 goes-newest false (p ∷ ps) h begins e f = cc
@@ -125,14 +154,26 @@ no-decoder P o e h = none-made P modes.Full o e h
 
 -- there are units of which this is kept, before a slice
 pub some-slice : (mode : Mode) (state : State) → KeepsSome mode false state → KeepsSomeSlice state.slices state.sets state.decoder
-some-slice mode state k = record { mode = mode; frames = k.frames; before = k.before; sets_are = k.keeps.sets; slices_are = k.keeps.slices; keeps = k.keeps.decoder }
+some-slice mode state k = record {
+  mode = mode;
+  frames = k.frames;
+  before = k.before;
+  sets_are = k.keeps.sets;
+  slices_are = k.keeps.slices;
+  keeps = k.keeps.decoder;
+}
 
 -- the pictures with one more slice
-pub runs-with : (before : History) (unit : NalUnit) (h : Header) (ms : List CodedMacroblock) (maps : Maps) (begins : Bool) (sets : Pps × Sps) → begins ≡ begins_at before h → maps ≡ maps_of before → sets_of maps h.pic_parameter_set_id.value ≡ Some sets → joined_to begins (with_sets unit h ms sets) (runs_of before) ≡ runs_of (record { unit = unit; content = contents.OfSlice h ms } ∷ before)
+pub runs-with : (before : History) (unit : NalUnit) (h : Header) (ms : List CodedMacroblock) (maps : Maps) (begins : Bool) (sets : Pps × Sps) → begins ≡
+    begins_at before h → maps ≡ maps_of before → sets_of maps h.pic_parameter_set_id.value ≡ Some sets →
+    joined_to begins (with_sets unit h ms sets) (runs_of before) ≡ runs_of (record { unit = unit; content = contents.OfSlice h ms } ∷ before)
 runs-with before unit h ms maps begins sets b maps-are named =
     ap (λ x. joined_to x (with_sets unit h ms sets) (runs_of before)) b
-    ∙ ap (λ o. joined_by (option_map (with_sets unit h ms) o) (goes_on before) (runs_of before)) (sym named ∙ ap (λ m. sets_of m h.pic_parameter_set_id.value) maps-are)
+    ∙ ap (λ o. joined_by (option_map (with_sets unit h ms) o) (goes_on before) (runs_of before))
+    (sym named ∙ ap (λ m. sets_of m h.pic_parameter_set_id.value) maps-are)
 
 -- the rest of what is kept stays
-pub within : {mode : Mode} {frames made : ℕ → Frame} {before : History} {ended : Bool} (state : State) (slices : Slices) (decoder : Option Decoder) → Keeps mode frames before state → KeepsSlices before ended slices → WhereMade mode (KeepsFrames made (goes_on before) ended (runs_of before)) decoder → KeepsWithin mode made before ended (record state { slices = slices; decoder = decoder })
+pub within : {mode : Mode} {frames made : ℕ → Frame} {before : History} {ended : Bool} (state : State) (slices : Slices) (decoder : Option Decoder) →
+    Keeps mode frames before state → KeepsSlices before ended slices → WhereMade mode (KeepsFrames made (goes_on before) ended (runs_of before)) decoder →
+    KeepsWithin mode made before ended (record state { slices = slices; decoder = decoder })
 within state slices decoder k s d = record { units = k.units; sets = k.sets; slices = s; decoder = d }

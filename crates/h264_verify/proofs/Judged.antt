@@ -1,5 +1,6 @@
 -- A slice is judged: what comes to pass, one part after another.
-use Rattle.std.proofs.Common.{◌≡◌, ℕ, ◌*◌, Bool, true, false, List, [], ◌++◌, Option, Some, Result, Ok, Err, refl, ap, sym, ◌∙◌, subst, append_assoc, if◌then◌else◌}
+use Rattle.std.proofs.Common.{◌≡◌, ℕ, ◌*◌, Bool, true, false, List, [], ◌++◌, Option, Some, Result, Ok, Err, refl, ap, sym, ◌∙◌, subst, append_assoc}
+use Rattle.std.proofs.Common.{if◌then◌else◌}
 use Rattle.h264_base.specs.Call.{span}
 use Rattle.h264_base.specs.declared.mode.Mode.{Mode}
 use Rattle.h264_base.specs.declared.stop.Stop.{Stop}
@@ -32,7 +33,8 @@ use Rattle.h264_verify.proofs.Stepwise.{steps-stop, steps-on}
 use Rattle.h264_verify.proofs.Holding.{coded-by, holds-newest}
 use Rattle.h264_verify.proofs.Made.{made-then}
 
-module _ {S : Type 0} (took : S → List Told → Type 0) (failures : S → ℕ) (mode : Mode) (before : History) (unit : NalUnit) (h : Header) (begins : Bool) (b : begins ≡ begins_at before h) where
+module _ {S : Type 0} (took : S → List Told → Type 0) (failures : S → ℕ) (mode : Mode) (before : History) (unit : NalUnit) (h : Header) (begins : Bool)
+    (b : begins ≡ begins_at before h) where
   abbrev PlaysOf : Outcome (Unit {0}) → S → S → Result (Unit {0}) Stop → Type 0
   PlaysOf o s s' r = Plays (span took failures s s') (λ (x : Unit {0}). x) o r
 
@@ -46,41 +48,60 @@ module _ {S : Type 0} (took : S → List Told → Type 0) (failures : S → ℕ)
   closed-is : slice_steps mode before unit h ≡ close_steps mode begins before ++ own_steps mode before unit h begins b
   closed-is =
       let at = begins_at before h in
-      sym (three (if at then whole_steps mode before else []) (needs (if at then closing_demands before else [])) (if at then closing_frames mode before else []) (own_steps mode before unit h begins b))
+      sym (three (if at then whole_steps mode before else []) (needs (if at then closing_demands before else []))
+      (if at then closing_frames mode before else []) (own_steps mode before unit h begins b))
       ∙ ap (λ (x : Bool). close_steps mode x before ++ own_steps mode before unit h begins b) (sym b)
 
-  pub closed-stop : (s s' : S) (e : Stop) → PlaysOf (steps_outcome (close_steps mode begins before)) s s' (Err e) → PlaysOf (steps_outcome (slice_steps mode before unit h)) s s' (Err e)
-  closed-stop s s' e p = subst (λ (l : List Step). PlaysOf (steps_outcome l) s s' (Err e)) (sym closed-is) (steps-stop took failures (λ (x : Unit {0}). x) (close_steps mode begins before) (own_steps mode before unit h begins b) s s' e p)
+  pub closed-stop : (s s' : S) (e : Stop) → PlaysOf (steps_outcome (close_steps mode begins before)) s s' (Err e) →
+      PlaysOf (steps_outcome (slice_steps mode before unit h)) s s' (Err e)
+  closed-stop s s' e p = subst (λ (l : List Step). PlaysOf (steps_outcome l) s s' (Err e)) (sym closed-is)
+      (steps-stop took failures (λ (x : Unit {0}). x) (close_steps mode begins before) (own_steps mode before unit h begins b) s s' e p)
 
-  pub closed-on : (s0 s1 s2 : S) (x : Unit {0}) (r : Result (Unit {0}) Stop) → PlaysOf (steps_outcome (close_steps mode begins before)) s0 s1 (Ok x) → PlaysOf own s1 s2 r → PlaysOf (steps_outcome (slice_steps mode before unit h)) s0 s2 r
-  closed-on s0 s1 s2 x r p q = subst (λ (l : List Step). PlaysOf (steps_outcome l) s0 s2 r) (sym closed-is) (steps-on took failures (λ (x : Unit {0}). x) (close_steps mode begins before) (own_steps mode before unit h begins b) s0 s1 s2 x r p q)
+  pub closed-on : (s0 s1 s2 : S) (x : Unit {0}) (r : Result (Unit {0}) Stop) → PlaysOf (steps_outcome (close_steps mode begins before)) s0 s1 (Ok x) →
+      PlaysOf own s1 s2 r → PlaysOf (steps_outcome (slice_steps mode before unit h)) s0 s2 r
+  closed-on s0 s1 s2 x r p q = subst (λ (l : List Step). PlaysOf (steps_outcome l) s0 s2 r) (sym closed-is)
+      (steps-on took failures (λ (x : Unit {0}). x) (close_steps mode begins before) (own_steps mode before unit h begins b) s0 s1 s2 x r p q)
 
   -- its own rules, and that it is told
-  module _ (due : Bool) (maps : Maps) (due-is : due ≡ is_idr_due before) (maps-are : maps ≡ maps_of before) (sets : Pps × Sps) (named : sets_of maps h.pic_parameter_set_id.value ≡ Some sets) where
+  module _ (due : Bool) (maps : Maps) (due-is : due ≡ is_idr_due before) (maps-are : maps ≡ maps_of before) (sets : Pps × Sps)
+      (named : sets_of maps h.pic_parameter_set_id.value ≡ Some sets) where
     abbrev slice : CodedSlice
     slice = with_sets unit h [] sets
 
-    pub standing-stop : (s : S) (e : Stop) → (let r : Result (Unit {0}) Stop = Err e in r ≡ judged (standing_demands begins sets.1 due maps (8 * unit.from) h)) → PlaysOf own s s (Err e)
-    standing-stop s e p = refused took failures (own_steps mode before unit h begins b) s e (at-standing mode before unit h begins b due maps due-is maps-are sets named e p) (err-named (standing_demands begins sets.1 due maps (8 * unit.from) h) e (sym p))
+    pub standing-stop : (s : S) (e : Stop) →
+        (let r : Result (Unit {0}) Stop = Err e in r ≡ judged (standing_demands begins sets.1 due maps (8 * unit.from) h)) → PlaysOf own s s (Err e)
+    standing-stop s e p = refused took failures (own_steps mode before unit h begins b) s e
+        (at-standing mode before unit h begins b due maps due-is maps-are sets named e p)
+        (err-named (standing_demands begins sets.1 due maps (8 * unit.from) h) e (sym p))
 
     module _ (x : Unit {0}) (stands : Ok x ≡ judged (standing_demands begins sets.1 due maps (8 * unit.from) h)) where
-      pub place-stop : (s : S) (e : Stop) → (let r : Result (Unit {0}) Stop = Err e in r ≡ judged (first_mb_demands mode (coded_before begins (runs_of before)) h)) → PlaysOf own s s (Err e)
-      place-stop s e p = refused took failures (own_steps mode before unit h begins b) s e (at-place mode before unit h begins b due maps due-is maps-are sets named x stands e p) (err-named (first_mb_demands mode (coded_before begins (runs_of before)) h) e (sym p))
+      pub place-stop : (s : S) (e : Stop) → (let r : Result (Unit {0}) Stop = Err e in
+          r ≡ judged (first_mb_demands mode (coded_before begins (runs_of before)) h)) → PlaysOf own s s (Err e)
+      place-stop s e p = refused took failures (own_steps mode before unit h begins b) s e
+          (at-place mode before unit h begins b due maps due-is maps-are sets named x stands e p)
+          (err-named (first_mb_demands mode (coded_before begins (runs_of before)) h) e (sym p))
 
       module _ (y : Unit {0}) (placed : Ok y ≡ judged (first_mb_demands mode (coded_before begins (runs_of before)) h)) where
-        pub own-then : (s s' : S) (r : Result (Unit {0}) Stop) → PlaysOf (steps_outcome (told_rules mode begins (runs_of before) slice)) s s' r → PlaysOf own s s' r
-        own-then s s' r p = subst (λ (o : Outcome (Unit {0})). PlaysOf o s s' r) (sym (after-place mode before unit h begins b due maps due-is maps-are sets named x stands y placed)) p
+        pub own-then : (s s' : S) (r : Result (Unit {0}) Stop) → PlaysOf (steps_outcome (told_rules mode begins (runs_of before) slice)) s s' r →
+            PlaysOf own s s' r
+        own-then s s' r p = subst (λ (o : Outcome (Unit {0})). PlaysOf o s s' r)
+            (sym (after-place mode before unit h begins b due maps due-is maps-are sets named x stands y placed)) p
 
 -- the macroblocks of its picture before it
-held-before : (frames : ℕ → Frame) (on begins : Bool) (pictures : List CodedPicture) (h : Header) → begins ≡ begins_after (open_of on pictures) h → (d : Decoder) → KeepsFrames frames on begins pictures d → HoldsNewest begins pictures d.work
+held-before : (frames : ℕ → Frame) (on begins : Bool) (pictures : List CodedPicture) (h : Header) → begins ≡ begins_after (open_of on pictures) h →
+    (d : Decoder) → KeepsFrames frames on begins pictures d → HoldsNewest begins pictures d.work
 held-before frames on true pictures h b d k = tt
 held-before frames on false pictures h b d k = holds-newest on pictures h false d.work b (coded-by frames on pictures d k)
 
-pub before-held : (mode : Mode) (frames : ℕ → Frame) (on begins : Bool) (pictures : List CodedPicture) (h : Header) (decoder : Option Decoder) → begins ≡ begins_after (open_of on pictures) h → WhereMade mode (KeepsFrames frames on begins pictures) decoder → WhereMade mode (λ d. HoldsNewest begins pictures d.work) decoder
+pub before-held : (mode : Mode) (frames : ℕ → Frame) (on begins : Bool) (pictures : List CodedPicture) (h : Header) (decoder : Option Decoder) → begins ≡
+    begins_after (open_of on pictures) h → WhereMade mode (KeepsFrames frames on begins pictures) decoder →
+    WhereMade mode (λ d. HoldsNewest begins pictures d.work) decoder
 before-held mode frames on begins pictures h decoder b k = made-then _ _ mode decoder (held-before frames on begins pictures h b) k
 
 -- what the buffer is told of its picture, where it begins one
-pub ended-is : (before : History) (begins : Bool) (slice : CodedSlice) (slices : Slices) → Entered before begins slice slices → begins ≡ true → ended_of slice.sps slice.header slices.pictures (frame_count slices.count) (buffer_size slice.sps) ≡ ended_picture (record { first = slice; later = [] }) (runs_of before)
+pub ended-is : (before : History) (begins : Bool) (slice : CodedSlice) (slices : Slices) → Entered before begins slice slices → begins ≡ true →
+    ended_of slice.sps slice.header slices.pictures (frame_count slices.count) (buffer_size slice.sps) ≡
+    ended_picture (record { first = slice; later = [] }) (runs_of before)
 ended-is before true slice slices e b = rw (e.pictures_are, e.count) refl
 ended-is before false slice slices e b = cc
 

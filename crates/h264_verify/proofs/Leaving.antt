@@ -1,5 +1,6 @@
 -- What legal units leave: slices that were read, pictures that are sound, and frames of those that have ended.
-use Rattle.std.proofs.Common.{◌≡◌, ℕ, ◌*◌, ◌||◌, ◌&&◌, not, Bool, true, false, List, [], ◌∷◌, ◌++◌, length, Option, Some, None, Ok, refl, sym, ◌∙◌, subst, if◌then◌else◌}
+use Rattle.std.proofs.Common.{◌≡◌, ℕ, ◌*◌, ◌||◌, ◌&&◌, not, Bool, true, false, List, [], ◌∷◌, ◌++◌, length, Option, Some, None, Ok, refl, sym, ◌∙◌, subst}
+use Rattle.std.proofs.Common.{if◌then◌else◌}
 use Rattle.std.specs.Option.{is_some}
 use Rattle.h264_verify.specs.Units.{terms_of}
 use Rattle.h264_base.specs.declared.mode.Target.{Target}
@@ -27,7 +28,8 @@ use Rattle.h264_verify.specs.Content as contents
 use Rattle.h264_verify.specs.Steps.{Step, needs, AreMet, Reads, Ends, Runs}
 use Rattle.h264_verify.specs.UnitHeader.{header_of, nal_unit_type}
 use Rattle.h264_verify.specs.History.{History, ReadUnit, maps_of, maps_with}
-use Rattle.h264_verify.specs.Pictures.{CodedSlice, CodedPicture, last_in, last_slice, picture_size, ends_picture, with_sets, sets_at, goes_on, open_of, begins_after, begins_at, joined_to, runs_of, coded_of}
+use Rattle.h264_verify.specs.Pictures.{CodedSlice, CodedPicture, last_in, last_slice, picture_size, ends_picture, with_sets, sets_at, goes_on, open_of}
+use Rattle.h264_verify.specs.Pictures.{begins_after, begins_at, joined_to, runs_of, coded_of}
 use Rattle.h264_verify.specs.Order.{closing_at, closing_demands}
 use Rattle.h264_verify.specs.Order.{whole_at, whole_steps}
 use Rattle.h264_verify.specs.Lists.{list_in}
@@ -46,7 +48,8 @@ use Rattle.h264_verify.proofs.AgreeingUnits.{decoded-last}
 use Rattle.h264_verify.proofs.Alike.{last-of}
 use Rattle.h264_verify.proofs.Entering.{IsNoSlice, left-active}
 use Rattle.h264_verify.proofs.Joining.{runs-with}
-use Rattle.h264_verify.proofs.Legal.{byte_steps, Met, met-first, met-last, met-judged, HaveDecoded, have-decoded, have-first, have-last, decoded-first, met, HasEnded, has-met, IsHeader, IsContent, is-content, marked-alone, header-marked, rest-ends, rest-reads}
+use Rattle.h264_verify.proofs.Legal.{byte_steps, Met, met-first, met-last, met-judged, HaveDecoded, have-decoded, have-first, have-last, decoded-first, met}
+use Rattle.h264_verify.proofs.Legal.{HasEnded, has-met, IsHeader, IsContent, is-content, marked-alone, header-marked, rest-ends, rest-reads}
 use Rattle.h264_verify.proofs.Named.{IsOfKind, AreRead}
 use Rattle.h264_verify.proofs.Soundness.{closes-sound, passed-sound, begun-sound, begun-filled}
 use Rattle.h264_verify.proofs.Standing.{stands-set, stands-if, usable-set, idr-same, joined-sound, joined-active}
@@ -58,7 +61,8 @@ HaveFrames frames [] = Unit {0}
 HaveFrames frames (p ∷ ps) = HasFrame frames (p ∷ ps) × HaveFrames frames ps
 
 -- the picture that may go on ends
-closes : (frames : ℕ → Frame) (on : Bool) (pictures : List CodedPicture) → HaveFrames frames (ended_pictures on false pictures) → HaveDecoded frames (if on then end_frames modes.Full pictures else []) → HaveFrames frames pictures
+closes : (frames : ℕ → Frame) (on : Bool) (pictures : List CodedPicture) → HaveFrames frames (ended_pictures on false pictures) →
+    HaveDecoded frames (if on then end_frames modes.Full pictures else []) → HaveFrames frames pictures
 closes frames on [] h d = tt
 closes frames true (p ∷ ps) h d = (d.0, h)
 closes frames false (p ∷ ps) h d = h
@@ -67,11 +71,15 @@ whole-frames : (frames : ℕ → Frame) (pictures : List CodedPicture) → HaveF
 whole-frames frames [] h = tt
 whole-frames frames (p ∷ ps) h = h
 
-passed-frames : (frames : ℕ → Frame) (ends on : Bool) (pictures : List CodedPicture) → HaveFrames frames (ended_pictures on false pictures) → HaveDecoded frames (if ends then (if on then end_frames modes.Full pictures else []) else []) → HaveFrames frames (ended_pictures (not ends && on) false pictures)
+passed-frames : (frames : ℕ → Frame) (ends on : Bool) (pictures : List CodedPicture) → HaveFrames frames (ended_pictures on false pictures) →
+    HaveDecoded frames (if ends then (if on then end_frames modes.Full pictures else []) else []) →
+    HaveFrames frames (ended_pictures (not ends && on) false pictures)
 passed-frames frames true on pictures h d = whole-frames frames pictures (closes frames on pictures h d)
 passed-frames frames false on pictures h d = h
 
-slice-frames : (frames : ℕ → Frame) (begins on : Bool) (pictures : List CodedPicture) (s : CodedSlice) → begins ≡ begins_after (open_of on pictures) s.header → HaveFrames frames (ended_pictures on false pictures) → HaveDecoded frames (if begins then (if on then end_frames modes.Full pictures else []) else []) →
+slice-frames : (frames : ℕ → Frame) (begins on : Bool) (pictures : List CodedPicture) (s : CodedSlice) → begins ≡
+    begins_after (open_of on pictures) s.header → HaveFrames frames (ended_pictures on false pictures) →
+    HaveDecoded frames (if begins then (if on then end_frames modes.Full pictures else []) else []) →
     HaveFrames frames (ended_pictures true false (joined_to begins s pictures))
 slice-frames frames true on pictures s b h d = closes frames on pictures h d
 slice-frames frames false on [] s b h d = cc
@@ -97,7 +105,8 @@ last-each : (P : CodedSlice → Type 0) (first : CodedSlice) (later : List Coded
 last-each P first [] h = h.0
 last-each P first (s ∷ later) h = h.0
 
-module _ (before : History) (unit : NalUnit) (h : Header) (ms : List CodedMacroblock) (pps : Pps) (sps : Sps) (named : sets_at before h ≡ Some (pps, sps)) (marked : IsMarked h) where
+module _ (before : History) (unit : NalUnit) (h : Header) (ms : List CodedMacroblock) (pps : Pps) (sps : Sps) (named : sets_at before h ≡ Some (pps, sps))
+    (marked : IsMarked h) where
   abbrev maps : Maps
   maps = maps_of before
 
@@ -118,14 +127,18 @@ module _ (before : History) (unit : NalUnit) (h : Header) (ms : List CodedMacrob
   further true pictures = needs (first_mb_demands modes.Full 0 h) ++ first_slice_rules modes.Full pictures bare
   further false pictures = needs (first_mb_demands modes.Full (length (coded_of pictures)) h) ++ needs (later_slice_rules pictures bare)
 
-  standing-met : (begins due : Bool) (pictures : List CodedPicture) → Met (rules_of modes.Full begins due maps pictures bare) → Met (needs (standing_demands begins sps due maps (8 * unit.from) h))
+  standing-met : (begins due : Bool) (pictures : List CodedPicture) → Met (rules_of modes.Full begins due maps pictures bare) →
+      Met (needs (standing_demands begins sps due maps (8 * unit.from) h))
   standing-met true due pictures m = met-first (needs (standing_demands true sps due maps (8 * unit.from) h)) (further true pictures) m
   standing-met false due pictures m = met-first (needs (standing_demands false sps due maps (8 * unit.from) h)) (further false pictures) m
 
-  joined-read : (begins on due : Bool) (pictures : List CodedPicture) → begins ≡ begins_after (open_of on pictures) h → AreRead pictures → HasActive due pictures maps → Met (rules_of modes.Full begins due maps pictures bare) → IsOwn begins pictures ms → AreRead (joined_to begins slice pictures)
+  joined-read : (begins on due : Bool) (pictures : List CodedPicture) → begins ≡ begins_after (open_of on pictures) h → AreRead pictures →
+      HasActive due pictures maps → Met (rules_of modes.Full begins due maps pictures bare) → IsOwn begins pictures ms →
+      AreRead (joined_to begins slice pictures)
   joined-read true on due pictures b r a m own = (
     record {
-      set = λ f. stands-set due pictures maps sps (8 * unit.from) h a (met-judged (standing_demands true sps due maps (8 * unit.from) h) (standing-met true due pictures m)) f;
+      set = λ f. stands-set due pictures maps sps (8 * unit.from) h a
+          (met-judged (standing_demands true sps due maps (8 * unit.from) h) (standing-met true due pictures m)) f;
       alone = marked-alone h marked;
       kinds = (record { idr = refl; intra = i-of _ _ _ m.1.1.1.0 }, tt);
       slices = (own, tt);
@@ -170,32 +183,42 @@ module _ (before : History) (unit : NalUnit) (h : Header) (ms : List CodedMacrob
   rules-met : Met (slice_steps modes.Full before unit h) → Met (rules_of modes.Full begins (is_idr_due before) maps pictures bare)
   rules-met m =
       let last = met-last shows own (met-last closing (shows ++ own) (met-last whole (closing ++ (shows ++ own)) m)) in
-      met-first (rules_of modes.Full begins (is_idr_due before) maps pictures bare) (step.Tells (Said (slice_call (joined_to begins bare pictures) bare)) ∷ []) (subst (λ (o : Option (Pps × Sps)). Met (steps_by modes.Full o before unit h)) named last)
+      met-first (rules_of modes.Full begins (is_idr_due before) maps pictures bare)
+      (step.Tells (Said (slice_call (joined_to begins bare pictures) bare)) ∷ [])
+      (subst (λ (o : Option (Pps × Sps)). Met (steps_by modes.Full o before unit h)) named last)
 
   closing-met : Met (slice_steps modes.Full before unit h) → Met closing
   closing-met m = met-first closing (shows ++ own) (met-last whole (closing ++ (shows ++ own)) m)
 
   -- the pictures with the slice are sound
-  slice-sound : HasActive (is_idr_due before) pictures maps → AreSound (has_ended (goes_on before) false) pictures → Met (slice_steps modes.Full before unit h) → AreSound false (joined_to begins slice pictures)
+  slice-sound : HasActive (is_idr_due before) pictures maps → AreSound (has_ended (goes_on before) false) pictures →
+      Met (slice_steps modes.Full before unit h) → AreSound false (joined_to begins slice pictures)
   slice-sound a s m =
       let rules = rules-met m in
       let ok = met-judged (standing_demands begins sps (is_idr_due before) maps (8 * unit.from) h) (standing-met begins (is_idr_due before) pictures rules) in
-      joined-sound begins (goes_on before) slice pictures refl (begun-sound begins (goes_on before) pictures s (closing-met m)) marked (usable-set maps h.pic_parameter_set_id.value pps sps named)
+      joined-sound begins (goes_on before) slice pictures refl (begun-sound begins (goes_on before) pictures s (closing-met m)) marked
+      (usable-set maps h.pic_parameter_set_id.value pps sps named)
       (stands-if begins (is_idr_due before) pictures maps sps (8 * unit.from) h a ok) (begun-filled begins (is_idr_due before) maps pictures bare rules)
 
-  closing-decoded : (frames : ℕ → Frame) → HaveDecoded frames (slice_steps modes.Full before unit h) → HaveDecoded frames (if begins then (if goes_on before then end_frames modes.Full pictures else []) else [])
+  closing-decoded : (frames : ℕ → Frame) → HaveDecoded frames (slice_steps modes.Full before unit h) →
+      HaveDecoded frames (if begins then (if goes_on before then end_frames modes.Full pictures else []) else [])
   closing-decoded frames d = have-first frames shows own (have-last frames closing (shows ++ own) (have-last frames whole (closing ++ (shows ++ own)) d))
 
-  slice-stands : (earlier last : List Told) → Stands before earlier → Met (slice_steps modes.Full before unit h) → ((frames : ℕ → Frame) → AreDecoded frames last → HaveDecoded frames (slice_steps modes.Full before unit h)) → IsOwn begins pictures ms → Stands after (earlier ++ last)
+  slice-stands : (earlier last : List Told) → Stands before earlier → Met (slice_steps modes.Full before unit h) →
+      ((frames : ℕ → Frame) → AreDecoded frames last → HaveDecoded frames (slice_steps modes.Full before unit h)) → IsOwn begins pictures ms →
+      Stands after (earlier ++ last)
   slice-stands earlier last s met decoded read =
       let rules = rules-met met in
       let runs : joined_to begins slice pictures ≡ runs_of after = runs-with before unit h ms maps begins (pps, sps) refl refl named in
       record {
         read = subst AreRead runs (joined-read begins (goes_on before) (is_idr_due before) pictures refl s.read s.active rules read);
-        active = subst (λ ps. HasActive false ps (maps_with maps (contents.OfSlice h ms))) runs (joined-active maps slice named begins (goes_on before) pictures (is_idr_due before) (8 * unit.from) refl s.active (met-judged (standing_demands begins sps (is_idr_due before) maps (8 * unit.from) h) (standing-met begins (is_idr_due before) pictures rules)));
+        active = subst (λ ps. HasActive false ps (maps_with maps (contents.OfSlice h ms))) runs
+            (joined-active maps slice named begins (goes_on before) pictures (is_idr_due before) (8 * unit.from) refl s.active
+            (met-judged (standing_demands begins sps (is_idr_due before) maps (8 * unit.from) h) (standing-met begins (is_idr_due before) pictures rules)));
         sound = subst (λ ps. AreSound false ps) runs (slice-sound s.active s.sound met);
         frames = λ frames d. subst (λ ps. HaveFrames frames (ended_pictures true false ps)) runs
-            (slice-frames frames begins (goes_on before) pictures slice refl (s.frames frames (decoded-first frames earlier last d)) (closing-decoded frames (decoded frames (decoded-last frames earlier last d))));
+            (slice-frames frames begins (goes_on before) pictures slice refl (s.frames frames (decoded-first frames earlier last d))
+            (closing-decoded frames (decoded frames (decoded-last frames earlier last d))));
       }
 
 -- its slice data
@@ -207,7 +230,8 @@ module _ (before : History) (unit : NalUnit) (h : Header) (pps : Pps) (sps : Sps
   first = with_sets unit h [] (pps, sps)
 
   abbrev IsData : List CodedMacroblock → Type 0
-  IsData all = AreOfSlice (picture_set begin first (runs_of before)).frame_size.width (slice_context pps sps h (list_in (joined_to begin first (runs_of before)) first)) (coded_so_far begin (runs_of before)) all
+  IsData all = AreOfSlice (picture_set begin first (runs_of before)).frame_size.width
+      (slice_context pps sps h (list_in (joined_to begin first (runs_of before)) first)) (coded_so_far begin (runs_of before)) all
 
   abbrev IsSlice : Content → Type 0
   IsSlice c = (ms : List CodedMacroblock) × (c ≡ contents.OfSlice h ms) × IsData ms
@@ -217,7 +241,8 @@ module _ (before : History) (unit : NalUnit) (h : Header) (pps : Pps) (sps : Sps
   data-gives =
       let context = slice_context pps sps h (list_in (joined_to begin first (runs_of before)) first) in
       let set = picture_set begin first (runs_of before) in
-      subst (λ (o : Option (Pps × Sps)). Gives (data_by o before unit h) IsData) (sym named) (of-slice (transform_fits context) set.frame_size.width context (coded_so_far begin (runs_of before)) (picture_size set))
+      subst (λ (o : Option (Pps × Sps)). Gives (data_by o before unit h) IsData) (sym named)
+      (of-slice (transform_fits context) set.frame_size.width context (coded_so_far begin (runs_of before)) (picture_size set))
 
   whole-gives : Gives (slice_data_at before unit h >>= (λ ms. Done (contents.OfSlice h ms))) IsSlice
   whole-gives = gives-bind IsData IsSlice _ _ data-gives (λ ms d. gives-done IsSlice _ (ms, refl, d))
@@ -234,37 +259,72 @@ module _ (before : History) (unit : NalUnit) (earlier last : List Told) (s : Sta
   left-sound : HasEnded before unit last → AreSound (has_ended (not (ends_picture kind) && goes_on before) false) (runs_of before)
   left-sound e =
       passed-sound (ends_picture kind) (goes_on before) (runs_of before) s.sound
-      (met-first (needs (closing_at kind before)) (frames_at modes.Full kind before) (met-last (whole_at modes.Full kind before) (needs (closing_at kind before) ++ frames_at modes.Full kind before) e.met))
+      (met-first (needs (closing_at kind before)) (frames_at modes.Full kind before)
+      (met-last (whole_at modes.Full kind before) (needs (closing_at kind before) ++ frames_at modes.Full kind before) e.met))
 
-  left-frames : HasEnded before unit last → (frames : ℕ → Frame) → AreDecoded frames (earlier ++ last) → HaveFrames frames (ended_pictures (not (ends_picture kind) && goes_on before) false (runs_of before))
+  left-frames : HasEnded before unit last → (frames : ℕ → Frame) → AreDecoded frames (earlier ++ last) →
+      HaveFrames frames (ended_pictures (not (ends_picture kind) && goes_on before) false (runs_of before))
   left-frames e frames d =
       passed-frames frames (ends_picture kind) (goes_on before) (runs_of before) (s.frames frames (decoded-first frames earlier last d))
-      (have-last frames (needs (closing_at kind before)) (frames_at modes.Full kind before) (have-last frames (whole_at modes.Full kind before) (needs (closing_at kind before) ++ frames_at modes.Full kind before) (e.decoded frames (decoded-last frames earlier last d))))
+      (have-last frames (needs (closing_at kind before)) (frames_at modes.Full kind before)
+      (have-last frames (whole_at modes.Full kind before) (needs (closing_at kind before) ++ frames_at modes.Full kind before)
+      (e.decoded frames (decoded-last frames earlier last d))))
 
   passed-stands : HasEnded before unit last → (c : Content) → IsNoSlice c → Stands (one_more c) (earlier ++ last)
-  passed-stands e (contents.OfSps set) n = record { read = s.read; active = left-active _ (is_idr_due before) (runs_of before) (maps_of before) _ refl s.active; sound = left-sound e; frames = left-frames e }
-  passed-stands e (contents.OfPps set) n = record { read = s.read; active = left-active _ (is_idr_due before) (runs_of before) (maps_of before) _ refl s.active; sound = left-sound e; frames = left-frames e }
+  passed-stands e (contents.OfSps set) n =
+      record {
+        read = s.read;
+        active = left-active _ (is_idr_due before) (runs_of before) (maps_of before) _ refl s.active;
+        sound = left-sound e;
+        frames = left-frames e;
+      }
+  passed-stands e (contents.OfPps set) n =
+      record {
+        read = s.read;
+        active = left-active _ (is_idr_due before) (runs_of before) (maps_of before) _ refl s.active;
+        sound = left-sound e;
+        frames = left-frames e;
+      }
   passed-stands e (contents.OfSlice h ms) n = absurd n
-  passed-stands e contents.Passed n = record { read = s.read; active = left-active _ (is_idr_due before) (runs_of before) (maps_of before) _ refl s.active; sound = left-sound e; frames = left-frames e }
+  passed-stands e contents.Passed n = record {
+    read = s.read;
+    active = left-active _ (is_idr_due before) (runs_of before) (maps_of before) _ refl s.active;
+    sound = left-sound e;
+    frames = left-frames e;
+  }
 
-  with-data : (h : Header) (c : Content) (bit : ℕ) (rest : List Told) → Met (byte_steps unit) → IsHeader (sets_of (maps_of before)) (slice_unit unit) h → Met (slice_steps modes.Full before unit h) → ((frames : ℕ → Frame) → AreDecoded frames last → HaveDecoded frames (slice_steps modes.Full before unit h)) →
-      Runs (body_of unit) (Reads (slice_data_at before unit h >>= (λ ms. Done (contents.OfSlice h ms))) bit (λ whole end. Ends whole)) rest (Ok c) → (o : Option (Pps × Sps)) → sets_at before h ≡ o → is_some o ≡ true → Stands (one_more c) (earlier ++ last)
+  with-data : (h : Header) (c : Content) (bit : ℕ) (rest : List Told) → Met (byte_steps unit) → IsHeader (sets_of (maps_of before)) (slice_unit unit) h →
+      Met (slice_steps modes.Full before unit h) →
+      ((frames : ℕ → Frame) → AreDecoded frames last → HaveDecoded frames (slice_steps modes.Full before unit h)) →
+      Runs (body_of unit) (Reads (slice_data_at before unit h >>= (λ ms. Done (contents.OfSlice h ms))) bit (λ whole end. Ends whole)) rest (Ok c) →
+      (o : Option (Pps × Sps)) → sets_at before h ≡ o → is_some o ≡ true → Stands (one_more c) (earlier ++ last)
   with-data h c bit rest top k m d r None e t = cc
   with-data h c bit rest top k m d r (Some sets) e t =
-      let x = rest-reads (body_of unit) (slice_data_at before unit h >>= (λ ms. Done (contents.OfSlice h ms))) bit rest c (IsSlice before unit h sets.0 sets.1 e) (whole-gives before unit h sets.0 sets.1 e) r in
-      subst (λ y. Stands (one_more y) (earlier ++ last)) (sym x.1) (slice-stands before unit h x.0 sets.0 sets.1 e (header-marked before unit h top k) earlier last s m d x.2)
+      let x = rest-reads (body_of unit) (slice_data_at before unit h >>= (λ ms. Done (contents.OfSlice h ms))) bit rest c
+      (IsSlice before unit h sets.0 sets.1 e) (whole-gives before unit h sets.0 sets.1 e) r in
+      subst (λ y. Stands (one_more y) (earlier ++ last)) (sym x.1)
+      (slice-stands before unit h x.0 sets.0 sets.1 e (header-marked before unit h top k) earlier last s m d x.2)
 
-  by-content : (c found : Content) (bit : ℕ) (rest : List Told) → Met (byte_steps unit) → HasEnded before unit last → IsContent before unit found → Met (content_steps modes.Full before unit found) → ((frames : ℕ → Frame) → AreDecoded frames last → HaveDecoded frames (content_steps modes.Full before unit found)) →
+  by-content : (c found : Content) (bit : ℕ) (rest : List Told) → Met (byte_steps unit) → HasEnded before unit last → IsContent before unit found →
+      Met (content_steps modes.Full before unit found) →
+      ((frames : ℕ → Frame) → AreDecoded frames last → HaveDecoded frames (content_steps modes.Full before unit found)) →
       Runs (body_of unit) (data_course modes.Full before unit found bit) rest (Ok c) → Stands (one_more c) (earlier ++ last)
-  by-content c (contents.OfSps set) bit rest top e k m d r = subst (λ y. Stands (one_more y) (earlier ++ last)) (sym (rest-ends (body_of unit) (contents.OfSps set) c rest r)) (passed-stands e (contents.OfSps set) tt)
-  by-content c (contents.OfPps set) bit rest top e k m d r = subst (λ y. Stands (one_more y) (earlier ++ last)) (sym (rest-ends (body_of unit) (contents.OfPps set) c rest r)) (passed-stands e (contents.OfPps set) tt)
+  by-content c (contents.OfSps set) bit rest top e k m d r =
+      subst (λ y. Stands (one_more y) (earlier ++ last)) (sym (rest-ends (body_of unit) (contents.OfSps set) c rest r))
+      (passed-stands e (contents.OfSps set) tt)
+  by-content c (contents.OfPps set) bit rest top e k m d r =
+      subst (λ y. Stands (one_more y) (earlier ++ last)) (sym (rest-ends (body_of unit) (contents.OfPps set) c rest r))
+      (passed-stands e (contents.OfPps set) tt)
   by-content c (contents.OfSlice h ms) bit rest top e k m d r = with-data h c bit rest top k m d r (sets_at before h) refl k.named
-  by-content c contents.Passed bit rest top e k m d r = subst (λ y. Stands (one_more y) (earlier ++ last)) (sym (rest-ends (body_of unit) contents.Passed c rest r)) (passed-stands e contents.Passed tt)
+  by-content c contents.Passed bit rest top e k m d r =
+      subst (λ y. Stands (one_more y) (earlier ++ last)) (sym (rest-ends (body_of unit) contents.Passed c rest r)) (passed-stands e contents.Passed tt)
 
-stands-next : (target : Target) (before : History) (r : ReadUnit) (earlier last : List Told) → Stands before earlier → IsLegal (terms_of modes.Full target) before r last → Stands (r ∷ before) (earlier ++ last)
+stands-next : (target : Target) (before : History) (r : ReadUnit) (earlier last : List Told) → Stands before earlier →
+    IsLegal (terms_of modes.Full target) before r last → Stands (r ∷ before) (earlier ++ last)
 stands-next target before r earlier last s l =
     let m = has-met target before r last l in
-    by-content before r.unit earlier last s r.content m.found m.bit m.rest m.header m.ends (is-content target before r.unit r.content last m) m.rules m.frames m.following
+    by-content before r.unit earlier last s r.content m.found m.bit m.rest m.header m.ends (is-content target before r.unit r.content last m) m.rules m.frames
+    m.following
 
 pub stands : (target : Target) (before : History) (calls : List Told) → AreLegal (terms_of modes.Full target) before calls → Stands before calls
 stands target [] calls l = record { read = tt; active = refl; sound = tt; frames = λ frames d. tt }
@@ -275,17 +335,20 @@ pub legal-read : (target : Target) (before : History) (calls : List Told) → Ar
 legal-read target before calls l = (stands target before calls l).read
 
 -- the pictures that have ended have their frames
-pub legal-frames : (target : Target) (before : History) (calls : List Told) → AreLegal (terms_of modes.Full target) before calls → (frames : ℕ → Frame) → AreDecoded frames calls → HaveFrames frames (ended_pictures (goes_on before) false (runs_of before))
+pub legal-frames : (target : Target) (before : History) (calls : List Told) → AreLegal (terms_of modes.Full target) before calls →
+    (frames : ℕ → Frame) → AreDecoded frames calls → HaveFrames frames (ended_pictures (goes_on before) false (runs_of before))
 legal-frames target before calls l frames d = (stands target before calls l).frames frames d
 
 -- ---- at the end of the input
 
 -- all pictures have ended
-pub all-sound : (target : Target) (units : History) (first last : List Told) (bit : ℕ) → AreLegal (terms_of modes.Full target) units first → AreMet (end_steps modes.Full units bit) last → AreSound true (runs_of units)
+pub all-sound : (target : Target) (units : History) (first last : List Told) (bit : ℕ) → AreLegal (terms_of modes.Full target) units first →
+    AreMet (end_steps modes.Full units bit) last → AreSound true (runs_of units)
 all-sound target units first last bit l e =
     let rest = closing_frames modes.Full units ++ (needs (picture_demand modes.Full units bit ∷ []) ++ last_frames modes.Full (runs_of units)) in
     closes-sound (goes_on units) (runs_of units) (stands target units first l).sound
-    (met-first (needs (closing_demands units)) rest (met-last (whole_steps modes.Full units) (needs (closing_demands units) ++ rest) (met (end_steps modes.Full units bit) last e)))
+    (met-first (needs (closing_demands units)) rest
+    (met-last (whole_steps modes.Full units) (needs (closing_demands units) ++ rest) (met (end_steps modes.Full units bit) last e)))
 
 module _ (target : Target) (bytes : List ℕ) (calls : List Told) (summary : Summary) (h : Holds (terms_of modes.Full target) bytes calls summary) where
   abbrev shown : List Step
@@ -297,4 +360,6 @@ module _ (target : Target) (bytes : List ℕ) (calls : List Told) (summary : Sum
       let all = subst (AreDecoded frames) h.calls_are d in
       let last = have-decoded frames (end_steps modes.Full h.units (8 * length bytes)) h.last h.end (decoded-last frames h.first h.last all) in
       closes frames (goes_on h.units) (runs_of h.units) (legal-frames target h.units h.first h.legal frames (decoded-first frames h.first h.last all))
-      (have-first frames (closing_frames modes.Full h.units) shown (have-last frames (needs (closing_demands h.units)) (closing_frames modes.Full h.units ++ shown) (have-last frames (whole_steps modes.Full h.units) (needs (closing_demands h.units) ++ (closing_frames modes.Full h.units ++ shown)) last)))
+      (have-first frames (closing_frames modes.Full h.units) shown
+      (have-last frames (needs (closing_demands h.units)) (closing_frames modes.Full h.units ++ shown)
+      (have-last frames (whole_steps modes.Full h.units) (needs (closing_demands h.units) ++ (closing_frames modes.Full h.units ++ shown)) last)))

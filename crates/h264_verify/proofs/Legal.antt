@@ -1,5 +1,6 @@
 -- What a unit that is legal has met, and what it tells of decoded pictures.
-use Rattle.std.proofs.Common.{◌≡◌, ℕ, ◌*◌, ◌==◌, Bool, true, false, IsTrue, List, [], ◌∷◌, ◌++◌, length, inl, inr, Option, Some, None, Result, Ok, Err, refl, ap, sym, subst, if◌then◌else◌}
+use Rattle.std.proofs.Common.{◌≡◌, ℕ, ◌*◌, ◌==◌, Bool, true, false, IsTrue, List, [], ◌∷◌, ◌++◌, length, inl, inr, Option, Some, None, Result, Ok, Err, refl}
+use Rattle.std.proofs.Common.{ap, sym, subst, if◌then◌else◌}
 use Rattle.std.specs.Option.{is_some}
 use Rattle.h264_verify.specs.Units.{terms_of}
 use Rattle.h264_base.specs.declared.mode.Target.{Target}
@@ -73,7 +74,8 @@ pub met-judged : (ds : List Demand) → Met (needs ds) → (let o : Result (Unit
 met-judged [] h = refl
 met-judged (d ∷ ds) h = by d.met h.0 (met-judged ds h.1)
   where
-    by : (b : Bool) → b ≡ true → (let o : Result (Unit {0}) Stop = Ok tt in o ≡ judged ds) → (let o : Result (Unit {0}) Stop = Ok tt in o ≡ (if b then judged ds else Err (No d.bit d.rule)))
+    by : (b : Bool) → b ≡ true → (let o : Result (Unit {0}) Stop = Ok tt in o ≡ judged ds) →
+        (let o : Result (Unit {0}) Stop = Ok tt in o ≡ (if b then judged ds else Err (No d.bit d.rule)))
     by true e k = k
     by false e k = cc
 
@@ -89,7 +91,8 @@ pub have-decoded : (frames : ℕ → Frame) (steps : List Step) (calls : List To
 have-decoded frames [] calls h d = tt
 have-decoded frames (Needs x ∷ steps) calls h d = have-decoded frames steps calls h.1 d
 have-decoded frames (Tells (Said call) ∷ steps) calls h d = have-decoded frames steps h.0 h.2 (subst (AreDecoded frames) h.1 d)
-have-decoded frames (Tells (Decodes pictures) ∷ steps) calls h d = let k : HasFrame frames pictures × AreDecoded frames h.0 = subst (AreDecoded frames) h.1 d in (k.0, have-decoded frames steps h.0 h.2 k.1)
+have-decoded frames (Tells (Decodes pictures) ∷ steps) calls h d = let k : HasFrame frames pictures ×
+    AreDecoded frames h.0 = subst (AreDecoded frames) h.1 d in (k.0, have-decoded frames steps h.0 h.2 k.1)
 have-decoded frames (Tells (Shows e) ∷ steps) calls h d = have-decoded frames steps h.0 h.2 (subst (AreDecoded frames) h.1 d)
 
 pub have-first : (frames : ℕ → Frame) (xs ys : List Step) → HaveDecoded frames (xs ++ ys) → HaveDecoded frames xs
@@ -120,17 +123,21 @@ decoded-after frames calls first later e d = decoded-last frames first later (su
 
 -- ---- a course that comes to its end
 
-takes : (body : Body) (steps : List Step) (course : Course) (calls : List Told) (c : Content) → Runs body (Takes steps course) calls (Ok c) → (first : List Told) × (later : List Told) × AreMet steps first × Runs body course later (Ok c) × (calls ≡ first ++ later)
+takes : (body : Body) (steps : List Step) (course : Course) (calls : List Told) (c : Content) → Runs body (Takes steps course) calls (Ok c) →
+    (first : List Told) × (later : List Told) × AreMet steps first × Runs body course later (Ok c) × (calls ≡ first ++ later)
 takes body steps course calls c (inl h) = h
 takes body steps course calls c (inr h) = absurd (let e = h.2 in cc)
 
-reads : (body : Body) (g : Grammar Content) (bit : ℕ) (next : Content → ℕ → Course) (calls : List Told) (c : Content) → Runs body (Reads g bit next) calls (Ok c) →
-    (es : List Element) × (found : Content) × (end : ℕ) × (later : List Told) × Says g body bit es (Ok (found, end)) × Runs body (next found end) later (Ok c) × (calls ≡ told body es ++ later)
+reads : (body : Body) (g : Grammar Content) (bit : ℕ) (next : Content → ℕ → Course) (calls : List Told) (c : Content) →
+    Runs body (Reads g bit next) calls (Ok c) →
+    (es : List Element) × (found : Content) × (end : ℕ) × (later : List Told) × Says g body bit es (Ok (found, end)) ×
+    Runs body (next found end) later (Ok c) × (calls ≡ told body es ++ later)
 reads body g bit next calls c (inl h) = h
 reads body g bit next calls c (inr h) = absurd (let e = h.4 in cc)
 
 -- what the derivation of a structure gives
-pub given : {A : Type 0} (P : A → Type 0) (g : Grammar A) (body : Body) (i : ℕ) (es : List Element) (x : A) (j : ℕ) → Gives g P → Says g body i es (Ok (x, j)) → P x
+pub given : {A : Type 0} (P : A → Type 0) (g : Grammar A) (body : Body) (i : ℕ) (es : List Element) (x : A) (j : ℕ) → Gives g P →
+    Says g body i es (Ok (x, j)) → P x
 given {A} P g body i es x j h s = h.gives body i x j (ap (λ (r : Run A). r.answer) (run-one g body i es (Ok (x, j)) s))
 
 -- ---- a unit
@@ -143,7 +150,8 @@ abbrev pub said_steps : NalUnit → List Step
 said_steps unit = Tells (Said (unit_call unit.from (header_of unit) (length unit.body))) ∷ []
 
 abbrev pub end_steps_at : History → NalUnit → List Step
-end_steps_at before unit = whole_at modes.Full (nal_unit_type (header_of unit)) before ++ (needs (closing_at (nal_unit_type (header_of unit)) before) ++ frames_at modes.Full (nal_unit_type (header_of unit)) before)
+end_steps_at before unit = whole_at modes.Full (nal_unit_type (header_of unit)) before ++
+    (needs (closing_at (nal_unit_type (header_of unit)) before) ++ frames_at modes.Full (nal_unit_type (header_of unit)) before)
 
 -- what follows its content
 abbrev after_content : History → NalUnit → Content → ℕ → Course
@@ -167,13 +175,15 @@ pub record HasMet (target : Target) (before : History) (unit : NalUnit) (c : Con
   pub rest : List Told
   pub following : Runs (body_of unit) (data_course modes.Full before unit found bit) rest (Ok c)
 
-pub has-met : (target : Target) (before : History) (r : ReadUnit) (calls : List Told) → IsLegal (terms_of modes.Full target) before r calls → HasMet target before r.unit r.content calls
+pub has-met : (target : Target) (before : History) (r : ReadUnit) (calls : List Told) → IsLegal (terms_of modes.Full target) before r calls →
+    HasMet target before r.unit r.content calls
 has-met target before r calls l =
     let unit = r.unit in
     let body = body_of unit in
     let kind = nal_unit_type (header_of unit) in
     let c = r.content in
-    let first = takes body (byte_steps unit) (Takes (said_steps unit) (Takes (end_steps_at before unit) (content_course (terms_of modes.Full target) before unit))) calls c l.runs in
+    let first = takes body (byte_steps unit)
+    (Takes (said_steps unit) (Takes (end_steps_at before unit) (content_course (terms_of modes.Full target) before unit))) calls c l.runs in
     let second = takes body (said_steps unit) (Takes (end_steps_at before unit) (content_course (terms_of modes.Full target) before unit)) first.1 c first.3 in
     let third = takes body (end_steps_at before unit) (content_course (terms_of modes.Full target) before unit) second.1 c second.3 in
     let fourth = reads body (content (terms_of modes.Full target) kind before unit) 0 (after_content before unit) third.1 c third.3 in
@@ -184,7 +194,8 @@ has-met target before r calls l =
       header = met (byte_steps unit) first.0 first.2;
       ends = record {
         met = met (end_steps_at before unit) third.0 third.2;
-        decoded = λ frames d. have-decoded frames (end_steps_at before unit) third.0 third.2 (decoded-before frames second.1 third.0 third.1 third.4 (inner frames d));
+        decoded = λ frames d. have-decoded frames (end_steps_at before unit) third.0 third.2
+            (decoded-before frames second.1 third.0 third.1 third.4 (inner frames d));
       };
       found = fourth.1;
       bit = fourth.2;
@@ -208,7 +219,9 @@ pub record IsHeader (sets : ℕ → Option (Pps × Sps)) (u : SliceUnit) (h : He
 
 named-gives : (sets : ℕ → Option (Pps × Sps)) → Gives (named_sets sets) (λ n. is_some (sets n.id.value) ≡ true)
 unfolding named_sets
-named-gives sets = gives-bind _ _ _ _ (gives-any _) (λ e a. gives-bind _ _ _ _ (gives-any _) (λ x b. gives-bind _ _ _ _ (gives-check _ _ _) (λ y t. gives-done _ _ (some-mapped layout_of (sets (natural e.value)) t))))
+named-gives sets = gives-bind _ _ _ _ (gives-any _)
+    (λ e a. gives-bind _ _ _ _ (gives-any _)
+    (λ x b. gives-bind _ _ _ _ (gives-check _ _ _) (λ y t. gives-done _ _ (some-mapped layout_of (sets (natural e.value)) t))))
 
 abbrev HasSets : (ℕ → Option (Pps × Sps)) → Header → Type 0
 HasSets sets h = is_some (sets h.pic_parameter_set_id.value) ≡ true
@@ -216,7 +229,8 @@ HasSets sets h = is_some (sets h.pic_parameter_set_id.value) ≡ true
 sets-given : (sets : ℕ → Option (Pps × Sps)) (u : SliceUnit) → Gives (header sets u) (HasSets sets)
 unfolding header
 sets-given sets u =
-    gives-bind _ (HasSets sets) _ _ (gives-any _) (λ first a. gives-bind _ (HasSets sets) _ _ (gives-any _) (λ stated b. gives-bind _ (HasSets sets) _ _ (named-gives sets) (λ named n.
+    gives-bind _ (HasSets sets) _ _ (gives-any _)
+    (λ first a. gives-bind _ (HasSets sets) _ _ (gives-any _) (λ stated b. gives-bind _ (HasSets sets) _ _ (named-gives sets) (λ named n.
     gives-bind _ (HasSets sets) _ _ (gives-any _) (λ num c. gives-bind _ (HasSets sets) _ _ (gives-any _) (λ idr d.
     gives-bind _ (HasSets sets) _ _ (gives-any _) (λ order e. gives-bind _ (HasSets sets) _ _ (gives-any _) (λ kind f.
     gives-bind _ (HasSets sets) _ _ (gives-any _) (λ marking g.
@@ -224,7 +238,10 @@ sets-given sets u =
     gives-done (HasSets sets) _ n))))))))))
 
 header-gives : (sets : ℕ → Option (Pps × Sps)) (u : SliceUnit) → Gives (header sets u) (IsHeader sets u)
-header-gives sets u = record { gives = λ body i h j e. let g = sets-given sets u in record { named = g.gives body i h j e; unit = header-of sets u body i h j e } }
+header-gives sets u = record {
+  gives = λ body i h j e. let g = sets-given sets u in
+      record { named = g.gives body i h j e; unit = header-of sets u body i h j e };
+}
 
 -- ---- what stands in a unit
 
@@ -235,16 +252,23 @@ IsContent before unit (contents.OfSlice h macroblocks) = IsHeader (sets_of (maps
 IsContent before unit contents.Passed = Unit {0}
 
 other-gives : (kind : ℕ) (before : History) (unit : NalUnit) → Gives (other_content modes.Full kind before unit) (IsContent before unit)
-other-gives kind before unit = gives-if (IsContent before unit) (is_slice kind) _ _ (gives-bind _ (IsContent before unit) _ _ (header-gives (sets_of (maps_of before)) (slice_unit unit)) (λ h i. gives-done (IsContent before unit) _ i)) (gives-done (IsContent before unit) _ tt)
+other-gives kind before unit = gives-if (IsContent before unit) (is_slice kind) _ _
+    (gives-bind _ (IsContent before unit) _ _ (header-gives (sets_of (maps_of before)) (slice_unit unit)) (λ h i. gives-done (IsContent before unit) _ i))
+    (gives-done (IsContent before unit) _ tt)
 
-content-gives : (target : Target) (kind : ℕ) (before : History) (unit : NalUnit) → Gives (content (terms_of modes.Full target) kind before unit) (IsContent before unit)
+content-gives : (target : Target) (kind : ℕ) (before : History) (unit : NalUnit) →
+    Gives (content (terms_of modes.Full target) kind before unit) (IsContent before unit)
 unfolding content
 content-gives target kind before unit =
-    gives-if (IsContent before unit) (kind == 7) _ _ (gives-bind _ (IsContent before unit) _ _ (gives-any (sps target)) (λ set a. gives-done (IsContent before unit) _ tt))
-    (gives-if (IsContent before unit) (kind == 8) _ _ (gives-bind _ (IsContent before unit) _ _ (gives-any (pps target)) (λ set a. gives-done (IsContent before unit) _ tt)) (other-gives kind before unit))
+    gives-if (IsContent before unit) (kind == 7) _ _
+    (gives-bind _ (IsContent before unit) _ _ (gives-any (sps target)) (λ set a. gives-done (IsContent before unit) _ tt))
+    (gives-if (IsContent before unit) (kind == 8) _ _
+    (gives-bind _ (IsContent before unit) _ _ (gives-any (pps target)) (λ set a. gives-done (IsContent before unit) _ tt)) (other-gives kind before unit))
 
-pub is-content : (target : Target) (before : History) (unit : NalUnit) (c : Content) (calls : List Told) (m : HasMet target before unit c calls) → IsContent before unit m.found
-is-content target before unit c calls m = given (IsContent before unit) _ (body_of unit) 0 m.elements m.found m.bit (content-gives target (nal_unit_type (header_of unit)) before unit) m.says
+pub is-content : (target : Target) (before : History) (unit : NalUnit) (c : Content) (calls : List Told) (m : HasMet target before unit c calls) →
+    IsContent before unit m.found
+is-content target before unit c calls m =
+    given (IsContent before unit) _ (body_of unit) 0 m.elements m.found m.bit (content-gives target (nal_unit_type (header_of unit)) before unit) m.says
 
 -- a slice of an IDR picture has a marking that leaves its frame alone
 leaves-alone : (marking : Option (Found Marking)) → is_some marking ≡ true → is_own marking ≡ true → LeavesAlone marking
@@ -255,7 +279,8 @@ pub marked-alone : (h : Header) → IsMarked h → is_idr h ≡ true → LeavesA
 marked-alone h m i = leaves-alone h.marking (m.some (m.idr i)) (m.own i)
 
 -- it is marked as its unit says
-pub header-marked : (before : History) (unit : NalUnit) (h : Header) → Met (byte_steps unit) → IsHeader (sets_of (maps_of before)) (slice_unit unit) h → IsMarked h
+pub header-marked : (before : History) (unit : NalUnit) (h : Header) → Met (byte_steps unit) → IsHeader (sets_of (maps_of before)) (slice_unit unit) h →
+    IsMarked h
 header-marked before unit h m k = marked-of (header_of unit) (slice_unit unit) h refl m.1.0 k.unit
 
 -- ---- slice data
@@ -264,7 +289,8 @@ header-marked before unit h m k = marked-of (header_of unit) (slice_unit unit) h
 pub rest-ends : (body : Body) (found c : Content) (calls : List Told) → Runs body (Ends found) calls (Ok c) → c ≡ found
 rest-ends body found c calls h = let e = h.1 in cc
 
-pub rest-reads : (body : Body) (g : Grammar Content) (bit : ℕ) (calls : List Told) (c : Content) (P : Content → Type 0) → Gives g P → Runs body (Reads g bit (λ whole end. Ends whole)) calls (Ok c) → P c
+pub rest-reads : (body : Body) (g : Grammar Content) (bit : ℕ) (calls : List Told) (c : Content) (P : Content → Type 0) → Gives g P →
+    Runs body (Reads g bit (λ whole end. Ends whole)) calls (Ok c) → P c
 rest-reads body g bit calls c P h r =
     let s = reads body g bit (λ whole end. Ends whole) calls c r in
     let same = rest-ends body s.1 c s.3 s.5 in

@@ -39,15 +39,21 @@ module _ (frames : ℕ → Frame) (old new : ℕ → Option Frame) where
 
   pub ready-lent : (es : List (Entry Placed)) → KeepsPlaces old new es → Each (IsAtPlace frames old) es → AreReady old es → AreReady new es
   ready-lent [] k h r = tt
-  ready-lent (e ∷ es) k h r = (subst (λ (o : Option Frame). IsTrue (is_ready (λ (p : ℕ). o) e)) (sym (head-lent e es k h.0)) r.0, ready-lent es (λ p t n. k p (or-true _ _ t) n) h.1 r.1)
+  ready-lent (e ∷ es) k h r = (
+    subst (λ (o : Option Frame). IsTrue (is_ready (λ (p : ℕ). o) e)) (sym (head-lent e es k h.0)) r.0,
+    ready-lent es (λ p t n. k p (or-true _ _ t) n) h.1 r.1,
+  )
 
 -- the buffer is the same, and its frames are lent as they were
-pub output-kept : (frames : ℕ → Frame) (t : Turn) (next : ℕ) (old new : Decoder) → KeepsOutput frames t next old → new.output ≡ old.output → KeepsPlaces (lent old.work) (lent new.work) old.output.buffer.entries → HasFormat new.format new.work → KeepsOutput frames t next new
+pub output-kept : (frames : ℕ → Frame) (t : Turn) (next : ℕ) (old new : Decoder) → KeepsOutput frames t next old → new.output ≡ old.output →
+    KeepsPlaces (lent old.work) (lent new.work) old.output.buffer.entries → HasFormat new.format new.work → KeepsOutput frames t next new
 output-kept frames t next old new k same keeps format = record {
   buffer = subst (λ (o : Output). KeepsBuffer t.buffer (length t.written) o) (sym same) k.buffer;
-  frames_are = subst (λ (o : Output). HasFrames frames (lent new.work) o) (sym same) (record { each = each-lent frames (lent old.work) (lent new.work) old.output.buffer.entries keeps k.frames_are.each });
+  frames_are = subst (λ (o : Output). HasFrames frames (lent new.work) o) (sym same)
+      (record { each = each-lent frames (lent old.work) (lent new.work) old.output.buffer.entries keeps k.frames_are.each });
   ordered = subst (λ (o : Output). IsOrdered next o) (sym same) k.ordered;
-  ready = subst (λ (o : Output). IsReady (lent new.work) o) (sym same) (record { ready = ready-lent frames (lent old.work) (lent new.work) old.output.buffer.entries keeps k.frames_are.each k.ready.ready });
+  ready = subst (λ (o : Output). IsReady (lent new.work) o) (sym same)
+      (record { ready = ready-lent frames (lent old.work) (lent new.work) old.output.buffer.entries keeps k.frames_are.each k.ready.ready });
   format = format;
 }
 
@@ -71,11 +77,14 @@ pub if-some : (P : ℕ → Type 0) (o : Option ℕ) (place : ℕ) → o ≡ Some
 if-some P None place e h = cc
 if-some P (Some x) place e h = let k : x ≡ place = cc in subst P k h
 
-pub near-reference : (frames : ℕ → Frame) (count : ℕ) (d : Decoder) (n place : ℕ) → HasFrames frames (lent d.work) d.output → IsOrdered count d.output → IsNear d n place → IsReference frames count d n
+pub near-reference : (frames : ℕ → Frame) (count : ℕ) (d : Decoder) (n place : ℕ) → HasFrames frames (lent d.work) d.output → IsOrdered count d.output →
+    IsNear d n place → IsReference frames count d n
 near-reference frames count d n place f o h = record {
   before = if-some (λ (p : ℕ). n < count) (place_of d.output n) place h.found (early-at 0 count d.output.buffer.entries n o.rising);
   near = let e = by-place d n place h.found in let t = h.near in let g = h.from in omega (arith, e, t, g);
-  lent_is = subst (λ (p : ℕ). lent d.work p ≡ Some (frames n)) (near-is d n place h) (if-some (λ (p : ℕ). lent d.work p ≡ Some (frames n)) (place_of d.output n) place h.found (lent-at frames (lent d.work) d.output.buffer.entries n f.each));
+  lent_is = subst (λ (p : ℕ). lent d.work p ≡ Some (frames n)) (near-is d n place h)
+      (if-some (λ (p : ℕ). lent d.work p ≡ Some (frames n)) (place_of d.output n) place h.found
+      (lent-at frames (lent d.work) d.output.buffer.entries n f.each));
 }
 
 pub near-taken : (d : Decoder) (n place : ℕ) → IsNear d n place → is_occupied place d.output ≡ true
@@ -87,7 +96,8 @@ same-place old new n o f =
     ap (λ (x : Output). option_map_or (λ (p : ℕ). p - first_place new.work) (place_of x n) 0) o
     ∙ ap (λ (first : ℕ). option_map_or (λ (p : ℕ). p - first) (place_of old.output n) 0) f
 
-pub reference-kept : (frames : ℕ → Frame) (count : ℕ) (old new : Decoder) (n : ℕ) → new.output ≡ old.output → first_place new.work ≡ first_place old.work → KeepsLent old.work new.work → IsReference frames count old n → IsReference frames count new n
+pub reference-kept : (frames : ℕ → Frame) (count : ℕ) (old new : Decoder) (n : ℕ) → new.output ≡ old.output → first_place new.work ≡ first_place old.work →
+    KeepsLent old.work new.work → IsReference frames count old n → IsReference frames count new n
 reference-kept frames count old new n o f k h =
     let e = same-place old new n o f in
     let at : first_place new.work + place_by new n ≡ first_place old.work + place_by old n = omega (arith, e, f) in

@@ -1,5 +1,6 @@
 -- The level of a set has a place for a frame of its size at least: MaxDpbFrames is not 0 (A.3.1, Table A-1).
-use Rattle.std.proofs.Common.{◌≡◌, ℕ, ◌+◌, ◌*◌, ◌<◌, ◌≤◌, nat_le, ◌==◌, Bool, true, false, List, [], ◌∷◌, ◌++◌, find, Option, Some, None, Ok, refl, ap, sym, subst, arith}
+use Rattle.std.proofs.Common.{◌≡◌, ℕ, ◌+◌, ◌*◌, ◌<◌, ◌≤◌, nat_le, ◌==◌, Bool, true, false, List, [], ◌∷◌, ◌++◌, find, Option, Some, None, Ok, refl, ap, sym}
+use Rattle.std.proofs.Common.{subst, arith}
 use Rattle.std.proofs.lemmas.Bool.{and_parts}
 use Rattle.std.specs.Prelude.{unwrap_or, IfSome}
 use Rattle.std.specs.List.{list_all}
@@ -55,13 +56,15 @@ abbrev HoldsFrame : Limits → Type 0
 HoldsFrame l = l.max_fs ≤ l.max_dpb_mbs
 
 -- in each row MaxDpbMbs is at least MaxFS
-row-holds : (p : LevelRow → Bool) (rows : List LevelRow) → list_all holds_frame rows ≡ true → IfSome (option_map (λ (r : LevelRow). r.limits) (find p rows)) HoldsFrame
+row-holds : (p : LevelRow → Bool) (rows : List LevelRow) → list_all holds_frame rows ≡ true →
+    IfSome (option_map (λ (r : LevelRow). r.limits) (find p rows)) HoldsFrame
 row-holds p [] a = tt
 row-holds p (r ∷ rows) a =
     let b = and_parts (holds_frame r) (list_all holds_frame rows) a in
     go (p r) refl b.0 (row-holds p rows b.1)
   where
-    go : (t : Bool) → p r ≡ t → holds_frame r ≡ true → IfSome (option_map (λ (r : LevelRow). r.limits) (find p rows)) HoldsFrame → IfSome (option_map (λ (r : LevelRow). r.limits) (find p (r ∷ rows))) HoldsFrame
+    go : (t : Bool) → p r ≡ t → holds_frame r ≡ true → IfSome (option_map (λ (r : LevelRow). r.limits) (find p rows)) HoldsFrame →
+        IfSome (option_map (λ (r : LevelRow). r.limits) (find p (r ∷ rows))) HoldsFrame
     go true e l f = rw e (leb-true r.limits.max_fs r.limits.max_dpb_mbs l)
     go false e l f = rw e f
 
@@ -82,7 +85,8 @@ level-of (Some l) h b = (refl, b)
 level-gives : (set3 : Bool) → Gives (level set3) (HasLevel set3)
 unfolding level
 level-gives set3 =
-    gives-bind _ (HasLevel set3) _ _ (gives-any _) (λ e a. gives-bind _ (HasLevel set3) _ _ (gives-any _) (λ x b. gives-bind _ (HasLevel set3) _ _ (gives-check _ _ _) (λ y t.
+    gives-bind _ (HasLevel set3) _ _ (gives-any _)
+    (λ e a. gives-bind _ (HasLevel set3) _ _ (gives-any _) (λ x b. gives-bind _ (HasLevel set3) _ _ (gives-check _ _ _) (λ y t.
     let l = level-of (limits_of (natural e.value) set3) t (limits-hold (natural e.value) set3) in
     gives-done (HasLevel set3) _ (record { is = l.0; holds = l.1 }))))
 
@@ -92,7 +96,8 @@ HasFront f = HasLevel f.flags.set3 f.named
 front-gives : (target : Target) → Gives (profile_and_level target) HasFront
 unfolding profile_and_level
 front-gives target =
-    gives-bind _ HasFront _ _ (gives-any _) (λ profile a. gives-bind _ HasFront _ _ (gives-any _) (λ flags b. gives-bind _ HasFront _ _ (gives-any _) (λ x c. gives-bind _ HasFront _ _ (gives-any _) (λ reserved d.
+    gives-bind _ HasFront _ _ (gives-any _) (λ profile a. gives-bind _ HasFront _ _ (gives-any _)
+    (λ flags b. gives-bind _ HasFront _ _ (gives-any _) (λ x c. gives-bind _ HasFront _ _ (gives-any _) (λ reserved d.
     gives-bind (HasLevel flags.set3) HasFront _ _ (level-gives flags.set3) (λ named h. gives-done HasFront _ h)))))
 
 -- the size is one of the level
@@ -104,7 +109,9 @@ record HasSize (limits : Limits) (size : FrameSize) : Type 0 where
 fits-gives : (limits : Limits) (refs bit : ℕ) (size : FrameSize) → 0 < size.width → 0 < size.height → Gives (fits limits refs bit size) (HasSize limits)
 unfolding fits
 fits-gives limits refs bit size wide high =
-    gives-bind _ (HasSize limits) _ _ (gives-check _ _ _) (λ a t. gives-bind _ (HasSize limits) _ _ (gives-any _) (λ x b. gives-bind _ (HasSize limits) _ _ (gives-any _) (λ y c. gives-bind _ (HasSize limits) _ _ (gives-any _) (λ z d.
+    gives-bind _ (HasSize limits) _ _ (gives-check _ _ _)
+    (λ a t. gives-bind _ (HasSize limits) _ _ (gives-any _)
+    (λ x b. gives-bind _ (HasSize limits) _ _ (gives-any _) (λ y c. gives-bind _ (HasSize limits) _ _ (gives-any _) (λ z d.
     gives-done (HasSize limits) _ (record { wide = wide; high = high; macroblocks = leb-true _ _ t })))))
 
 next-above : (n : ℕ) → 0 < n + 1
@@ -112,7 +119,8 @@ next-above n = omega arith
 
 size-gives : (limits : Limits) (refs : ℕ) → Gives (frame_size limits refs) (HasSize limits)
 unfolding frame_size
-size-gives limits refs = gives-bind _ (HasSize limits) _ _ (gives-any _) (λ w a. gives-bind _ (HasSize limits) _ _ (gives-any _) (λ h b. fits-gives limits refs _ _ (next-above (natural w.value)) (next-above (natural h.value))))
+size-gives limits refs = gives-bind _ (HasSize limits) _ _ (gives-any _)
+    (λ w a. gives-bind _ (HasSize limits) _ _ (gives-any _) (λ h b. fits-gives limits refs _ _ (next-above (natural w.value)) (next-above (natural h.value))))
 
 room : (limits : Limits) (size : FrameSize) → HoldsFrame limits → HasSize limits size → 0 < max_dpb_frames limits size
 room limits size l h =
@@ -126,11 +134,15 @@ room limits size l h =
 sps-gives : (target : Target) → Gives (sps target) HasRoom
 unfolding sps
 sps-gives target =
-    gives-bind HasFront HasRoom _ _ (front-gives target) (λ front named. gives-bind _ HasRoom _ _ (gives-any _) (λ id a. gives-bind _ HasRoom _ _ (gives-any _) (λ log2 b. gives-bind _ HasRoom _ _ (gives-any _) (λ count c.
+    gives-bind HasFront HasRoom _ _ (front-gives target)
+    (λ front named. gives-bind _ HasRoom _ _ (gives-any _)
+    (λ id a. gives-bind _ HasRoom _ _ (gives-any _) (λ log2 b. gives-bind _ HasRoom _ _ (gives-any _) (λ count c.
     gives-bind _ HasRoom _ _ (gives-any _) (λ refs d. gives-bind _ HasRoom _ _ (gives-any _) (λ gaps e.
-    gives-bind (HasSize front.named.limits) HasRoom _ _ (size-gives front.named.limits refs) (λ size h. gives-bind _ HasRoom _ _ (gives-any _) (λ only f. gives-bind _ HasRoom _ _ (gives-any _) (λ direct g.
+    gives-bind (HasSize front.named.limits) HasRoom _ _ (size-gives front.named.limits refs)
+    (λ size h. gives-bind _ HasRoom _ _ (gives-any _) (λ only f. gives-bind _ HasRoom _ _ (gives-any _) (λ direct g.
     gives-bind _ HasRoom _ _ (gives-any _) (λ crop i. gives-bind _ HasRoom _ _ (gives-any _) (λ usability j. gives-bind _ HasRoom _ _ (gives-any _) (λ end k.
-    gives-done HasRoom _ (subst (λ (o : Option Limits). 0 < option_map_or (λ (l : Limits). max_dpb_frames l size) o 0) (sym named.is) (room front.named.limits size named.holds h))))))))))))))
+    gives-done HasRoom _ (subst (λ (o : Option Limits). 0 < option_map_or (λ (l : Limits). max_dpb_frames l size) o 0) (sym named.is)
+    (room front.named.limits size named.holds h))))))))))))))
 
 -- ---- a unit
 
@@ -141,7 +153,8 @@ IsRoomy (contents.OfSlice h macroblocks) = Unit {0}
 IsRoomy contents.Passed = Unit {0}
 
 other-gives : (kind : ℕ) (before : History) (unit : NalUnit) → Gives (other_content modes.Full kind before unit) IsRoomy
-other-gives kind before unit = gives-if IsRoomy (is_slice kind) _ _ (gives-bind _ IsRoomy _ _ (gives-any _) (λ h i. gives-done IsRoomy _ tt)) (gives-done IsRoomy _ tt)
+other-gives kind before unit = gives-if IsRoomy (is_slice kind) _ _ (gives-bind _ IsRoomy _ _ (gives-any _) (λ h i. gives-done IsRoomy _ tt))
+    (gives-done IsRoomy _ tt)
 
 content-gives : (target : Target) (kind : ℕ) (before : History) (unit : NalUnit) → Gives (content (terms_of modes.Full target) kind before unit) IsRoomy
 unfolding content
@@ -152,12 +165,16 @@ content-gives target kind before unit =
 unit-room : (target : Target) (before : History) (r : ReadUnit) (calls : List Told) → IsLegal (terms_of modes.Full target) before r calls → IsRoomy r.content
 unit-room target before r calls l =
     let m = has-met target before r calls l in
-    by m.found m.bit m.rest (given IsRoomy _ (body_of r.unit) 0 m.elements m.found m.bit (content-gives target (nal_unit_type (header_of r.unit)) before r.unit) m.says) m.following
+    by m.found m.bit m.rest (given IsRoomy _ (body_of r.unit) 0 m.elements m.found m.bit
+    (content-gives target (nal_unit_type (header_of r.unit)) before r.unit) m.says) m.following
   where
-    by : (found : Content) (bit : ℕ) (rest : List Told) → IsRoomy found → Runs (body_of r.unit) (data_course modes.Full before r.unit found bit) rest (Ok r.content) → IsRoomy r.content
+    by : (found : Content) (bit : ℕ) (rest : List Told) → IsRoomy found →
+        Runs (body_of r.unit) (data_course modes.Full before r.unit found bit) rest (Ok r.content) → IsRoomy r.content
     by (contents.OfSps set) bit rest h d = subst IsRoomy (sym (rest-ends (body_of r.unit) (contents.OfSps set) r.content rest d)) h
     by (contents.OfPps set) bit rest h d = subst IsRoomy (sym (rest-ends (body_of r.unit) (contents.OfPps set) r.content rest d)) tt
-    by (contents.OfSlice h ms) bit rest k d = rest-reads (body_of r.unit) (slice_data_at before r.unit h >>= (λ ms. Done (contents.OfSlice h ms))) bit rest r.content IsRoomy (gives-bind _ IsRoomy _ _ (gives-any _) (λ ms a. gives-done IsRoomy _ tt)) d
+    by (contents.OfSlice h ms) bit rest k d =
+        rest-reads (body_of r.unit) (slice_data_at before r.unit h >>= (λ ms. Done (contents.OfSlice h ms))) bit rest r.content IsRoomy
+        (gives-bind _ IsRoomy _ _ (gives-any _) (λ ms a. gives-done IsRoomy _ tt)) d
     by contents.Passed bit rest h d = subst IsRoomy (sym (rest-ends (body_of r.unit) contents.Passed r.content rest d)) tt
 
 -- ---- the sets by id
@@ -188,7 +205,8 @@ abbrev pub EachRoom : List CodedPicture → Type 0
 EachRoom [] = Unit {0}
 EachRoom (p ∷ ps) = HasRoom p.first.sps × EachRoom ps
 
-joined-room : (begins : Bool) (slice : CodedSlice) (pictures : List CodedPicture) → HasRoom slice.sps → EachRoom pictures → EachRoom (joined_to begins slice pictures)
+joined-room : (begins : Bool) (slice : CodedSlice) (pictures : List CodedPicture) → HasRoom slice.sps → EachRoom pictures →
+    EachRoom (joined_to begins slice pictures)
 joined-room true slice pictures h e = (h, e)
 joined-room false slice [] h e = tt
 joined-room false slice (p ∷ ps) h e = e
@@ -196,9 +214,11 @@ joined-room false slice (p ∷ ps) h e = e
 pictures-room : (before : History) (r : ReadUnit) → HaveRoom (maps_of before).sps → EachRoom (runs_of before) → EachRoom (runs_of (r ∷ before))
 pictures-room before r m e = by r.content
   where
-    named : (h : Header) (ms : List CodedMacroblock) (o : Option (Pps × Sps)) → sets_of (maps_of before) h.pic_parameter_set_id.value ≡ o → EachRoom (joined_by (option_map (with_sets r.unit h ms) o) (goes_on before) (runs_of before))
+    named : (h : Header) (ms : List CodedMacroblock) (o : Option (Pps × Sps)) → sets_of (maps_of before) h.pic_parameter_set_id.value ≡ o →
+        EachRoom (joined_by (option_map (with_sets r.unit h ms) o) (goes_on before) (runs_of before))
     named h ms None n = e
-    named h ms (Some sets) n = joined-room (begins_after (open_of (goes_on before) (runs_of before)) h) (with_sets r.unit h ms sets) (runs_of before) (named-room (maps_of before) h.pic_parameter_set_id.value sets m n) e
+    named h ms (Some sets) n = joined-room (begins_after (open_of (goes_on before) (runs_of before)) h) (with_sets r.unit h ms sets) (runs_of before)
+        (named-room (maps_of before) h.pic_parameter_set_id.value sets m n) e
 
     by : (c : Content) → EachRoom (joined_by (slice_in (maps_of before) r.unit c) (goes_on before) (runs_of before))
     by (contents.OfSps set) = e

@@ -36,7 +36,8 @@ module _ (P : Decoder → Type 0) where
   made-then Q modes.Full (Some d) f h = f d h
 
   -- with what is true wherever there is a decoder
-  pub made-with : (Q R : Decoder → Type 0) (mode : Mode) (o : Option Decoder) → ((d : Decoder) → P d → Q d → R d) → WhereMade mode P o → IfSome o Q → WhereMade mode R o
+  pub made-with : (Q R : Decoder → Type 0) (mode : Mode) (o : Option Decoder) → ((d : Decoder) → P d → Q d → R d) → WhereMade mode P o → IfSome o Q →
+      WhereMade mode R o
   unfolding WhereMade
   made-with Q R modes.Units None f h q = tt
   made-with Q R modes.Units (Some d) f h q = absurd h
@@ -95,7 +96,8 @@ pub places-down : (n k : ℕ) (o : Option Decoder) → k ≤ n → HasPlaces n o
 places-down n k None l h = tt
 places-down n k (Some d) l h = omega (arith, l, h)
 
-pub made-same : (P Q : Decoder → Type 0) (mode : Mode) (f : Format) (old new : Option Decoder) → WhereMade mode P old → WhereMade mode Q new → format_in new ≡ format_in old → IsMadeAs f old → IsMadeAs f new
+pub made-same : (P Q : Decoder → Type 0) (mode : Mode) (f : Format) (old new : Option Decoder) → WhereMade mode P old → WhereMade mode Q new →
+    format_in new ≡ format_in old → IsMadeAs f old → IsMadeAs f new
 unfolding WhereMade
 made-same P Q mode f old None p q e h = tt
 made-same P Q modes.Units f old (Some d) p q e h = absurd q
@@ -115,7 +117,8 @@ quiet-written modes.Units pictures q = refl
 quiet-written modes.Headers pictures q = refl
 quiet-written modes.Full pictures q = absurd q
 
-pub quiet-whole : (mode : Mode) (ends : Bool) (before : History) → MakesNone mode → answers {A = Unit {0}} (Ok tt) ≡ steps_outcome (if ends then whole_steps mode before else [])
+pub quiet-whole : (mode : Mode) (ends : Bool) (before : History) → MakesNone mode →
+    answers {A = Unit {0}} (Ok tt) ≡ steps_outcome (if ends then whole_steps mode before else [])
 quiet-whole modes.Units true before q = refl
 quiet-whole modes.Units false before q = refl
 quiet-whole modes.Headers true before q = refl

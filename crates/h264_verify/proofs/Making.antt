@@ -1,5 +1,6 @@
 -- The samples of a picture, slice by slice.
-use Rattle.std.proofs.Common.{◌≡◌, ◌≢◌, ℕ, ◌+◌, ◌<◌, Bool, true, false, List, [], ◌∷◌, length, get_or, Option, Some, None, Result, Ok, Err, ℤ, refl, ap, sym, ◌∙◌, subst, arith}
+use Rattle.std.proofs.Common.{◌≡◌, ◌≢◌, ℕ, ◌+◌, ◌<◌, Bool, true, false, List, [], ◌∷◌, length, get_or, Option, Some, None, Result, Ok, Err, ℤ, refl, ap, sym}
+use Rattle.std.proofs.Common.{◌∙◌, subst, arith}
 use Rattle.std.specs.Option.{option_map_or}
 use Rattle.h264_base.specs.Call.{Call, span}
 use Rattle.h264_base.specs.Run.{run}
@@ -70,8 +71,10 @@ unfolding slice_context
 context-intra s list = refl
 
 -- A slice of the picture that is decoded, with the places of its reference pictures.
-module _ (frames : ℕ → Frame) (p : CodedPicture) (ps : List CodedPicture) (slices : List CodedSlice) (s : CodedSlice) (ms : List CodedMacroblock) (t : Turn) (old new : Decoder) (slice : SliceContext) (samples : SliceSamples)
-    (is : slice ≡ context_in (p ∷ ps) s) (filter : samples.filter ≡ slice_filter s.pps s.header) (weights : weights_by samples.weights ≡ slice_weights s.header) (o : KeepsOutput frames t (length ps) old) (h : HoldsBegun frames p ps slices ms old)
+module _ (frames : ℕ → Frame) (p : CodedPicture) (ps : List CodedPicture) (slices : List CodedSlice) (s : CodedSlice) (ms : List CodedMacroblock) (t : Turn)
+    (old new : Decoder) (slice : SliceContext) (samples : SliceSamples)
+    (is : slice ≡ context_in (p ∷ ps) s) (filter : samples.filter ≡ slice_filter s.pps s.header)
+    (weights : weights_by samples.weights ≡ slice_weights s.header) (o : KeepsOutput frames t (length ps) old) (h : HoldsBegun frames p ps slices ms old)
     (number : number_of s ≡ length ms) (set : s.pps ≡ p.first.pps)
     (near : (k n : ℕ) → k < 16 → get_or slice.references k None ≡ Some n → IsNear old n (get_or samples.places k 0)) where
   pub number-is : slice.number ≡ number_of s
@@ -84,47 +87,76 @@ module _ (frames : ℕ → Frame) (p : CodedPicture) (ps : List CodedPicture) (s
   filter-chroma = ap (λ (f : _). f.chroma_qp_index_offset) filter ∙ offset-of s.pps s.header ∙ sym chroma-is
 
   -- what its samples depend on is that of the slices with it
-  pub is-slice : (making : Making) → EachSlice (λ s. making.slices (number_of s) ≡ parameters_of s) (s ∷ slices) → ((n : ℕ) → (making.slices n).filter.chroma_qp_index_offset ≡ p.first.pps.chroma_qp_index_offset) → ((n : ℕ) → making.place n ≡ place_by old n) → IsSliceOf making slice samples old.work
-  is-slice making params offsets places-are = active-and (λ (q : Sequence). (q.frames.begun ≡ true) × (old.work.base + q.frames.place ≡ old.place)) (MakesSliceWith making slice samples old.work.base) old.work.active h.begun (λ q a b. record {
-    parameters = ap making.slices number-is ∙ params.0 ∙ ap (λ (c : Bool). record { constrained_intra = c; filter = slice_filter s.pps s.header; weights = slice_weights s.header }) (sym (ap (λ (c : SliceContext). c.constrained_intra) is ∙ context-intra s (list_in (p ∷ ps) s))) ∙ ap (λ (f : _). record { constrained_intra = slice.constrained_intra; filter = f; weights = slice_weights s.header }) (sym filter)
-        ∙ ap (λ (w : _). record { constrained_intra = slice.constrained_intra; filter = samples.filter; weights = w }) (sym weights);
-    offset = filter-chroma;
-    offsets = λ n. offsets n ∙ ap (λ (x : Pps). x.chroma_qp_index_offset) (sym set) ∙ sym chroma-is ∙ sym filter-chroma;
-    placed = λ k n small e.
-        let r = near k n small e in
-        let at : get_or samples.places k 0 ≡ old.work.base + making.place n = near-is old n (get_or samples.places k 0) r ∙ ap (λ (x : ℕ). old.work.base + x) (sym (places-are n)) in
-        let count : places old.work ≡ length q.frames.pool = ap (λ (x : Option Sequence). option_map_or (λ (y : Sequence). length y.frames.pool) x 0) a in
-        let to = r.to in
-        let taken = near-taken old n (get_or samples.places k 0) r in
-        let apart : making.place n ≢ q.frames.place = λ f.
-        let same : get_or samples.places k 0 ≡ old.place = at ∙ ap (λ (x : ℕ). old.work.base + x) f ∙ b.1 in
-        let g : true ≡ false = sym taken ∙ ap (λ (x : ℕ). is_occupied x old.output) same ∙ h.free in cc in
-        (at, record { inside = omega (arith, at, count, to); other = apart });
-  })
+  pub is-slice : (making : Making) → EachSlice (λ s. making.slices (number_of s) ≡ parameters_of s) (s ∷ slices) →
+      ((n : ℕ) → (making.slices n).filter.chroma_qp_index_offset ≡ p.first.pps.chroma_qp_index_offset) → ((n : ℕ) → making.place n ≡ place_by old n) →
+      IsSliceOf making slice samples old.work
+  is-slice making params offsets places-are =
+      active-and (λ (q : Sequence). (q.frames.begun ≡ true) × (old.work.base + q.frames.place ≡ old.place))
+      (MakesSliceWith making slice samples old.work.base) old.work.active h.begun (λ q a b. record {
+        parameters = ap making.slices number-is ∙ params.0 ∙
+            ap (λ (c : Bool). record { constrained_intra = c; filter = slice_filter s.pps s.header; weights = slice_weights s.header })
+            (sym (ap (λ (c : SliceContext). c.constrained_intra) is ∙ context-intra s (list_in (p ∷ ps) s))) ∙
+            ap (λ (f : _). record { constrained_intra = slice.constrained_intra; filter = f; weights = slice_weights s.header }) (sym filter)
+            ∙ ap (λ (w : _). record { constrained_intra = slice.constrained_intra; filter = samples.filter; weights = w }) (sym weights);
+        offset = filter-chroma;
+        offsets = λ n. offsets n ∙ ap (λ (x : Pps). x.chroma_qp_index_offset) (sym set) ∙ sym chroma-is ∙ sym filter-chroma;
+        placed = λ k n small e.
+            let r = near k n small e in
+            let at : get_or samples.places k 0 ≡ old.work.base + making.place n = near-is old n (get_or samples.places k 0) r ∙
+            ap (λ (x : ℕ). old.work.base + x) (sym (places-are n)) in
+            let count : places old.work ≡ length q.frames.pool = ap (λ (x : Option Sequence). option_map_or (λ (y : Sequence). length y.frames.pool) x 0) a in
+            let to = r.to in
+            let taken = near-taken old n (get_or samples.places k 0) r in
+            let apart : making.place n ≢ q.frames.place = λ f.
+            let same : get_or samples.places k 0 ≡ old.place = at ∙ ap (λ (x : ℕ). old.work.base + x) f ∙ b.1 in
+            let g : true ≡ false = sym taken ∙ ap (λ (x : ℕ). is_occupied x old.output) same ∙ h.free in cc in
+            (at, record { inside = omega (arith, at, count, to); other = apart });
+      })
 
   -- ---- and with it the work holds the macroblocks with their samples
 
   module _ (output : new.output ≡ old.output) (format : new.format ≡ old.format) (place : new.place ≡ old.place)
-      (first : first_place new.work ≡ first_place old.work) (places-are : places new.work ≡ places old.work) (kept : KeepsLent old.work new.work) (begun : HasBegun old.place new.work) (released : IsReleased old.work → IsReleased new.work) (size : (width height : ℕ) → HasSize width height old.work → HasSize width height new.work) where
-    pub making-before : (making : Making) → IsMaking p.first.pps.chroma_qp_index_offset (s ∷ slices) new making → IsMaking p.first.pps.chroma_qp_index_offset slices old making
+      (first : first_place new.work ≡ first_place old.work) (places-are : places new.work ≡ places old.work) (kept : KeepsLent old.work new.work)
+      (begun : HasBegun old.place new.work) (released : IsReleased old.work → IsReleased new.work)
+      (size : (width height : ℕ) → HasSize width height old.work → HasSize width height new.work) where
+    pub making-before : (making : Making) → IsMaking p.first.pps.chroma_qp_index_offset (s ∷ slices) new making →
+        IsMaking p.first.pps.chroma_qp_index_offset slices old making
     making-before making m = record { parameters = m.parameters.1; offsets = m.offsets; places = λ n. m.places n ∙ same-place old new n output first }
 
     referred : HasReferences frames (p ∷ ps) (length ps) new s
-    referred = record { each = λ k n small e. reference-kept frames (length ps) old new n output first kept (near-reference frames (length ps) old n _ o.frames_are o.ordered (near k n small (ap (λ (c : SliceContext). get_or c.references k None) is ∙ e))) }
+    referred = record {
+      each = λ k n small e. reference-kept frames (length ps) old new n output first kept
+          (near-reference frames (length ps) old n _ o.frames_are o.ordered (near k n small (ap (λ (c : SliceContext). get_or c.references k None) is ∙ e)));
+    }
 
-    pub begun-on : (after : List CodedMacroblock) → length ms < length after → HoldsMacroblocks p.first.sps.frame_size.width (picture_size p.first.sps) after new.work → ((making : Making) → IsMaking p.first.pps.chroma_qp_index_offset (s ∷ slices) new making → HoldsSamples p.first.sps.frame_size.width (picture_size p.first.sps) making after new.work) → HoldsBegun frames p ps (s ∷ slices) after new × KeepsOutput frames t (length ps) new
+    pub begun-on : (after : List CodedMacroblock) → length ms < length after →
+        HoldsMacroblocks p.first.sps.frame_size.width (picture_size p.first.sps) after new.work →
+        ((making : Making) → IsMaking p.first.pps.chroma_qp_index_offset (s ∷ slices) new making →
+        HoldsSamples p.first.sps.frame_size.width (picture_size p.first.sps) making after new.work) → HoldsBegun frames p ps (s ∷ slices) after new ×
+        KeepsOutput frames t (length ps) new
     begun-on after longer holds made = (
       record {
         begun = subst (λ (x : ℕ). HasBegun x new.work) (sym place) begun;
-        active = subst (λ (x : ℕ). is_active_place (first_place new.work) x ≡ true) (sym place) (subst (λ (b : ℕ). is_active_place b old.place ≡ true) (sym first) h.active);
+        active = subst (λ (x : ℕ). is_active_place (first_place new.work) x ≡ true) (sym place)
+            (subst (λ (b : ℕ). is_active_place b old.place ≡ true) (sym first) h.active);
         free = subst (λ (x : Output). is_occupied new.place x ≡ false) (sym output) (subst (λ (x : ℕ). is_occupied x old.output ≡ false) (sym place) h.free);
         format = format ∙ h.format;
-        settled = λ not. record { released = released (h.settled not).released; sized = subst (λ (x : Output). IsSized new.format x) (sym output) (subst (λ (x : Option Format). IsSized x old.output) (sym format) (h.settled not).sized) };
+        settled = λ not. record {
+          released = released (h.settled not).released;
+          sized = subst (λ (x : Output). IsSized new.format x) (sym output)
+              (subst (λ (x : Option Format). IsSized x old.output) (sym format) (h.settled not).sized);
+        };
         so_far = record {
           holds = holds;
           numbers = (omega (arith, number, longer), subst (λ (n : ℕ). AreFalling n slices) (sym number) h.so_far.numbers);
           sets = (set, h.so_far.sets);
-          references = (referred, each-slice (λ r e. record { each = λ k n small f. reference-kept frames (length ps) old new n output first kept (e.each k n small f) }) slices h.so_far.references);
+          references = (
+            referred,
+            each-slice (λ r e. record {
+              each =
+                  λ k n small f. reference-kept frames (length ps) old new n output first kept (e.each k n small f);
+            }) slices h.so_far.references,
+          );
           samples = made;
         };
       },
@@ -132,7 +164,8 @@ module _ (frames : ℕ → Frame) (p : CodedPicture) (ps : List CodedPicture) (s
     )
       where
         fits : HasFormat new.format new.work
-        fits = subst (λ (x : Option Format). HasFormat x new.work) (sym (format ∙ h.format)) (record { serves = holds-serves _ _ after new.work holds; size = size _ _ sized; places = places-are ∙ room.places })
+        fits = subst (λ (x : Option Format). HasFormat x new.work) (sym (format ∙ h.format))
+            (record { serves = holds-serves _ _ after new.work holds; size = size _ _ sized; places = places-are ∙ room.places })
           where
             room : IsRoomFor (format_of p.first.sps) old.work
             room = subst (λ (x : Option Format). HasFormat x old.work) h.format o.format
@@ -144,31 +177,56 @@ module _ (frames : ℕ → Frame) (p : CodedPicture) (ps : List CodedPicture) (s
 
 -- one answer of a grammar
 same-answer : (a b : List CodedMacroblock) (i j : ℕ) (r : Result (List CodedMacroblock × ℕ) Stop) → r ≡ Ok (a, i) → r ≡ Ok (b, j) → a ≡ b
-same-answer a b i j r e f = let k : ◌≡◌ {A = Result (List CodedMacroblock × ℕ) Stop} (Ok (a, i)) (Ok (b, j)) = sym e ∙ f in let p : ◌≡◌ {A = List CodedMacroblock × ℕ} (a, i) (b, j) = cc in ap (λ (x : List CodedMacroblock × ℕ). x.0) p
+same-answer a b i j r e f = let k : ◌≡◌ {A = Result (List CodedMacroblock × ℕ) Stop} (Ok (a, i)) (Ok (b, j)) = sym e ∙ f in
+    let p : ◌≡◌ {A = List CodedMacroblock × ℕ} (a, i) (b, j) = cc in ap (λ (x : List CodedMacroblock × ℕ). x.0) p
 
-module _ {S X : Type 0} (frames : ℕ → Frame) (took : S → List Call → Type 0) (failures : S → ℕ) (g : Grammar (List CodedMacroblock)) (body : Body) (i j width size : ℕ) (work : Work) (s s' : S)
-    (P : Making → Type 0) (K : List CodedMacroblock → Type 0) (goes : (after : List CodedMacroblock) → (run g body i).answer ≡ Ok (after, j) → HoldsMacroblocks width size after work → ((making : Making) → P making → HoldsSamples width size making after work) → K after) where
+module _ {S X : Type 0} (frames : ℕ → Frame) (took : S → List Call → Type 0) (failures : S → ℕ) (g : Grammar (List CodedMacroblock)) (body : Body)
+    (i j width size : ℕ) (work : Work) (s s' : S)
+    (P : Making → Type 0) (K : List CodedMacroblock → Type 0)
+    (goes : (after : List CodedMacroblock) → (run g body i).answer ≡ Ok (after, j) → HoldsMacroblocks width size after work →
+    ((making : Making) → P making → HoldsSamples width size making after work) → K after) where
   abbrev Made : Making → X → List CodedMacroblock → Type 0
   Made making x after = HoldsSamples width size making after work
 
   abbrev Held : X → List CodedMacroblock → Type 0
   Held x after = HoldsMacroblocks width size after work
 
-  slice-by : (r : Result X Stop) → MeetsBy (span took failures s s') Held g (record { body = body; at = i }) j r → AnswersBy (span took failures s s') Held g (record { body = body; at = i }) j r → ((making : Making) → P making → MeetsBy (span took failures s s') (Made making) g (record { body = body; at = i }) j r) → ReadsSlice (frame_span took failures frames s s') (structure_from g body i) K r
+  slice-by : (r : Result X Stop) → MeetsBy (span took failures s s') Held g (record { body = body; at = i }) j r →
+      AnswersBy (span took failures s s') Held g (record { body = body; at = i }) j r →
+      ((making : Making) → P making → MeetsBy (span took failures s s') (Made making) g (record { body = body; at = i }) j r) →
+      ReadsSlice (frame_span took failures frames s s') (structure_from g body i) K r
   slice-by (Ok x) m a f = record {
     macroblocks = m.0;
     end = j;
     plays = record { plays = (m.2, elements-tell frames took s s' body (run g body i).elements m.3, m.4) };
-    keeps = goes m.0 m.2 m.1 (λ making p. let n = f making p in subst (λ (after : List CodedMacroblock). HoldsSamples width size making after work) (same-answer n.0 m.0 j j (run g body i).answer n.2 m.2) n.1);
+    keeps = goes m.0 m.2 m.1 (λ making p. let n = f making p in
+        subst (λ (after : List CodedMacroblock). HoldsSamples width size making after work) (same-answer n.0 m.0 j j (run g body i).answer n.2 m.2) n.1);
   }
-  slice-by (Err (No bit rule)) m a f = record { macroblocks = []; end = 0; plays = record { plays = (m.0, elements-tell frames took s s' body (run g body i).elements m.1, m.2) }; keeps = tt }
-  slice-by (Err (Outside bit feature)) m a f = record { macroblocks = []; end = 0; plays = record { plays = (m.0, elements-tell frames took s s' body (run g body i).elements m.1, m.2) }; keeps = tt }
+  slice-by (Err (No bit rule)) m a f = record {
+    macroblocks = [];
+    end = 0;
+    plays = record { plays = (m.0, elements-tell frames took s s' body (run g body i).elements m.1, m.2) };
+    keeps = tt;
+  }
+  slice-by (Err (Outside bit feature)) m a f =
+      record { macroblocks = []; end = 0; plays = record { plays = (m.0, elements-tell frames took s s' body (run g body i).elements m.1, m.2) }; keeps = tt }
   slice-by (Err Memory) m a f = absurd a
   slice-by (Err Read) m a f = absurd a
-  slice-by (Err Write) m a f = record { macroblocks = []; end = 0; plays = record { plays = (elements-front frames took s s' body (run g body i).elements m.0, m.1) }; keeps = tt }
+  slice-by (Err Write) m a f = record {
+    macroblocks = [];
+    end = 0;
+    plays = record { plays = (elements-front frames took s s' body (run g body i).elements m.0, m.1) };
+    keeps = tt;
+  }
 
-pub reads-slice : {S X : Type 0} (frames : ℕ → Frame) (took : S → List Call → Type 0) (failures : S → ℕ) (g : Grammar (List CodedMacroblock)) (width size : ℕ) (work : Work) (old new : Reader) (s s' : S) (r : Result X Stop)
-    (P : Making → Type 0) (K : List CodedMacroblock → Type 0) → ((after : List CodedMacroblock) → (run g old.body old.at).answer ≡ Ok (after, new.at) → HoldsMacroblocks width size after work → ((making : Making) → P making → HoldsSamples width size making after work) → K after) →
-    Meets (span took failures s s') (λ (x : X) after. HoldsMacroblocks width size after work) g old new r → Answers (span took failures s s') (λ (x : X) after. HoldsMacroblocks width size after work) g old new r →
-    ((making : Making) → P making → Meets (span took failures s s') (λ (x : X) after. HoldsSamples width size making after work) g old new r) → ReadsSlice (frame_span took failures frames s s') (structure_from g old.body old.at) K r
-reads-slice frames took failures g width size work old new s s' r P K goes m a f = slice-by frames took failures g old.body old.at new.at width size work s s' P K goes r m.meets a (λ making p. (f making p).meets)
+pub reads-slice : {S X : Type 0} (frames : ℕ → Frame) (took : S → List Call → Type 0) (failures : S → ℕ) (g : Grammar (List CodedMacroblock)) (width size : ℕ)
+    (work : Work) (old new : Reader) (s s' : S) (r : Result X Stop)
+    (P : Making → Type 0) (K : List CodedMacroblock → Type 0) →
+    ((after : List CodedMacroblock) → (run g old.body old.at).answer ≡ Ok (after, new.at) → HoldsMacroblocks width size after work →
+    ((making : Making) → P making → HoldsSamples width size making after work) → K after) →
+    Meets (span took failures s s') (λ (x : X) after. HoldsMacroblocks width size after work) g old new r →
+    Answers (span took failures s s') (λ (x : X) after. HoldsMacroblocks width size after work) g old new r →
+    ((making : Making) → P making → Meets (span took failures s s') (λ (x : X) after. HoldsSamples width size making after work) g old new r) →
+    ReadsSlice (frame_span took failures frames s s') (structure_from g old.body old.at) K r
+reads-slice frames took failures g width size work old new s s' r P K goes m a f =
+    slice-by frames took failures g old.body old.at new.at width size work s s' P K goes r m.meets a (λ making p. (f making p).meets)

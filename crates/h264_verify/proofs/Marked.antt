@@ -1,5 +1,6 @@
 -- What the reading of a header tells of its marking.
-use Rattle.std.proofs.Common.{◌≡◌, ℕ, ◌==◌, ◌||◌, nat_lt, not, Bool, true, false, List, Option, Some, None, Result, Ok, Err, OnOk, refl, ap, sym, ◌∙◌, subst, arith, if◌then◌else◌}
+use Rattle.std.proofs.Common.{◌≡◌, ℕ, ◌==◌, ◌||◌, nat_lt, not, Bool, true, false, List, Option, Some, None, Result, Ok, Err, OnOk, refl, ap, sym, ◌∙◌, subst}
+use Rattle.std.proofs.Common.{arith, if◌then◌else◌}
 use Rattle.std.proofs.lemmas.Bool.Decides.{nat_tests}
 use Rattle.std.specs.Option.{is_some}
 use Rattle.h264_base.specs.Body.{Body}
@@ -43,21 +44,26 @@ idr-own = gives-following _ _ (λ m. is_idr_marking m.value ≡ true) (λ no_out
 marking-some : (b idr : Bool) → Gives (optional b (dec_ref_pic_marking idr)) (λ o. (is_some o ≡ b) × (idr ≡ true → is_own o ≡ true))
 unfolding optional
 marking-some false idr = (refl, λ i. refl)
-marking-some true true = gives-met (dec_ref_pic_marking true) _ (λ m. is_idr_marking m.value ≡ true) (λ o. (is_some o ≡ true) × (true ≡ true → is_own o ≡ true)) idr-own (λ m h. (refl, λ i. h))
+marking-some true true = gives-met (dec_ref_pic_marking true) _ (λ m. is_idr_marking m.value ≡ true)
+    (λ o. (is_some o ≡ true) × (true ≡ true → is_own o ≡ true)) idr-own (λ m h. (refl, λ i. h))
 marking-some true false = gives-following _ _ (λ o. (is_some o ≡ true) × (false ≡ true → is_own o ≡ true)) (λ m. (refl, λ i. cc))
 
 header-gives : (sets : ℕ → Option (Pps × Sps)) (u : SliceUnit) → Gives (header sets u) (IsOfUnit u)
 unfolding header
 header-gives sets u =
-    gives-following _ _ (IsOfUnit u) (λ first. gives-following _ _ (IsOfUnit u) (λ stated. gives-following _ _ (IsOfUnit u) (λ named. gives-following _ _ (IsOfUnit u) (λ num.
+    gives-following _ _ (IsOfUnit u) (λ first. gives-following _ _ (IsOfUnit u)
+    (λ stated. gives-following _ _ (IsOfUnit u) (λ named. gives-following _ _ (IsOfUnit u) (λ num.
     gives-met _ _ (λ o. is_some o ≡ u.idr_pic_flag) (IsOfUnit u) (optional-some u.idr_pic_flag idr_pic_id) (λ idr i.
     gives-following _ _ (IsOfUnit u) (λ order. gives-following _ _ (IsOfUnit u) (λ kind.
-    gives-met _ _ (λ o. (is_some o ≡ nat_lt 0 u.nal_ref_idc) × (u.idr_pic_flag ≡ true → is_own o ≡ true)) (IsOfUnit u) (marking-some (nat_lt 0 u.nal_ref_idc) u.idr_pic_flag) (λ marking m.
+    gives-met _ _ (λ o. (is_some o ≡ nat_lt 0 u.nal_ref_idc) × (u.idr_pic_flag ≡ true → is_own o ≡ true)) (IsOfUnit u)
+    (marking-some (nat_lt 0 u.nal_ref_idc) u.idr_pic_flag) (λ marking m.
     gives-following _ _ (IsOfUnit u) (λ qp. gives-following _ _ (IsOfUnit u) (λ filter. record { reference = refl; idr = i; marking = m.0; own = m.1 }))))))))))
 
-pub header-of : (sets : ℕ → Option (Pps × Sps)) (u : SliceUnit) (body : Body) (i : ℕ) (h : Header) (j : ℕ) → (run (header sets u) body i).answer ≡ Ok (h, j) → IsOfUnit u h
+pub header-of : (sets : ℕ → Option (Pps × Sps)) (u : SliceUnit) (body : Body) (i : ℕ) (h : Header) (j : ℕ) → (run (header sets u) body i).answer ≡ Ok (h, j) →
+    IsOfUnit u h
 header-of sets u body i h j e =
-    let says = subst (λ (a : Result (Header × ℕ) Stop). Says (header sets u) body i (run (header sets u) body i).elements a) e (run-says (header sets u) body i) in
+    let says = subst (λ (a : Result (Header × ℕ) Stop). Says (header sets u) body i (run (header sets u) body i).elements a) e
+    (run-says (header sets u) body i) in
     gives-derived (header sets u) (IsOfUnit u) body i _ j h (header-gives sets u) says
 
 above : (n : ℕ) → nat_lt 0 n ≡ not (n == 0)
@@ -68,20 +74,26 @@ none-of None e = refl
 none-of (Some x) e = cc
 
 fits-five : (kind reference : ℕ) → (kind == 5) ≡ true → fits_kind kind reference ≡ true → not (reference == 0) ≡ true
-fits-five kind reference five fits = sym (ap (λ (b : Bool). if (b || kind == 7 || kind == 8) then not (reference == 0) else (if is_never_reference kind then reference == 0 else true)) five) ∙ fits
+fits-five kind reference five fits = sym
+    (ap (λ (b : Bool). if (b || kind == 7 || kind == 8) then not (reference == 0) else (if is_never_reference kind then reference == 0 else true)) five) ∙
+    fits
 
-pub marked-of : (byte : ℕ) (u : SliceUnit) (h : Header) → u ≡ slice_unit_of byte → fits_kind (nal_unit_type byte) (nal_ref_idc byte) ≡ true → IsOfUnit u h → IsMarked h
+pub marked-of : (byte : ℕ) (u : SliceUnit) (h : Header) → u ≡ slice_unit_of byte → fits_kind (nal_unit_type byte) (nal_ref_idc byte) ≡ true → IsOfUnit u h →
+    IsMarked h
 marked-of byte u h e fits k =
     let refers : is_some h.marking ≡ is_reference h = k.marking ∙ above u.nal_ref_idc ∙ ap (λ n. not (n == 0)) (sym k.reference) in
     record {
       some = λ r. refers ∙ r;
       none = λ r. none-of h.marking (refers ∙ r);
-      idr = λ i. ap (λ n. not (n == 0)) (k.reference ∙ ap (λ (x : SliceUnit). x.nal_ref_idc) e) ∙ fits-five (nal_unit_type byte) (nal_ref_idc byte) (sym (ap (λ (x : SliceUnit). x.idr_pic_flag) e) ∙ sym k.idr ∙ i) fits;
+      idr = λ i. ap (λ n. not (n == 0)) (k.reference ∙ ap (λ (x : SliceUnit). x.nal_ref_idc) e) ∙
+          fits-five (nal_unit_type byte) (nal_ref_idc byte) (sym (ap (λ (x : SliceUnit). x.idr_pic_flag) e) ∙ sym k.idr ∙ i) fits;
       own = λ i. k.own (sym k.idr ∙ i);
     }
 
 -- a header that was read is marked so
-pub read-marked : {S X : Type 0} (took : S → List Call → Type 0) (failures : S → ℕ) (sets : ℕ → Option (Pps × Sps)) (u : SliceUnit) (byte : ℕ) (h : Header) (old new : Reader) (s s' : S) (r : Result X Stop) → u ≡ slice_unit_of byte → fits_kind (nal_unit_type byte) (nal_ref_idc byte) ≡ true → Meets (span took failures s s') (Is (λ (x : X). h)) (header sets u) old new r → OnOk r (IsMarked h)
+pub read-marked : {S X : Type 0} (took : S → List Call → Type 0) (failures : S → ℕ) (sets : ℕ → Option (Pps × Sps)) (u : SliceUnit) (byte : ℕ) (h : Header)
+    (old new : Reader) (s s' : S) (r : Result X Stop) → u ≡ slice_unit_of byte → fits_kind (nal_unit_type byte) (nal_ref_idc byte) ≡ true →
+    Meets (span took failures s s') (Is (λ (x : X). h)) (header sets u) old new r → OnOk r (IsMarked h)
 read-marked took failures sets u byte h old new s s' (Err x) e fits m = tt
 read-marked took failures sets u byte h old new s s' (Ok x) e fits m =
     let k = m.meets in

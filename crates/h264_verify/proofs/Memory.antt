@@ -1,5 +1,6 @@
 -- Where want of memory comes from.
-use Rattle.std.proofs.Common.{◌≡◌, ℕ, ◌==◌, ◌&&◌, ◌||◌, Bool, true, false, Option, Some, None, List, [], ◌∷◌, Result, Ok, Err, refl, ap, sym, ◌∙◌, subst, if◌then◌else◌}
+use Rattle.std.proofs.Common.{◌≡◌, ℕ, ◌==◌, ◌&&◌, ◌||◌, Bool, true, false, Option, Some, None, List, [], ◌∷◌, Result, Ok, Err, refl, ap, sym, ◌∙◌, subst}
+use Rattle.std.proofs.Common.{if◌then◌else◌}
 use Rattle.std.proofs.lemmas.Bool.{and_parts}
 use Rattle.std.specs.Prelude.{IsErrOf}
 use Rattle.h264_base.specs.declared.mode.Mode.{Mode}
@@ -35,7 +36,8 @@ use Rattle.h264_verify.specs.Memory.{reads_slices, is_kind_read, bytes_of, HasAn
 use Rattle.h264_verify.proofs.Joining.{units-other, passed-other}
 
 -- a reader wants no memory
-pub answers-memory : {X A S : Type 0} (took : S → List Call → Type 0) (failures : S → ℕ) (R : X → A → Type 0) (g : Grammar A) (old new : Reader) (s s' : S) (r : Result X Stop) → Meets (span took failures s s') R g old new r → Answers (span took failures s s') R g old new r → IsErrOf r Memory → ⊥
+pub answers-memory : {X A S : Type 0} (took : S → List Call → Type 0) (failures : S → ℕ) (R : X → A → Type 0) (g : Grammar A) (old new : Reader) (s s' : S)
+    (r : Result X Stop) → Meets (span took failures s s') R g old new r → Answers (span took failures s s') R g old new r → IsErrOf r Memory → ⊥
 answers-memory {X} took failures R g old new s s' r read a m = subst (λ (q : Result X Stop). Answers (span took failures s s') R g old new q) m a
 
 -- nor does a rule that is not met
@@ -64,27 +66,32 @@ pub read-bytes : (t : Bool) (b x : Body) (o : Option Body) → o ≡ Some x → 
 read-bytes true b x o s e = (refl, cc)
 read-bytes false b x o s e = cc
 
-pub bytes-by : (mode : Mode) (unit : NalUnit) (byte : ℕ) (o : Option Body) → byte ≡ header_of unit → o ≡ bytes_of mode unit → o ≡ (if is_kind_read mode (nal_unit_type byte) then Some (body_of unit) else None)
+pub bytes-by : (mode : Mode) (unit : NalUnit) (byte : ℕ) (o : Option Body) → byte ≡ header_of unit → o ≡ bytes_of mode unit →
+    o ≡ (if is_kind_read mode (nal_unit_type byte) then Some (body_of unit) else None)
 bytes-by mode unit byte o e b = subst (λ (x : ℕ). o ≡ (if is_kind_read mode (nal_unit_type x) then Some (body_of unit) else None)) (sym e) b
 
 no-and : (b : Bool) → (b && true) ≡ false → b ≡ false
 no-and true e = e
 no-and false e = refl
 
-other-passed : (mode : Mode) (kind : ℕ) (before : History) (unit : NalUnit) → (is_slice kind && reads_slices mode) ≡ false → joined_other mode kind before unit ≡ joined mode before unit (gives contents.Passed)
+other-passed : (mode : Mode) (kind : ℕ) (before : History) (unit : NalUnit) → (is_slice kind && reads_slices mode) ≡ false →
+    joined_other mode kind before unit ≡ joined mode before unit (gives contents.Passed)
 other-passed modes.Units kind before unit e = units-other kind before unit
 other-passed modes.Headers kind before unit e = passed-other modes.Headers kind before unit (no-and (is_slice kind) e)
 other-passed modes.Full kind before unit e = passed-other modes.Full kind before unit (no-and (is_slice kind) e)
 
-third : {A : Type 0} (one two three : Bool) (a b c p : A) → (one || two || three) ≡ false → (three ≡ false → c ≡ p) → (if one then a else (if two then b else c)) ≡ p
+third : {A : Type 0} (one two three : Bool) (a b c p : A) → (one || two || three) ≡ false → (three ≡ false → c ≡ p) →
+    (if one then a else (if two then b else c)) ≡ p
 third true two three a b c p e f = cc
 third false true three a b c p e f = cc
 third false false three a b c p e f = f e
 
 -- a unit that is not read is passed over
-pub passed-by : (terms : Terms) (kind : ℕ) (before : History) (unit : NalUnit) → is_kind_read terms.mode kind ≡ false → joined_by terms kind before unit ≡ joined terms.mode before unit (gives contents.Passed)
+pub passed-by : (terms : Terms) (kind : ℕ) (before : History) (unit : NalUnit) → is_kind_read terms.mode kind ≡ false →
+    joined_by terms kind before unit ≡ joined terms.mode before unit (gives contents.Passed)
 unfolding joined_by
-passed-by terms kind before unit e = third (kind == 7) (kind == 8) (is_slice kind && reads_slices terms.mode) _ _ (joined_other terms.mode kind before unit) _ e (other-passed terms.mode kind before unit)
+passed-by terms kind before unit e = third (kind == 7) (kind == 8) (is_slice kind && reads_slices terms.mode) _ _ (joined_other terms.mode kind before unit) _
+    e (other-passed terms.mode kind before unit)
 
 last-of : (one two three : Bool) → (one || two || three) ≡ true → one ≡ false → two ≡ false → three ≡ true
 last-of true two three e f g = cc
@@ -92,36 +99,49 @@ last-of false true three e f g = cc
 last-of false false three e f g = e
 
 -- and one that is read, and no set, is a slice
-pub read-slice : (mode : Mode) (kind : ℕ) → is_kind_read mode kind ≡ true → (kind == 7) ≡ false → (kind == 8) ≡ false → (is_slice kind ≡ true) × (reads_slices mode ≡ true)
+pub read-slice : (mode : Mode) (kind : ℕ) → is_kind_read mode kind ≡ true → (kind == 7) ≡ false → (kind == 8) ≡ false → (is_slice kind ≡ true) ×
+    (reads_slices mode ≡ true)
 read-slice mode kind e f g = and_parts (is_slice kind) (reads_slices mode) (last-of (kind == 7) (kind == 8) (is_slice kind && reads_slices mode) e f g)
 
 -- ---- a picture of another format
 
 -- the decoder has the format of the newest picture
-another-by : (frames : ℕ → Frame) (on : Bool) (pictures : List CodedPicture) (old new : Decoder) (sps : Sps) → KeepsFrames frames on false pictures old → new.format ≡ old.format → (new.format ≡ Some (format_of sps) → ⊥) → HasAnotherFormat pictures sps
+another-by : (frames : ℕ → Frame) (on : Bool) (pictures : List CodedPicture) (old new : Decoder) (sps : Sps) → KeepsFrames frames on false pictures old →
+    new.format ≡ old.format → (new.format ≡ Some (format_of sps) → ⊥) → HasAnotherFormat pictures sps
 another-by frames on [] old new sps k e never = tt
 another-by frames on (p ∷ ps) old new sps k e never = λ same. never (e ∙ k.format ∙ ap (λ (f : Format). Some f) (sym same))
 
-pub is-another : (frames : ℕ → Frame) (on : Bool) (pictures : List CodedPicture) (old : Option Decoder) (new : Decoder) (sps : Sps) → WhereMade modes.Full (KeepsFrames frames on false pictures) old → new.format ≡ format_in old → (new.format ≡ Some (format_of sps) → ⊥) → HasAnotherFormat pictures sps
+pub is-another : (frames : ℕ → Frame) (on : Bool) (pictures : List CodedPicture) (old : Option Decoder) (new : Decoder) (sps : Sps) →
+    WhereMade modes.Full (KeepsFrames frames on false pictures) old → new.format ≡ format_in old → (new.format ≡ Some (format_of sps) → ⊥) →
+    HasAnotherFormat pictures sps
 unfolding WhereMade
 is-another frames on pictures None new sps k e never = absurd k
 is-another frames on pictures (Some old) new sps k e never = another-by frames on pictures old new sps k e never
 
 -- the slice of this header begins such a picture
-module _ {X S : Type 0} (took : S → List Call → Type 0) (failures : S → ℕ) (before : History) (unit : NalUnit) (maps : Maps) (maps-are : maps ≡ maps_of before) (byte : ℕ) (byte-is : byte ≡ header_of unit) (of : SliceUnit) (of-is : of ≡ slice_unit_of byte) (h : Header) where
-  pub begins-another : (old new : Reader) (s s' : S) (x : X) → old ≡ record { body = body_of unit; at = 0 } → Meets (span took failures s s') (Is (λ (y : X). h)) (header_syntax (sets_of maps) of) old new (let r : Result X Stop = Ok x in r) → Answers (span took failures s s') (Is (λ (y : X). h)) (header_syntax (sets_of maps) of) old new (let r : Result X Stop = Ok x in r) → (sets : Pps × Sps) → sets_of maps h.pic_parameter_set_id.value ≡ Some sets → begins_at before h ≡ true → HasAnotherFormat (runs_of before) sets.1 → BeginsAnotherFormat before unit
+module _ {X S : Type 0} (took : S → List Call → Type 0) (failures : S → ℕ) (before : History) (unit : NalUnit) (maps : Maps)
+    (maps-are : maps ≡ maps_of before) (byte : ℕ) (byte-is : byte ≡ header_of unit) (of : SliceUnit) (of-is : of ≡ slice_unit_of byte) (h : Header) where
+  pub begins-another : (old new : Reader) (s s' : S) (x : X) → old ≡ record { body = body_of unit; at = 0 } →
+      Meets (span took failures s s') (Is (λ (y : X). h)) (header_syntax (sets_of maps) of) old new (let r : Result X Stop = Ok x in r) →
+      Answers (span took failures s s') (Is (λ (y : X). h)) (header_syntax (sets_of maps) of) old new (let r : Result X Stop = Ok x in r) →
+      (sets : Pps × Sps) → sets_of maps h.pic_parameter_set_id.value ≡ Some sets → begins_at before h ≡ true → HasAnotherFormat (runs_of before) sets.1 →
+      BeginsAnotherFormat before unit
   begins-another old new s s' x first read answers sets names begins another =
       let unit-is : of ≡ slice_unit unit = of-is ∙ ap (λ (b : ℕ). slice_unit_of b) byte-is in
-      let a = subst (λ (o : Reader). Answers (span took failures s s') (Is (λ (y : X). h)) (header_syntax (sets_of maps) of) o new (let r : Result X Stop = Ok x in r)) first answers in
-      let b = subst (λ (m : Maps). Answers (span took failures s s') (Is (λ (y : X). h)) (header_syntax (sets_of m) of) (record { body = body_of unit; at = 0 }) new (let r : Result X Stop = Ok x in r)) maps-are a in
-      let d = subst (λ (u : SliceUnit). Answers (span took failures s s') (Is (λ (y : X). h)) (header_syntax (sets_of (maps_of before)) u) (record { body = body_of unit; at = 0 }) new (let r : Result X Stop = Ok x in r)) unit-is b in
+      let a = subst (λ (o : Reader). Answers (span took failures s s') (Is (λ (y : X). h)) (header_syntax (sets_of maps) of) o new
+      (let r : Result X Stop = Ok x in r)) first answers in
+      let b = subst (λ (m : Maps). Answers (span took failures s s') (Is (λ (y : X). h)) (header_syntax (sets_of m) of)
+      (record { body = body_of unit; at = 0 }) new (let r : Result X Stop = Ok x in r)) maps-are a in
+      let d = subst (λ (u : SliceUnit). Answers (span took failures s s') (Is (λ (y : X). h)) (header_syntax (sets_of (maps_of before)) u)
+      (record { body = body_of unit; at = 0 }) new (let r : Result X Stop = Ok x in r)) unit-is b in
       record {
         header = d.1;
         elements = d.0;
         end = new.at;
         derives = d.3;
         sets = sets;
-        names = subst (λ (q : Header). sets_of (maps_of before) q.pic_parameter_set_id.value ≡ Some sets) (sym d.2) (subst (λ (m : Maps). sets_of m h.pic_parameter_set_id.value ≡ Some sets) maps-are names);
+        names = subst (λ (q : Header). sets_of (maps_of before) q.pic_parameter_set_id.value ≡ Some sets) (sym d.2)
+            (subst (λ (m : Maps). sets_of m h.pic_parameter_set_id.value ≡ Some sets) maps-are names);
         begins = subst (λ (q : Header). begins_at before q ≡ true) (sym d.2) begins;
         is_another = another;
       }

@@ -1,5 +1,6 @@
 -- Missing numbers, one after another: what is told, and what is kept.
-use Rattle.std.proofs.Common.{◌≡◌, ℕ, suc, ◌+◌, ◌-◌, ◌%◌, ◌<◌, Bool, true, false, cond, not, ◌||◌, List, [], ◌∷◌, ◌++◌, map, Option, Some, None, unwrap_or, Result, Ok, Err, refl, ap, sym, ◌∙◌, subst, arith, append_assoc, if◌then◌else◌}
+use Rattle.std.proofs.Common.{◌≡◌, ℕ, suc, ◌+◌, ◌-◌, ◌%◌, ◌<◌, Bool, true, false, cond, not, ◌||◌, List, [], ◌∷◌, ◌++◌, map, Option, Some, None, unwrap_or}
+use Rattle.std.proofs.Common.{Result, Ok, Err, refl, ap, sym, ◌∙◌, subst, arith, append_assoc, if◌then◌else◌}
 use Rattle.std.proofs.lemmas.List.{append-nil}
 use Rattle.std.proofs.lemmas.List.Sums.{sum_by-cons}
 use Rattle.std.specs.Option.{is_some, is_none, option_map, option_and_then}
@@ -49,13 +50,15 @@ last-missing number (f ∷ frames) =
 abbrev joined : References → List ReferenceFrame → References
 joined refs frames = record refs { frames = frames }
 
-missing-joined : (refs new : References) (number : ℕ) (frames : List ReferenceFrame) (held : Bool) → option_map (joined refs) (if held then None else Some (frames ++ missing_frame number ∷ [])) ≡ Some new → 0 < missing_in (names new)
+missing-joined : (refs new : References) (number : ℕ) (frames : List ReferenceFrame) (held : Bool) →
+    option_map (joined refs) (if held then None else Some (frames ++ missing_frame number ∷ [])) ≡ Some new → 0 < missing_in (names new)
 missing-joined refs new number frames true e = cc
 missing-joined refs new number frames false e =
     let same : record refs { frames = frames ++ missing_frame number ∷ [] } ≡ new = cc in
     subst (λ (r : References). 0 < missing_in (names r)) same (last-missing number frames)
 
-missing-slid : (refs new : References) (number : ℕ) (slid : Option (List ReferenceFrame)) → option_map (joined refs) (option_and_then (with_missing number) slid) ≡ Some new → 0 < missing_in (names new)
+missing-slid : (refs new : References) (number : ℕ) (slid : Option (List ReferenceFrame)) →
+    option_map (joined refs) (option_and_then (with_missing number) slid) ≡ Some new → 0 < missing_in (names new)
 missing-slid refs new number None e = cc
 missing-slid refs new number (Some frames) e = missing-joined refs new number frames (list_any (has_frame_num number) frames) e
 
@@ -73,9 +76,12 @@ with-both : {A : Type 0} (xs ys : List Told) (o : Outcome A) → with_calls xs (
 with-both xs ys o = ap (λ (l : List Told). record { calls = l; answer = o.answer }) (sym (append_assoc xs ys o.calls))
 
 -- what is played after what was told
-after-plays : {A S X : Type 0} (took : S → List Told → Type 0) (failures : S → ℕ) (view : X → A) (told : List Told) (o : Outcome A) (s0 s1 s2 : S) (r : Result X Stop) → Tells took s0 s1 told → failures s1 ≡ failures s0 → Plays (span took failures s1 s2) view o r → Plays (span took failures s0 s2) view (with_calls told o) r
+after-plays : {A S X : Type 0} (took : S → List Told → Type 0) (failures : S → ℕ) (view : X → A) (told : List Told) (o : Outcome A) (s0 s1 s2 : S)
+    (r : Result X Stop) → Tells took s0 s1 told → failures s1 ≡ failures s0 → Plays (span took failures s1 s2) view o r →
+    Plays (span took failures s0 s2) view (with_calls told o) r
 unfolding ◌>>=◌
-after-plays took failures view told o s0 s1 s2 r t k p = plays-on took failures (λ (x : Unit {0}). x) view (record { calls = told; answer = Ok tt }) (λ _. o) s0 s1 s2 tt r (record { plays = (refl, t, k) }) p
+after-plays took failures view told o s0 s1 s2 r t k p =
+    plays-on took failures (λ (x : Unit {0}). x) view (record { calls = told; answer = Ok tt }) (λ _. o) s0 s1 s2 tt r (record { plays = (refl, t, k) }) p
 
 -- ---- the steps
 
@@ -83,29 +89,39 @@ after-plays took failures view told o s0 s1 s2 r t k p = plays-on took failures 
 abbrev following : Numbering → ℕ → ℕ → List ℕ
 following n count number = numbers_from count ((number + 1) % n.max_frame_num) n.max_frame_num
 
-pub steps-some : (mode : Mode) (bit : ℕ) (n : Numbering) (number : ℕ) (numbers : List ℕ) (refs held : References) (b : Buffered Shown) → filled (record n { frame_num = number }) refs ≡ Some held →
-    steps_outcome (missing_steps mode bit n (number ∷ numbers) refs b) ≡ (steps_outcome (told_frames mode (missing_turn held b).written) >>= λ _. steps_outcome (missing_steps mode bit n numbers held (missing_turn held b).buffer))
+pub steps-some : (mode : Mode) (bit : ℕ) (n : Numbering) (number : ℕ) (numbers : List ℕ) (refs held : References) (b : Buffered Shown) →
+    filled (record n { frame_num = number }) refs ≡ Some held →
+    steps_outcome (missing_steps mode bit n (number ∷ numbers) refs b) ≡
+    (steps_outcome (told_frames mode (missing_turn held b).written) >>= λ _. steps_outcome
+    (missing_steps mode bit n numbers held (missing_turn held b).buffer))
 steps-some mode bit n number numbers refs held b e =
-    ap (λ (o : Option References). steps_outcome (Needs (record { rule = FrameNum; bit = bit; met = is_some o }) ∷ missing_on o (λ held. told_frames mode (missing_turn held b).written ++ missing_steps mode bit n numbers held (missing_turn held b).buffer))) e
+    ap (λ (o : Option References). steps_outcome
+    (Needs (record { rule = FrameNum; bit = bit; met = is_some o }) ∷ missing_on o
+    (λ held. told_frames mode (missing_turn held b).written ++ missing_steps mode bit n numbers held (missing_turn held b).buffer))) e
     ∙ steps-append (told_frames mode (missing_turn held b).written) (missing_steps mode bit n numbers held (missing_turn held b).buffer)
 
-steps-none : (mode : Mode) (bit : ℕ) (n : Numbering) (number : ℕ) (numbers : List ℕ) (refs : References) (b : Buffered Shown) → filled (record n { frame_num = number }) refs ≡ None →
+steps-none : (mode : Mode) (bit : ℕ) (n : Numbering) (number : ℕ) (numbers : List ℕ) (refs : References) (b : Buffered Shown) →
+    filled (record n { frame_num = number }) refs ≡ None →
     steps_outcome (missing_steps mode bit n (number ∷ numbers) refs b) ≡ answers (Err (No bit FrameNum))
 steps-none mode bit n number numbers refs b e =
-    ap (λ (o : Option References). steps_outcome (Needs (record { rule = FrameNum; bit = bit; met = is_some o }) ∷ missing_on o (λ held. told_frames mode (missing_turn held b).written ++ missing_steps mode bit n numbers held (missing_turn held b).buffer))) e
+    ap (λ (o : Option References). steps_outcome
+    (Needs (record { rule = FrameNum; bit = bit; met = is_some o }) ∷ missing_on o
+    (λ held. told_frames mode (missing_turn held b).written ++ missing_steps mode bit n numbers held (missing_turn held b).buffer))) e
 
 turn-some : (n : Numbering) (number : ℕ) (numbers : List ℕ) (refs held : References) (t : Turn) → filled (record n { frame_num = number }) refs ≡ Some held →
     turn_then t (gaps_turn n (number ∷ numbers) refs) ≡ turn_then (turn_then t (missing_turn held)) (gaps_turn n numbers held)
 turn-some n number numbers refs held t e =
     ap (λ (o : Option References). turn_then t (gap_on o (λ held. turn_then (missing_turn held t.buffer) (gaps_turn n numbers held)))) e
-    ∙ ap (λ (l : List _). record { written = l; buffer = (gaps_turn n numbers held (missing_turn held t.buffer).buffer).buffer }) (sym (append_assoc t.written (missing_turn held t.buffer).written (gaps_turn n numbers held (missing_turn held t.buffer).buffer).written))
+    ∙ ap (λ (l : List _). record { written = l; buffer = (gaps_turn n numbers held (missing_turn held t.buffer).buffer).buffer })
+    (sym (append_assoc t.written (missing_turn held t.buffer).written (gaps_turn n numbers held (missing_turn held t.buffer).buffer).written))
 
 -- ---- all of them
 
 none-left : (count : ℕ) → count - count ≡ 0
 none-left count = omega arith
 
-module _ {S : Type 0} (mode : Mode) (bit : ℕ) (n : Numbering) (count prev : ℕ) (held : References) (took : S → List Call → Type 0) (failures : S → ℕ) (frames : ℕ → Frame) (t : Turn) (next : ℕ) (old : S) where
+module _ {S : Type 0} (mode : Mode) (bit : ℕ) (n : Numbering) (count prev : ℕ) (held : References) (took : S → List Call → Type 0) (failures : S → ℕ)
+    (frames : ℕ → Frame) (t : Turn) (next : ℕ) (old : S) where
   abbrev pub all_steps : List Step
   all_steps = missing_steps mode bit n (following n count prev) held t.buffer
 
@@ -131,10 +147,12 @@ module _ {S : Type 0} (mode : Mode) (bit : ℕ) (n : Numbering) (count prev : �
   pub fills-first : (d : Option Decoder) → WhereMade mode (FillsFrames frames t next) d → Fills (count - 0) prev held old d
   fills-first d k = let e : count - 0 ≡ count = omega arith in first (count - 0) d e k
 
-  pub fills-more : (turn last : ℕ) (now : References) (new : S) (d : Option Decoder) → turn < count → Fills (count - turn) last now new d → Fills (suc (count - (turn + 1))) last now new d
+  pub fills-more : (turn last : ℕ) (now : References) (new : S) (d : Option Decoder) → turn < count → Fills (count - turn) last now new d →
+      Fills (suc (count - (turn + 1))) last now new d
   fills-more turn last now new d h f = subst (λ (l : ℕ). Fills l last now new d) (left-is count turn h) f
 
-  pub fills-whole : (turn last : ℕ) (now : References) (new : S) (d : Option Decoder) → turn ≡ count → Fills (count - turn) last now new d → Fills 0 last now new d
+  pub fills-whole : (turn last : ℕ) (now : References) (new : S) (d : Option Decoder) → turn ≡ count → Fills (count - turn) last now new d →
+      Fills 0 last now new d
   fills-whole turn last now new d e f = subst (λ (l : ℕ). Fills l last now new d) (ap (λ (t : ℕ). count - t) e ∙ none-left count) f
 
   module _ (k last : ℕ) (now : References) (new : S) (d : Option Decoder) (f : Fills (suc k) last now new d) (quiet : failures new ≡ failures old) where
@@ -142,11 +160,15 @@ module _ {S : Type 0} (mode : Mode) (bit : ℕ) (n : Numbering) (count prev : �
     number = (last + 1) % n.max_frame_num
 
     -- it cannot be filled
-    pub fills-refused : {X : Type 0} (view : X → Unit {0}) (e : Stop) → filled (record n { frame_num = number }) now ≡ None → e ≡ No bit FrameNum → Plays {X = X} (span (took_with frames took) failures old new) view (steps_outcome all_steps) (Err e)
+    pub fills-refused : {X : Type 0} (view : X → Unit {0}) (e : Stop) → filled (record n { frame_num = number }) now ≡ None → e ≡ No bit FrameNum →
+        Plays {X = X} (span (took_with frames took) failures old new) view (steps_outcome all_steps) (Err e)
     fills-refused {X} view e none is =
-        subst (λ (o : Outcome (Unit {0})). Plays {X = X} (span (took_with frames took) failures old new) view o (Err e)) (sym (f.steps ∙ ap (with_calls f.told) (steps-none mode bit n number (following n k number) now f.turn.buffer none)))
-        (subst (λ (x : Stop). Plays {X = X} (span (took_with frames took) failures old new) view (with_calls f.told (answers (Err (No bit FrameNum)))) (Err x)) (sym is)
-        (after-plays (took_with frames took) failures view f.told (answers (Err (No bit FrameNum))) old new new (Err (No bit FrameNum)) f.tells quiet (record { plays = (refl, tells-none (took_with frames took) new, refl) })))
+        subst (λ (o : Outcome (Unit {0})). Plays {X = X} (span (took_with frames took) failures old new) view o (Err e))
+        (sym (f.steps ∙ ap (with_calls f.told) (steps-none mode bit n number (following n k number) now f.turn.buffer none)))
+        (subst (λ (x : Stop). Plays {X = X} (span (took_with frames took) failures old new) view (with_calls f.told (answers (Err (No bit FrameNum))))
+        (Err x)) (sym is)
+        (after-plays (took_with frames took) failures view f.told (answers (Err (No bit FrameNum))) old new new (Err (No bit FrameNum)) f.tells quiet
+        (record { plays = (refl, tells-none (took_with frames took) new, refl) })))
 
     module _ (then_held : References) (fits : filled (record n { frame_num = number }) now ≡ Some then_held) where
       abbrev frame_steps : Outcome (Unit {0})
@@ -159,13 +181,18 @@ module _ {S : Type 0} (mode : Mode) (bit : ℕ) (n : Numbering) (count prev : �
       steps-are = f.steps ∙ ap (with_calls f.told) (steps-some mode bit n number (following n k number) now then_held f.turn.buffer fits)
 
       -- its frame is not told
-      pub fills-stopped : {X : Type 0} (view : X → Unit {0}) (s : S) (e : Stop) → Plays {X = Unit {0}} (span (took_with frames took) failures new s) (λ (x : Unit {0}). x) frame_steps (Err e) → Plays {X = X} (span (took_with frames took) failures old s) view (steps_outcome all_steps) (Err e)
+      pub fills-stopped : {X : Type 0} (view : X → Unit {0}) (s : S) (e : Stop) →
+          Plays {X = Unit {0}} (span (took_with frames took) failures new s) (λ (x : Unit {0}). x) frame_steps (Err e) →
+          Plays {X = X} (span (took_with frames took) failures old s) view (steps_outcome all_steps) (Err e)
       fills-stopped {X} view s e p =
           subst (λ (o : Outcome (Unit {0})). Plays {X = X} (span (took_with frames took) failures old s) view o (Err e)) (sym steps-are)
-          (after-plays (took_with frames took) failures view f.told (frame_steps >>= λ _. rest) old new s (Err e) f.tells quiet (plays-stops (took_with frames took) failures (λ (x : Unit {0}). x) view frame_steps (λ _. rest) new s e p))
+          (after-plays (took_with frames took) failures view f.told (frame_steps >>= λ _. rest) old new s (Err e) f.tells quiet
+          (plays-stops (took_with frames took) failures (λ (x : Unit {0}). x) view frame_steps (λ _. rest) new s e p))
 
       -- one more is filled
-      pub fills-next : (s : S) (d' : Option Decoder) (x : Unit {0}) → Plays {X = Unit {0}} (span (took_with frames took) failures new s) (λ (x : Unit {0}). x) frame_steps (Ok x) → WhereMade mode (FillsFrames frames (turn_then f.turn (missing_turn then_held)) next) d' → Fills k number then_held s d'
+      pub fills-next : (s : S) (d' : Option Decoder) (x : Unit {0}) →
+          Plays {X = Unit {0}} (span (took_with frames took) failures new s) (λ (x : Unit {0}). x) frame_steps (Ok x) →
+          WhereMade mode (FillsFrames frames (turn_then f.turn (missing_turn then_held)) next) d' → Fills k number then_held s d'
       fills-next s d' x p kept = record {
         turn = turn_then f.turn (missing_turn then_held);
         told = f.told ++ frame_steps.calls;
@@ -176,22 +203,31 @@ module _ {S : Type 0} (mode : Mode) (bit : ℕ) (n : Numbering) (count prev : �
       }
 
   -- none is left
-  pub fills-last : (last : ℕ) (now : References) (new : S) (d : Option Decoder) → Fills 0 last now new d → failures new ≡ failures old → Plays (span (took_with frames took) failures old new) (λ (x : ℕ). tt) (steps_outcome all_steps) (Ok last)
+  pub fills-last : (last : ℕ) (now : References) (new : S) (d : Option Decoder) → Fills 0 last now new d → failures new ≡ failures old →
+      Plays (span (took_with frames took) failures old new) (λ (x : ℕ). tt) (steps_outcome all_steps) (Ok last)
   fills-last last now new d f quiet =
       subst (λ (o : Outcome (Unit {0})). Plays (span (took_with frames took) failures old new) (λ (x : ℕ). tt) o (Ok last)) (sym f.steps)
-      (after-plays (took_with frames took) failures (λ (x : ℕ). tt) f.told (gives tt) old new new (Ok last) f.tells quiet (gives-plays (took_with frames took) failures (λ (x : ℕ). tt) last new))
+      (after-plays (took_with frames took) failures (λ (x : ℕ). tt) f.told (gives tt) old new new (Ok last) f.tells quiet
+      (gives-plays (took_with frames took) failures (λ (x : ℕ). tt) last new))
 
-  pub fills-kept : (last : ℕ) (now : References) (new : S) (d : Option Decoder) → Fills 0 last now new d → WhereMade mode (FillsFrames frames (turn_then t (gaps_turn n (following n count prev) held)) next) d
-  fills-kept last now new d f = subst (λ (u : Turn). WhereMade mode (FillsFrames frames u next) d) (sym (f.turns ∙ ap (λ (l : List _). record { written = l; buffer = f.turn.buffer }) (append-nil f.turn.written))) f.keeps
+  pub fills-kept : (last : ℕ) (now : References) (new : S) (d : Option Decoder) → Fills 0 last now new d →
+      WhereMade mode (FillsFrames frames (turn_then t (gaps_turn n (following n count prev) held)) next) d
+  fills-kept last now new d f = subst (λ (u : Turn). WhereMade mode (FillsFrames frames u next) d)
+      (sym (f.turns ∙ ap (λ (l : List _). record { written = l; buffer = f.turn.buffer }) (append-nil f.turn.written))) f.keeps
 
 -- there are frames of which this is kept still
-pub some-gap : {S : Type 0} (bit : ℕ) (n : Numbering) (count prev : ℕ) (held : References) (took : S → List Call → Type 0) (failures : S → ℕ) (old : S) (left last : ℕ) (now : References) (new : S) (before d : Option Decoder) (k : KeepsSomeGap before) →
-    ((mode : Mode) (frames : ℕ → Frame) (t : Turn) (next : ℕ) → WhereMade mode (FillsFrames frames t next) before → Fills mode bit n count prev held took failures frames t next old left last now new d) → KeepsSomeGap d
+pub some-gap : {S : Type 0} (bit : ℕ) (n : Numbering) (count prev : ℕ) (held : References) (took : S → List Call → Type 0) (failures : S → ℕ) (old : S)
+    (left last : ℕ) (now : References) (new : S) (before d : Option Decoder) (k : KeepsSomeGap before) →
+    ((mode : Mode) (frames : ℕ → Frame) (t : Turn) (next : ℕ) → WhereMade mode (FillsFrames frames t next) before →
+    Fills mode bit n count prev held took failures frames t next old left last now new d) → KeepsSomeGap d
 some-gap bit n count prev held took failures old left last now new before d k fills =
     let f = fills k.mode k.frames k.turn k.next k.keeps in
     record { mode = k.mode; frames = k.frames; turn = f.turn; next = k.next; few = k.few; keeps = f.keeps }
 
 -- the rule on a picture's number, by what is held once the gap is filled
-pub new-filled : (idr reference : Bool) (bit prev : ℕ) (n : Numbering) (refs held : References) → all_filled n (unused_short_term_frame_nums idr prev n) refs ≡ Some held →
-    (let r : Result (Unit {0}) Stop = if idr || not reference || is_new_num prev n.frame_num held then Ok tt else Err (No bit FrameNum) in r ≡ judged (new_num_demand idr reference bit prev n refs ∷ []))
-new-filled idr reference bit prev n refs held e = ap (λ (o : Option References). if idr || not reference || is_new_num prev n.frame_num (unwrap_or o refs) then Ok tt else Err (No bit FrameNum)) (sym e)
+pub new-filled : (idr reference : Bool) (bit prev : ℕ) (n : Numbering) (refs held : References) →
+    all_filled n (unused_short_term_frame_nums idr prev n) refs ≡ Some held →
+    (let r : Result (Unit {0}) Stop = if idr || not reference || is_new_num prev n.frame_num held then Ok tt else Err (No bit FrameNum) in
+    r ≡ judged (new_num_demand idr reference bit prev n refs ∷ []))
+new-filled idr reference bit prev n refs held e =
+    ap (λ (o : Option References). if idr || not reference || is_new_num prev n.frame_num (unwrap_or o refs) then Ok tt else Err (No bit FrameNum)) (sym e)

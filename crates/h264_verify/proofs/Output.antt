@@ -31,7 +31,8 @@ use Rattle.h264_verify.proofs.Verdicts.{legal-unit}
 -- ---- a frame
 
 -- two frames of one size with the same samples are shown alike
-call-same : (width height : ℕ) (f g : Frame) → IsFrame f (16 * width) (16 * height) → IsFrame g (16 * width) (16 * height) → ((c : Component) (x y : ℕ) → x < side c * width → y < side c * height → at (plane_of c f) x y ≡ at (plane_of c g) x y) →
+call-same : (width height : ℕ) (f g : Frame) → IsFrame f (16 * width) (16 * height) → IsFrame g (16 * width) (16 * height) →
+    ((c : Component) (x y : ℕ) → x < side c * width → y < side c * height → at (plane_of c f) x y ≡ at (plane_of c g) x y) →
     (count : ℤ) (r : Rectangle) → frame_call count f r ≡ frame_call count g r
 call-same width height f g i j same count r =
     let wide : width_in r f ≡ 16 * width - 2 * (r.left + r.right) = ap (λ n. n - 2 * (r.left + r.right)) i.y.columns in
@@ -52,13 +53,15 @@ module _ (frames others : ℕ → Frame) where
   abbrev pub ShownAlike : ℕ → Type 0
   ShownAlike n = (k : ℕ) → k < n → (count : ℤ) (r : Rectangle) → frame_call count (frames k) r ≡ frame_call count (others k) r
 
-  pub shown-alike : (pictures : List CodedPicture) → AreSameOn frames others pictures → HaveFrames frames pictures → HaveFrames others pictures → ShownAlike (length pictures)
+  pub shown-alike : (pictures : List CodedPicture) → AreSameOn frames others pictures → HaveFrames frames pictures → HaveFrames others pictures →
+      ShownAlike (length pictures)
   shown-alike [] s h k n l count r = absurd (omega (arith, l))
   shown-alike (p ∷ ps) s h k n l count r = ⊎_elim
       (λ (q : n < length ps). shown-alike ps s.1 h.1 k.1 n q count r)
       (λ (q : length ps ≤ n).
       let e : n ≡ length ps = omega (arith, q, l) in
-      subst (λ i. frame_call count (frames i) r ≡ frame_call count (others i) r) (sym e) (call-same p.first.sps.frame_size.width p.first.sps.frame_size.height (frames (length ps)) (others (length ps)) h.0.size k.0.size s.0 count r))
+      subst (λ i. frame_call count (frames i) r ≡ frame_call count (others i) r) (sym e)
+      (call-same p.first.sps.frame_size.width p.first.sps.frame_size.height (frames (length ps)) (others (length ps)) h.0.size k.0.size s.0 count r))
       (cases_lt n (length ps))
 
   pub calls-same : (n : ℕ) (told : List Told) → ShownAlike n → AreOf n told → calls_of frames told ≡ calls_of others told
@@ -77,4 +80,5 @@ legal-of target (r ∷ before) told l =
     let e = legal-unit (terms_of modes.Full target) before r l.1 l.3 in
     let g = unit-grows (terms_of modes.Full target) before (r ∷ before) r.unit (ap (λ (o : Outcome History). o.answer) e) in
     let last : AreOf (ended_in (r ∷ before)) l.1 = subst (AreOf (ended_in (r ∷ before))) (ap (λ (o : Outcome History). o.calls) e) g.1 in
-    subst (AreOf (ended_in (r ∷ before))) (sym l.4) (of-both (ended_in (r ∷ before)) l.0 l.1 (of-more (ended_in before) (ended_in (r ∷ before)) l.0 g.0 (legal-of target before l.0 l.2)) last)
+    subst (AreOf (ended_in (r ∷ before))) (sym l.4)
+    (of-both (ended_in (r ∷ before)) l.0 l.1 (of-more (ended_in before) (ended_in (r ∷ before)) l.0 g.0 (legal-of target before l.0 l.2)) last)

@@ -1,5 +1,6 @@
 -- A picture that has ended takes its place in the buffer.
-use Rattle.std.proofs.Common.{◌≡◌, ℕ, ◌+◌, ◌*◌, ◌<◌, ◌≤◌, ◌||◌, not, Bool, true, false, IsTrue, List, [], ◌∷◌, ◌++◌, length, Option, Some, None, Result, Ok, Err, OnOk, refl, ap, sym, ◌∙◌, subst, arith, length-append, if◌then◌else◌}
+use Rattle.std.proofs.Common.{◌≡◌, ℕ, ◌+◌, ◌*◌, ◌<◌, ◌≤◌, ◌||◌, not, Bool, true, false, IsTrue, List, [], ◌∷◌, ◌++◌, length, Option, Some, None, Result, Ok}
+use Rattle.std.proofs.Common.{Err, OnOk, refl, ap, sym, ◌∙◌, subst, arith, length-append, if◌then◌else◌}
 use Rattle.h264_base.specs.declared.mode.Mode.TheVariants as modes
 use Rattle.h264_plane.specs.declared.frame.Frame.{Frame}
 use Rattle.h264_plane.specs.Frames.{IsFrame}
@@ -67,7 +68,10 @@ unfolding ended_of
 ended-size p ps e is = ap (λ (x : Ended). x.size) is
 
 pub ended-few : (p : CodedPicture) (ps : List CodedPicture) (e : Ended) → e ≡ ended_picture p ps → (0 < e.size) × (e.size ≤ 16)
-ended-few p ps e is = (subst (λ (n : ℕ). 0 < n) (sym (ended-size p ps e is)) (buffer-some p.first.sps), subst (λ (n : ℕ). n ≤ 16) (sym (ended-size p ps e is)) (buffer-most p.first.sps))
+ended-few p ps e is = (
+  subst (λ (n : ℕ). 0 < n) (sym (ended-size p ps e is)) (buffer-some p.first.sps),
+  subst (λ (n : ℕ). n ≤ 16) (sym (ended-size p ps e is)) (buffer-most p.first.sps),
+)
 
 ended-idr : (p : CodedPicture) (ps : List CodedPicture) (e : Ended) → e ≡ ended_picture p ps → e.idr ≡ is_idr p.first.header
 unfolding ended_of
@@ -95,39 +99,51 @@ store-sized e refs b = by e.reference
     by false = refl
 
 -- The picture has ended in this frame.
-module _ (frames : ℕ → Frame) (p : CodedPicture) (ps : List CodedPicture) (old : Decoder) (e : Ended) (is : e ≡ ended_picture p ps) (k : KeepsFrames frames true false (p ∷ ps) old) (work : Work) (kept : KeepsLent old.work work) (f : Frame) where
+module _ (frames : ℕ → Frame) (p : CodedPicture) (ps : List CodedPicture) (old : Decoder) (e : Ended) (is : e ≡ ended_picture p ps)
+    (k : KeepsFrames frames true false (p ∷ ps) old) (work : Work) (kept : KeepsLent old.work work) (f : Frame) where
   abbrev made : ℕ → Frame
   made = with_frame frames (length ps) f
 
   pub frames-then : HasFrames made (lent work) old.output
-  frames-then = frames-agree frames made (lent work) (length ps) old.output (with-agrees frames (length ps) f) k.output.ordered.rising (record { each = each-lent frames (lent old.work) (lent work) old.output.buffer.entries (λ q t n. kept q n) k.output.frames_are.each })
+  frames-then = frames-agree frames made (lent work) (length ps) old.output (with-agrees frames (length ps) f) k.output.ordered.rising
+      (record { each = each-lent frames (lent old.work) (lent work) old.output.buffer.entries (λ q t n. kept q n) k.output.frames_are.each })
 
   pub ready-then : IsReady (lent work) old.output
-  ready-then = record { ready = ready-lent frames (lent old.work) (lent work) old.output.buffer.entries (λ q t n. kept q n) k.output.frames_are.each k.output.ready.ready }
+  ready-then = record {
+    ready = ready-lent frames (lent old.work) (lent work) old.output.buffer.entries (λ q t n. kept q n) k.output.frames_are.each
+        k.output.ready.ready;
+  }
 
   pub ordered-then : IsOrdered e.picture old.output
   ordered-then = subst (λ (n : ℕ). IsOrdered n old.output) (sym (ended-number p ps e is)) k.output.ordered
 
   -- its place, once the frames of the sequence before are let go of
-  module _ (mid new : Decoder) (work-is : mid.work ≡ work) (place-is : mid.place ≡ old.place) (format-is : mid.format ≡ old.format) (lent-is : lent work old.place ≡ Some f) (sized : IsFrame f (16 * p.first.sps.frame_size.width) (16 * p.first.sps.frame_size.height)) (first : first_place work ≡ first_place old.work)
-      (stays-if : empties e ≡ false → new ≡ mid) (others : new ≡ record mid { work = new.work }) (on : (q : ℕ) → is_active_place (first_place mid.work) q ≡ true → lent new.work q ≡ lent mid.work q) (emptied : empties e ≡ true → IsEmpty mid.output) where
+  module _ (mid new : Decoder) (work-is : mid.work ≡ work) (place-is : mid.place ≡ old.place) (format-is : mid.format ≡ old.format)
+      (lent-is : lent work old.place ≡ Some f) (sized : IsFrame f (16 * p.first.sps.frame_size.width) (16 * p.first.sps.frame_size.height))
+      (first : first_place work ≡ first_place old.work)
+      (stays-if : empties e ≡ false → new ≡ mid) (others : new ≡ record mid { work = new.work })
+      (on : (q : ℕ) → is_active_place (first_place mid.work) q ≡ true → lent new.work q ≡ lent mid.work q)
+      (emptied : empties e ≡ true → IsEmpty mid.output) where
     output-is : new.output ≡ mid.output
     output-is = ap (λ (d : Decoder). d.output) others
 
     lent-then : lent new.work new.place ≡ Some f
     lent-then =
         ap (λ (d : Decoder). lent new.work d.place) others ∙ ap (λ (q : ℕ). lent new.work q) place-is
-        ∙ on old.place (subst (λ (w : Work). is_active_place (first_place w) old.place ≡ true) (sym work-is) (subst (λ (b : ℕ). is_active_place b old.place ≡ true) (sym first) k.picture.active))
+        ∙ on old.place (subst (λ (w : Work). is_active_place (first_place w) old.place ≡ true) (sym work-is)
+        (subst (λ (b : ℕ). is_active_place b old.place ≡ true) (sym first) k.picture.active))
         ∙ ap (λ (w : Work). lent w old.place) work-is ∙ lent-is
 
     pub at-place : IsAtPlace made (lent new.work) (placed_at e new.place)
     at-place = (
       lent-then ∙ ap Some (sym (ap made (ended-number p ps e is) ∙ frame-at frames (length ps) f)),
-      subst (λ (g : Frame). IsTrue (fits e.rectangle g)) (sym (ap made (ended-number p ps e is) ∙ frame-at frames (length ps) f)) (ap (λ (r : _). fits r f) (ended-rectangle p ps e is) ∙ rectangle-fits p.first.sps f sized),
+      subst (λ (g : Frame). IsTrue (fits e.rectangle g)) (sym (ap made (ended-number p ps e is) ∙ frame-at frames (length ps) f))
+          (ap (λ (r : _). fits r f) (ended-rectangle p ps e is) ∙ rectangle-fits p.first.sps f sized),
     )
 
     pub shown-then : IsTrue (fits_in e.rectangle (lent new.work new.place))
-    shown-then = ap (λ (o : Option Frame). fits_in e.rectangle o) lent-then ∙ (ap (λ (r : _). fits r f) (ended-rectangle p ps e is) ∙ rectangle-fits p.first.sps f sized)
+    shown-then = ap (λ (o : Option Frame). fits_in e.rectangle o) lent-then ∙
+        (ap (λ (r : _). fits r f) (ended-rectangle p ps e is) ∙ rectangle-fits p.first.sps f sized)
 
     by-empty : (P : Output → Work → Type 0) → ((o : Output) (w : Work) → IsEmpty o → P o w) → P mid.output mid.work → P new.output new.work
     by-empty P none h = pick (empties e) refl
@@ -137,91 +153,147 @@ module _ (frames : ℕ → Frame) (p : CodedPicture) (ps : List CodedPicture) (o
         pick false t = subst (λ (d : Decoder). P d.output d.work) (sym (stays-if t)) h
 
     pub frames-now : HasFrames made (lent work) mid.output → HasFrames made (lent new.work) new.output
-    frames-now h = by-empty (λ o w. HasFrames made (lent w) o) (λ o w n. record { each = subst (λ (es : _). Each (IsAtPlace made (lent w)) es) (sym n.none) tt }) (subst (λ (w : Work). HasFrames made (lent w) mid.output) (sym work-is) h)
+    frames-now h = by-empty (λ o w. HasFrames made (lent w) o)
+        (λ o w n. record { each = subst (λ (es : _). Each (IsAtPlace made (lent w)) es) (sym n.none) tt })
+        (subst (λ (w : Work). HasFrames made (lent w) mid.output) (sym work-is) h)
 
     pub ready-now : IsReady (lent work) mid.output → IsReady (lent new.work) new.output
-    ready-now h = by-empty (λ o w. IsReady (lent w) o) (λ o w n. record { ready = subst (λ (es : _). AreReady (lent w) es) (sym n.none) tt }) (subst (λ (w : Work). IsReady (lent w) mid.output) (sym work-is) h)
+    ready-now h = by-empty (λ o w. IsReady (lent w) o) (λ o w n. record { ready = subst (λ (es : _). AreReady (lent w) es) (sym n.none) tt })
+        (subst (λ (w : Work). IsReady (lent w) mid.output) (sym work-is) h)
 
 -- how large the pictures are
-pub size-of : (frames : ℕ → Frame) (p : CodedPicture) (ps : List CodedPicture) (d : Decoder) → KeepsFrames frames true false (p ∷ ps) d → HasSize p.first.sps.frame_size.width p.first.sps.frame_size.height d.work
-size-of frames p ps d k = let room : IsRoomFor (format_of p.first.sps) d.work = subst (λ (o : Option Format). HasFormat o d.work) k.picture.format k.output.format in room.size
+pub size-of : (frames : ℕ → Frame) (p : CodedPicture) (ps : List CodedPicture) (d : Decoder) → KeepsFrames frames true false (p ∷ ps) d →
+    HasSize p.first.sps.frame_size.width p.first.sps.frame_size.height d.work
+size-of frames p ps d k = let room : IsRoomFor (format_of p.first.sps) d.work =
+    subst (λ (o : Option Format). HasFormat o d.work) k.picture.format k.output.format in room.size
 
 -- a buffer that was emptied, or not, has the places of its sequence
-pub way-places : (frames : ℕ → Frame) (p : CodedPicture) (ps : List CodedPicture) (old : Decoder) (e : Ended) → e ≡ ended_picture p ps → KeepsFrames frames true false (p ∷ ps) old → (way_turn e (within_newest (p ∷ ps)).buffer).buffer.size ≡ buffer_size p.first.sps
+pub way-places : (frames : ℕ → Frame) (p : CodedPicture) (ps : List CodedPicture) (old : Decoder) (e : Ended) → e ≡ ended_picture p ps →
+    KeepsFrames frames true false (p ∷ ps) old → (way_turn e (within_newest (p ∷ ps)).buffer).buffer.size ≡ buffer_size p.first.sps
 way-places frames p ps old e is k = way-sized e (within_newest (p ∷ ps)).buffer (buffer_size p.first.sps) (λ t. ended-size p ps e is) (λ t.
     let not-idr : is_idr p.first.header ≡ false = sym (ended-idr p ps e is) ∙ or-false e.idr e.resets t in
     k.output.buffer.same.size ∙ subst (λ (o : Option Format). IsSized o old.output) k.picture.format (k.picture.settled not-idr).sized)
 
 -- the picture stands in the buffer
-pub stored-frames : {X E : Type 0} (frames : ℕ → Frame) (p : CodedPicture) (ps : List CodedPicture) (old last : Decoder) (e : Ended) (held : References) (out : Output) (r : Result X E) → e ≡ ended_picture p ps → held ≡ held_after (p ∷ ps) →
+pub stored-frames : {X E : Type 0} (frames : ℕ → Frame) (p : CodedPicture) (ps : List CodedPicture) (old last : Decoder) (e : Ended) (held : References)
+    (out : Output) (r : Result X E) → e ≡ ended_picture p ps → held ≡ held_after (p ∷ ps) →
     KeepsFrames frames true false (p ∷ ps) old → (f : Frame) → last.format ≡ old.format → IsRoomFor (format_of p.first.sps) last.work → IsReleased last.work →
-    OnOk r (KeepsBuffer (store_turn e held (way_turn e (within_newest (p ∷ ps)).buffer).buffer).buffer ((length (within_newest (p ∷ ps)).written + length (way_turn e (within_newest (p ∷ ps)).buffer).written) + length (store_turn e held (way_turn e (within_newest (p ∷ ps)).buffer).buffer).written) out) →
+    OnOk r (KeepsBuffer (store_turn e held (way_turn e (within_newest (p ∷ ps)).buffer).buffer).buffer
+    ((length (within_newest (p ∷ ps)).written + length (way_turn e (within_newest (p ∷ ps)).buffer).written) + length
+    (store_turn e held (way_turn e (within_newest (p ∷ ps)).buffer).buffer).written) out) →
     OnOk r (HasFrames (with_frame frames (length ps) f) (lent last.work) out) → OnOk r (IsOrdered (e.picture + 1) out) → OnOk r (IsReady (lent last.work) out) →
     OnOk r (KeepsFrames (with_frame frames (length ps) f) true true (p ∷ ps) (record last { output = out }))
 stored-frames frames p ps old last e held out (Err x) is h k f same room released b fr o a = tt
 stored-frames frames p ps old last e held out (Ok x) is h k f same room released b fr o a =
     let t = within_newest (p ∷ ps) in
     let turn = end_turn e held t.buffer in
-    let count : (length t.written + length (way_turn e t.buffer).written) + length (store_turn e held (way_turn e t.buffer).buffer).written ≡ length (t.written ++ turn.written) = let l = length-append t.written turn.written in let m = length-append (way_turn e t.buffer).written (store_turn e held (way_turn e t.buffer).buffer).written in omega (arith, l, m) in
-    let kept : KeepsBuffer (turn_then t (end_turn e held)).buffer (length (turn_then t (end_turn e held)).written) out = subst (λ (n : ℕ). KeepsBuffer turn.buffer n out) count b in
-    let all : KeepsBuffer (after_all (p ∷ ps)).buffer (length (after_all (p ∷ ps)).written) out = subst (λ (x : Ended). KeepsBuffer (turn_then t (end_turn x (held_after (p ∷ ps)))).buffer (length (turn_then t (end_turn x (held_after (p ∷ ps)))).written) out) is (subst (λ (x : References). KeepsBuffer (turn_then t (end_turn e x)).buffer (length (turn_then t (end_turn e x)).written) out) h kept) in
+    let count : (length t.written + length (way_turn e t.buffer).written) + length (store_turn e held (way_turn e t.buffer).buffer).written ≡
+    length (t.written ++ turn.written) = let l = length-append t.written turn.written in
+    let m = length-append (way_turn e t.buffer).written (store_turn e held (way_turn e t.buffer).buffer).written in omega (arith, l, m) in
+    let kept : KeepsBuffer (turn_then t (end_turn e held)).buffer (length (turn_then t (end_turn e held)).written) out =
+    subst (λ (n : ℕ). KeepsBuffer turn.buffer n out) count b in
+    let all : KeepsBuffer (after_all (p ∷ ps)).buffer (length (after_all (p ∷ ps)).written) out =
+    subst (λ (x : Ended). KeepsBuffer (turn_then t (end_turn x (held_after (p ∷ ps)))).buffer
+    (length (turn_then t (end_turn x (held_after (p ∷ ps)))).written) out) is
+    (subst (λ (x : References). KeepsBuffer (turn_then t (end_turn e x)).buffer (length (turn_then t (end_turn e x)).written) out) h kept) in
     let format : last.format ≡ Some (format_of p.first.sps) = same ∙ k.picture.format in
     let number : e.picture + 1 ≡ length (p ∷ ps) = let n = ended-number p ps e is in omega (arith, n) in
     record {
       format = format;
-      output = record { buffer = all; frames_are = fr; ordered = subst (λ (n : ℕ). IsOrdered n out) number o; ready = a; format = subst (λ (x : Option Format). HasFormat x last.work) (sym format) room };
+      output = record {
+        buffer = all;
+        frames_are = fr;
+        ordered = subst (λ (n : ℕ). IsOrdered n out) number o;
+        ready = a;
+        format = subst (λ (x : Option Format). HasFormat x last.work) (sym format) room;
+      };
       picture = record {
         released = released;
-        sized = subst (λ (x : Option Format). IsSized x out) (sym format) (sym b.same.size ∙ store-sized e held (way_turn e t.buffer).buffer ∙ way-places frames p ps old e is k);
+        sized = subst (λ (x : Option Format). IsSized x out) (sym format)
+            (sym b.same.size ∙ store-sized e held (way_turn e t.buffer).buffer ∙ way-places frames p ps old e is k);
       };
     }
 
 -- its frame is decoded
-pub has-frame : (frames : ℕ → Frame) (p : CodedPicture) (ps : List CodedPicture) (old : Decoder) (k : KeepsFrames frames true false (p ∷ ps) old) (o : Option Frame) (f : Frame) → o ≡ Some f → IsFrame f (16 * p.first.sps.frame_size.width) (16 * p.first.sps.frame_size.height) → IsDecodedIn old.work (making frames p ps old k.picture) (last_slice p).macroblocks o → HasFrame (with_frame frames (length ps) f) (p ∷ ps)
+pub has-frame : (frames : ℕ → Frame) (p : CodedPicture) (ps : List CodedPicture) (old : Decoder) (k : KeepsFrames frames true false (p ∷ ps) old)
+    (o : Option Frame) (f : Frame) → o ≡ Some f → IsFrame f (16 * p.first.sps.frame_size.width) (16 * p.first.sps.frame_size.height) →
+    IsDecodedIn old.work (making frames p ps old k.picture) (last_slice p).macroblocks o → HasFrame (with_frame frames (length ps) f) (p ∷ ps)
 has-frame frames p ps old k o f e sized d =
-    let decoded = is-decoded frames p ps old k.picture f sized (size-of frames p ps old k) (subst (λ (x : Option Frame). IsDecodedIn old.work (making frames p ps old k.picture) (last_slice p).macroblocks x) e d) in
-    subst (λ (g : Frame). IsDecoded (with_frame frames (length ps) f) p ps g) (sym (frame-at frames (length ps) f)) (decoded-as frames (with_frame frames (length ps) f) p ps f (length ps) (omega arith) (with-agrees frames (length ps) f) decoded)
+    let decoded = is-decoded frames p ps old k.picture f sized (size-of frames p ps old k)
+    (subst (λ (x : Option Frame). IsDecodedIn old.work (making frames p ps old k.picture) (last_slice p).macroblocks x) e d) in
+    subst (λ (g : Frame). IsDecoded (with_frame frames (length ps) f) p ps g) (sym (frame-at frames (length ps) f))
+    (decoded-as frames (with_frame frames (length ps) f) p ps f (length ps) (omega arith) (with-agrees frames (length ps) f) decoded)
 
 -- What the end of a picture tells, in its two steps.
-module _ {S : Type 0} (made : ℕ → Frame) (took : S → List Call → Type 0) (failures : S → ℕ) (p : CodedPicture) (ps : List CodedPicture) (e : Ended) (held : References) (is : e ≡ ended_picture p ps) (h : held ≡ held_after (p ∷ ps)) (b : Buffered Shown) (d : HasFrame made (p ∷ ps)) where
+module _ {S : Type 0} (made : ℕ → Frame) (took : S → List Call → Type 0) (failures : S → ℕ) (p : CodedPicture) (ps : List CodedPicture) (e : Ended)
+    (held : References) (is : e ≡ ended_picture p ps) (h : held ≡ held_after (p ∷ ps)) (b : Buffered Shown) (d : HasFrame made (p ∷ ps)) where
   abbrev by_turns : Ended → References → Outcome (Unit {0})
-  by_turns x r = tells (Decodes (p ∷ ps)) >>= λ _. steps_outcome (told_frames modes.Full (way_turn x b).written) >>= λ _. steps_outcome (told_frames modes.Full (store_turn x r (way_turn x b).buffer).written)
+  by_turns x r = tells (Decodes (p ∷ ps)) >>= λ _. steps_outcome (told_frames modes.Full (way_turn x b).written) >>= λ _. steps_outcome
+      (told_frames modes.Full (store_turn x r (way_turn x b).buffer).written)
 
-  turns-are : steps_outcome ((step.Tells (Decodes (p ∷ ps)) ∷ []) ++ told_frames modes.Full (end_turn (ended_picture p ps) (held_after (p ∷ ps)) b).written) ≡ by_turns e held
+  turns-are : steps_outcome ((step.Tells (Decodes (p ∷ ps)) ∷ []) ++ told_frames modes.Full (end_turn (ended_picture p ps) (held_after (p ∷ ps)) b).written) ≡
+      by_turns e held
   turns-are =
-      end-outcome (p ∷ ps) (way_turn (ended_picture p ps) b).written (store_turn (ended_picture p ps) (held_after (p ∷ ps)) (way_turn (ended_picture p ps) b).buffer).written
+      end-outcome (p ∷ ps) (way_turn (ended_picture p ps) b).written
+      (store_turn (ended_picture p ps) (held_after (p ∷ ps)) (way_turn (ended_picture p ps) b).buffer).written
       ∙ ap (λ (x : Ended). by_turns x (held_after (p ∷ ps))) (sym is) ∙ ap (λ (r : References). by_turns e r) (sym h)
 
   abbrev told_steps : List Step
   told_steps = (step.Tells (Decodes (p ∷ ps)) ∷ []) ++ told_frames modes.Full (end_turn (ended_picture p ps) (held_after (p ∷ ps)) b).written
 
-  decoded-first : (s s' : S) (r : Result (Unit {0}) Stop) → Plays (span (took_with made took) failures s s') (λ (x : Unit {0}). x) (steps_outcome (told_frames modes.Full (way_turn e b).written) >>= λ _. steps_outcome (told_frames modes.Full (store_turn e held (way_turn e b).buffer).written)) r → Plays (span (took_with made took) failures s s') (λ (x : Unit {0}). x) (steps_outcome told_steps) r
-  decoded-first s s' r q = subst (λ (o : Outcome (Unit {0})). Plays (span (took_with made took) failures s s') (λ (x : Unit {0}). x) o r) (sym turns-are) (plays-on (took_with made took) failures (λ (x : Unit {0}). x) (λ (x : Unit {0}). x) (tells (Decodes (p ∷ ps))) _ s s s' tt r (decodes-plays made took failures s (p ∷ ps) d) q)
+  decoded-first : (s s' : S) (r : Result (Unit {0}) Stop) →
+      Plays (span (took_with made took) failures s s') (λ (x : Unit {0}). x)
+      (steps_outcome (told_frames modes.Full (way_turn e b).written) >>= λ _. steps_outcome
+      (told_frames modes.Full (store_turn e held (way_turn e b).buffer).written)) r →
+      Plays (span (took_with made took) failures s s') (λ (x : Unit {0}). x) (steps_outcome told_steps) r
+  decoded-first s s' r q = subst (λ (o : Outcome (Unit {0})). Plays (span (took_with made took) failures s s') (λ (x : Unit {0}). x) o r) (sym turns-are)
+      (plays-on (took_with made took) failures (λ (x : Unit {0}). x) (λ (x : Unit {0}). x) (tells (Decodes (p ∷ ps))) _ s s s' tt r
+      (decodes-plays made took failures s (p ∷ ps) d) q)
 
-  pub way-stops : (s s' : S) (x : Stop) → Writes {X = Unit {0}} took failures (shown_calls made (way_turn e b).written) s s' (Err x) → Plays (span (took_with made took) failures s s') (λ (x : Unit {0}). x) (steps_outcome told_steps) (Err x)
-  way-stops s s' x w = decoded-first s s' (Err x) (plays-stops (took_with made took) failures (λ (x : Unit {0}). x) (λ (x : Unit {0}). x) (steps_outcome (told_frames modes.Full (way_turn e b).written)) _ s s' x (writes-plays made took failures (way_turn e b).written s s' (Err x) w))
+  pub way-stops : (s s' : S) (x : Stop) → Writes {X = Unit {0}} took failures (shown_calls made (way_turn e b).written) s s' (Err x) →
+      Plays (span (took_with made took) failures s s') (λ (x : Unit {0}). x) (steps_outcome told_steps) (Err x)
+  way-stops s s' x w = decoded-first s s' (Err x)
+      (plays-stops (took_with made took) failures (λ (x : Unit {0}). x) (λ (x : Unit {0}). x) (steps_outcome (told_frames modes.Full (way_turn e b).written))
+      _ s s' x (writes-plays made took failures (way_turn e b).written s s' (Err x) w))
 
-  pub way-on : (s s' s'' : S) (u : Unit {0}) (r : Result (Unit {0}) Stop) → Writes {X = Unit {0}} took failures (shown_calls made (way_turn e b).written) s s' (Ok u) → Plays (span (took_with made took) failures s' s'') (λ (x : Unit {0}). x) (steps_outcome (told_frames modes.Full (store_turn e held (way_turn e b).buffer).written)) r → Plays (span (took_with made took) failures s s'') (λ (x : Unit {0}). x) (steps_outcome told_steps) r
-  way-on s s' s'' u r w q = decoded-first s s'' r (plays-on (took_with made took) failures (λ (x : Unit {0}). x) (λ (x : Unit {0}). x) (steps_outcome (told_frames modes.Full (way_turn e b).written)) _ s s' s'' u r (writes-plays made took failures (way_turn e b).written s s' (Ok u) w) q)
+  pub way-on : (s s' s'' : S) (u : Unit {0}) (r : Result (Unit {0}) Stop) →
+      Writes {X = Unit {0}} took failures (shown_calls made (way_turn e b).written) s s' (Ok u) →
+      Plays (span (took_with made took) failures s' s'') (λ (x : Unit {0}). x)
+      (steps_outcome (told_frames modes.Full (store_turn e held (way_turn e b).buffer).written)) r →
+      Plays (span (took_with made took) failures s s'') (λ (x : Unit {0}). x) (steps_outcome told_steps) r
+  way-on s s' s'' u r w q = decoded-first s s'' r
+      (plays-on (took_with made took) failures (λ (x : Unit {0}). x) (λ (x : Unit {0}). x) (steps_outcome (told_frames modes.Full (way_turn e b).written)) _ s
+      s' s'' u r (writes-plays made took failures (way_turn e b).written s s' (Ok u) w) q)
 
-  pub way-store : (s s' s'' : S) (u : Unit {0}) (r : Result (Unit {0}) Stop) → Writes {X = Unit {0}} took failures (shown_calls made (way_turn e b).written) s s' (Ok u) → Writes {X = Unit {0}} took failures (shown_calls made (store_turn e held (way_turn e b).buffer).written) s' s'' r → Plays (span (took_with made took) failures s s'') (λ (x : Unit {0}). x) (steps_outcome told_steps) r
+  pub way-store : (s s' s'' : S) (u : Unit {0}) (r : Result (Unit {0}) Stop) →
+      Writes {X = Unit {0}} took failures (shown_calls made (way_turn e b).written) s s' (Ok u) →
+      Writes {X = Unit {0}} took failures (shown_calls made (store_turn e held (way_turn e b).buffer).written) s' s'' r →
+      Plays (span (took_with made took) failures s s'') (λ (x : Unit {0}). x) (steps_outcome told_steps) r
   way-store s s' s'' u r w q = way-on s s' s'' u r w (writes-plays made took failures _ s' s'' r q)
 
 -- as many frames are held as the buffer has places
-pub few-stored : (frames : ℕ → Frame) (p : CodedPicture) (ps : List CodedPicture) (old : Decoder) (e : Ended) → e ≡ ended_picture p ps → KeepsFrames frames true false (p ∷ ps) old → (out last : Output) (written held : ℕ) → KeepsBuffer (way_turn e (within_newest (p ∷ ps)).buffer).buffer written out → last ≡ out → held ≤ buffer_size p.first.sps → held ≤ size_of last
+pub few-stored : (frames : ℕ → Frame) (p : CodedPicture) (ps : List CodedPicture) (old : Decoder) (e : Ended) → e ≡ ended_picture p ps →
+    KeepsFrames frames true false (p ∷ ps) old →
+    (out last : Output) (written held : ℕ) → KeepsBuffer (way_turn e (within_newest (p ∷ ps)).buffer).buffer written out → last ≡ out →
+    held ≤ buffer_size p.first.sps → held ≤ size_of last
 few-stored frames p ps old e is k out last written held b l few =
     let places : size_of last ≡ buffer_size p.first.sps = ap size_of l ∙ sym b.same.size ∙ way-places frames p ps old e is k in
     omega (arith, places, few)
 
 -- the frames of the sequence before are gone
-pub released-then : (frames : ℕ → Frame) (p : CodedPicture) (ps : List CodedPicture) (old mid new : Decoder) (e : Ended) → e ≡ ended_picture p ps → KeepsFrames frames true false (p ∷ ps) old → (IsReleased old.work → IsReleased mid.work) → (empties e ≡ true → IsReleased new.work) → (empties e ≡ false → new ≡ mid) → IsReleased new.work
+pub released-then : (frames : ℕ → Frame) (p : CodedPicture) (ps : List CodedPicture) (old mid new : Decoder) (e : Ended) → e ≡ ended_picture p ps →
+    KeepsFrames frames true false (p ∷ ps) old → (IsReleased old.work → IsReleased mid.work) → (empties e ≡ true → IsReleased new.work) →
+    (empties e ≡ false → new ≡ mid) → IsReleased new.work
 released-then frames p ps old mid new e is k on released stays-if = pick (empties e) refl
   where
     pick : (b : Bool) → empties e ≡ b → IsReleased new.work
     pick true t = released t
-    pick false t = subst (λ (d : Decoder). IsReleased d.work) (sym (stays-if t)) (on (k.picture.settled (sym (ended-idr p ps e is) ∙ or-false e.idr e.resets t)).released)
+    pick false t = subst (λ (d : Decoder). IsReleased d.work) (sym (stays-if t))
+        (on (k.picture.settled (sym (ended-idr p ps e is) ∙ or-false e.idr e.resets t)).released)
 
-pub room-then : (frames : ℕ → Frame) (p : CodedPicture) (ps : List CodedPicture) (old : Decoder) (work : Work) → KeepsFrames frames true false (p ∷ ps) old → ((width size : ℕ) → Serves width size old.work → Serves width size work) → ((width height : ℕ) → HasSize width height old.work → HasSize width height work) → places work ≡ places old.work → IsRoomFor (format_of p.first.sps) work
+pub room-then : (frames : ℕ → Frame) (p : CodedPicture) (ps : List CodedPicture) (old : Decoder) (work : Work) → KeepsFrames frames true false (p ∷ ps) old →
+    ((width size : ℕ) → Serves width size old.work → Serves width size work) →
+    ((width height : ℕ) → HasSize width height old.work → HasSize width height work) → places work ≡ places old.work → IsRoomFor (format_of p.first.sps) work
 room-then frames p ps old work k serves size places-are =
     let room : IsRoomFor (format_of p.first.sps) old.work = subst (λ (o : Option Format). HasFormat o old.work) k.picture.format k.output.format in
     record { serves = serves _ _ room.serves; size = size _ _ room.size; places = places-are ∙ room.places }

@@ -32,14 +32,17 @@ module _ (p : CodedPicture) (ps : List CodedPicture) (read : AreReadSlices p.fir
       let named = named-held (p ∷ ps) s m.ref_idx m.picture (omega (arith, inside, long)) (named-at references m.ref_idx m.picture r) in
       named.1
 
-  prediction-held : (s : CodedSlice) (before : List CodedMacroblock) (prediction : Prediction) → IsPossible p.first.sps.frame_size.width (context_in (p ∷ ps) s) before prediction → IsDerived prediction → PredictsFrom (held_in (p ∷ ps)) prediction
+  prediction-held : (s : CodedSlice) (before : List CodedMacroblock) (prediction : Prediction) →
+      IsPossible p.first.sps.frame_size.width (context_in (p ∷ ps) s) before prediction → IsDerived prediction → PredictsFrom (held_in (p ∷ ps)) prediction
   prediction-held s before (Intra4x4 modes chroma) h k = tt
   prediction-held s before (Intra16x16 mode chroma) h k = tt
   prediction-held s before (Pcm samples) h k = tt
-  prediction-held s before (Inter motions) h k = λ b l. block-held s (get_or motions b None) (motion-at (context_in (p ∷ ps) s) motions b h) (some-at motions b k l)
+  prediction-held s before (Inter motions) h k =
+      λ b l. block-held s (get_or motions b None) (motion-at (context_in (p ∷ ps) s) motions b h) (some-at motions b k l)
 
   pub are-predicted : ArePredicted p ps
   are-predicted a m e =
       let same = last-of p.first p.later in
-      let f = found p.first ps (λ s. Unit {0}) (slices_of p) read (each-any (slices_of p)) a m (ap (λ (all : List CodedMacroblock). slice_get all a) same ∙ e) in
+      let f = found p.first ps (λ s. Unit {0}) (slices_of p) read (each-any (slices_of p)) a m
+      (ap (λ (all : List CodedMacroblock). slice_get all a) same ∙ e) in
       prediction-held f.slice (take a (macroblocks_of (slices_of p))) m.prediction f.is.possible f.is.derived

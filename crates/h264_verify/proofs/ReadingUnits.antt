@@ -45,9 +45,16 @@ use Rattle.h264_verify.proofs.Stepping.{outcome}
 use Rattle.h264_verify.proofs.Courses.{seen, structure-seen}
 
 -- What meets a grammar from a bit on plays its outcome, with the bit after it.
-module _ {A S X : Type 0} (frames : ℕ → Frame) (took : S → List Call → Type 0) (failures : S → ℕ) (view : X → A) (g : Grammar A) (body : Body) (i j : ℕ) (s s' : S) where
-  from-meets : (r : Result X Stop) → MeetsBy (span took failures s s') (Is view) g (record { body = body; at = i }) j r → AnswersBy (span took failures s s') (Is view) g (record { body = body; at = i }) j r → PlaysBy (span (took_with frames took) failures s s') (λ (x : X). (view x, j)) (structure_from g body i) r
-  from-meets (Ok x) m a = (m.2 ∙ ap (λ (v : A). let r : Result (A × ℕ) Stop = Ok (v, j) in r) m.1, elements-tell frames took s s' body (run g body i).elements m.3, m.4)
+module _ {A S X : Type 0} (frames : ℕ → Frame) (took : S → List Call → Type 0) (failures : S → ℕ) (view : X → A) (g : Grammar A) (body : Body) (i j : ℕ)
+    (s s' : S) where
+  from-meets : (r : Result X Stop) → MeetsBy (span took failures s s') (Is view) g (record { body = body; at = i }) j r →
+      AnswersBy (span took failures s s') (Is view) g (record { body = body; at = i }) j r →
+      PlaysBy (span (took_with frames took) failures s s') (λ (x : X). (view x, j)) (structure_from g body i) r
+  from-meets (Ok x) m a = (
+    m.2 ∙ ap (λ (v : A). let r : Result (A × ℕ) Stop = Ok (v, j) in r) m.1,
+    elements-tell frames took s s' body (run g body i).elements m.3,
+    m.4,
+  )
   from-meets (Err (No bit rule)) m a = (m.0, elements-tell frames took s s' body (run g body i).elements m.1, m.2)
   from-meets (Err (Outside bit feature)) m a = (m.0, elements-tell frames took s s' body (run g body i).elements m.1, m.2)
   from-meets (Err Memory) m a = absurd a
@@ -55,29 +62,37 @@ module _ {A S X : Type 0} (frames : ℕ → Frame) (took : S → List Call → T
   from-meets (Err Write) m a = (elements-front frames took s s' body (run g body i).elements m.0, m.1)
 
 -- the same for a value that is seen otherwise
-module _ {A B S X : Type 0} (took : S → List Told → Type 0) (failures : S → ℕ) (view : X → A × ℕ) (f : A → B) (g : Grammar A) (body : Body) (i : ℕ) (s s' : S) where
-  abbrev as_seen : Outcome (B × ℕ)
-  as_seen = outcome (structure_from g body i).calls (seen f (structure_from g body i).answer)
+module _ {A B S X : Type 0} (took : S → List Told → Type 0) (failures : S → ℕ) (view : X → A × ℕ) (f : A → B) (g : Grammar A) (body : Body) (i : ℕ) (s s' : S)
+  where
+    abbrev as_seen : Outcome (B × ℕ)
+    as_seen = outcome (structure_from g body i).calls (seen f (structure_from g body i).answer)
 
-  seen-by : (r : Result X Stop) → PlaysBy (span took failures s s') view (structure_from g body i) r → PlaysBy (span took failures s s') (λ (x : X). (f (view x).0, (view x).1)) as_seen r
-  seen-by (Ok x) p = (ap (seen f) p.0, p.1, p.2)
-  seen-by (Err (No bit rule)) p = (ap (seen f) p.0, p.1, p.2)
-  seen-by (Err (Outside bit feature)) p = (ap (seen f) p.0, p.1, p.2)
-  seen-by (Err Memory) p = p
-  seen-by (Err Read) p = p
-  seen-by (Err Write) p = p
+    seen-by : (r : Result X Stop) → PlaysBy (span took failures s s') view (structure_from g body i) r →
+        PlaysBy (span took failures s s') (λ (x : X). (f (view x).0, (view x).1)) as_seen r
+    seen-by (Ok x) p = (ap (seen f) p.0, p.1, p.2)
+    seen-by (Err (No bit rule)) p = (ap (seen f) p.0, p.1, p.2)
+    seen-by (Err (Outside bit feature)) p = (ap (seen f) p.0, p.1, p.2)
+    seen-by (Err Memory) p = p
+    seen-by (Err Read) p = p
+    seen-by (Err Write) p = p
 
-  pub plays-seen : (r : Result X Stop) → Plays (span took failures s s') view (structure_from g body i) r → Plays (span took failures s s') (λ (x : X). (f (view x).0, (view x).1)) (structure_from (◌bind◌ g (λ y. Done (f y))) body i) r
-  plays-seen r p = subst (λ (o : Outcome (B × ℕ)). Plays (span took failures s s') (λ (x : X). (f (view x).0, (view x).1)) o r) (sym (structure-seen body f g i)) (record { plays = seen-by r p.plays })
+    pub plays-seen : (r : Result X Stop) → Plays (span took failures s s') view (structure_from g body i) r →
+        Plays (span took failures s s') (λ (x : X). (f (view x).0, (view x).1)) (structure_from (◌bind◌ g (λ y. Done (f y))) body i) r
+    plays-seen r p = subst (λ (o : Outcome (B × ℕ)). Plays (span took failures s s') (λ (x : X). (f (view x).0, (view x).1)) o r)
+        (sym (structure-seen body f g i)) (record { plays = seen-by r p.plays })
 
-pub meets-from : {A S X : Type 0} (frames : ℕ → Frame) (took : S → List Call → Type 0) (failures : S → ℕ) (view : X → A) (g : Grammar A) (body : Body) (i : ℕ) (old new : Reader) (s s' : S) (r : Result X Stop) → old ≡ record { body = body; at = i } → Meets (span took failures s s') (Is view) g old new r → Answers (span took failures s s') (Is view) g old new r → Plays (span (took_with frames took) failures s s') (λ (x : X). (view x, new.at)) (structure_from g body i) r
+pub meets-from : {A S X : Type 0} (frames : ℕ → Frame) (took : S → List Call → Type 0) (failures : S → ℕ) (view : X → A) (g : Grammar A) (body : Body) (i : ℕ)
+    (old new : Reader) (s s' : S) (r : Result X Stop) → old ≡ record { body = body; at = i } → Meets (span took failures s s') (Is view) g old new r →
+    Answers (span took failures s s') (Is view) g old new r →
+    Plays (span (took_with frames took) failures s s') (λ (x : X). (view x, new.at)) (structure_from g body i) r
 meets-from frames took failures view g body i old new s s' r e m a =
     let m' = subst (λ o. Meets (span took failures s s') (Is view) g o new r) e m in
     let a' = subst (λ o. Answers (span took failures s s') (Is view) g o new r) e a in
     record { plays = from-meets frames took failures view g body i new.at s s' r m'.meets a' }
 
 -- a slice's number is its first_mb_in_slice
-pub number-is : (pps : Pps) (sps : Sps) (header : Header) (list : List RefSlot) (s : CodedSlice) (n : ℕ) (c : SliceContext) → c ≡ slice_context pps sps header list → header ≡ record s.header { marking = header.marking } → s.header.first_mb_in_slice.value ≡ n → c.number ≡ n
+pub number-is : (pps : Pps) (sps : Sps) (header : Header) (list : List RefSlot) (s : CodedSlice) (n : ℕ) (c : SliceContext) → c ≡
+    slice_context pps sps header list → header ≡ record s.header { marking = header.marking } → s.header.first_mb_in_slice.value ≡ n → c.number ≡ n
 unfolding slice_context
 number-is pps sps header list s n c e h f = ap (λ (x : SliceContext). x.number) e ∙ ap (λ (x : Header). x.first_mb_in_slice.value) h ∙ f
 
@@ -89,22 +104,37 @@ coded-same false pictures = refl
 place-by : (a b bit : ℕ) → (let r : Result (Unit {0}) Stop = Ok tt in r ≡ judged (record { rule = FirstMb; bit = bit; met = a == b } ∷ [])) → a ≡ b
 place-by a b bit h = eqb-true a b (ok-true (a == b) tt (No bit FirstMb) h)
 
-pub placed : (begins : Bool) (pictures : List CodedPicture) (h : Header) → (let r : Result (Unit {0}) Stop = Ok tt in r ≡ judged (first_mb_demands modes.Full (coded_before begins pictures) h)) → h.first_mb_in_slice.value ≡ length (coded_so_far begins pictures)
+pub placed : (begins : Bool) (pictures : List CodedPicture) (h : Header) →
+    (let r : Result (Unit {0}) Stop = Ok tt in r ≡ judged (first_mb_demands modes.Full (coded_before begins pictures) h)) →
+    h.first_mb_in_slice.value ≡ length (coded_so_far begins pictures)
 placed begins pictures h p = place-by h.first_mb_in_slice.value (coded_before begins pictures) h.first_mb_in_slice.bit p ∙ coded-same begins pictures
 
 -- the header of a slice was read
-pub header-read : {S X : Type 0} (frames : ℕ → Frame) (took : S → List Call → Type 0) (failures : S → ℕ) (before : History) (unit : NalUnit) (byte : ℕ) (sets : Maps) (u : SliceUnit) (h : Header) (old new : Reader) (s s' : S) (r : Result X Stop) → sets ≡ maps_of before → byte ≡ header_of unit → u ≡ slice_unit_of byte → old ≡ record { body = body_of unit; at = 0 } → Meets (span took failures s s') (Is (λ (x : X). h)) (header (sets_of sets) u) old new r → Answers (span took failures s s') (Is (λ (x : X). h)) (header (sets_of sets) u) old new r → Plays (span (took_with frames took) failures s s') (λ (x : X). (contents.OfSlice h [], new.at)) (structure_from (header_content before unit) (body_of unit) 0) r
+pub header-read : {S X : Type 0} (frames : ℕ → Frame) (took : S → List Call → Type 0) (failures : S → ℕ) (before : History) (unit : NalUnit) (byte : ℕ)
+    (sets : Maps) (u : SliceUnit) (h : Header) (old new : Reader) (s s' : S) (r : Result X Stop) → sets ≡ maps_of before → byte ≡ header_of unit →
+    u ≡ slice_unit_of byte → old ≡ record { body = body_of unit; at = 0 } →
+    Meets (span took failures s s') (Is (λ (x : X). h)) (header (sets_of sets) u) old new r →
+    Answers (span took failures s s') (Is (λ (x : X). h)) (header (sets_of sets) u) old new r →
+    Plays (span (took_with frames took) failures s s') (λ (x : X). (contents.OfSlice h [], new.at))
+    (structure_from (header_content before unit) (body_of unit) 0) r
 header-read {X} frames took failures before unit byte sets u h old new s s' r m b e o meets answers =
     let unit-is : u ≡ slice_unit unit = e ∙ ap slice_unit_of b in
     let p = meets-from frames took failures (λ (x : X). h) (header (sets_of sets) u) (body_of unit) 0 old new s s' r o meets answers in
-    let q = subst (λ (w : Maps). Plays (span (took_with frames took) failures s s') (λ (x : X). (h, new.at)) (structure_from (header (sets_of w) u) (body_of unit) 0) r) m p in
-    let w = subst (λ (v : SliceUnit). Plays (span (took_with frames took) failures s s') (λ (x : X). (h, new.at)) (structure_from (header (sets_of (maps_of before)) v) (body_of unit) 0) r) unit-is q in
-    plays-seen (took_with frames took) failures (λ (x : X). (h, new.at)) (λ k. contents.OfSlice k []) (header (sets_of (maps_of before)) (slice_unit unit)) (body_of unit) 0 s s' r w
+    let q = subst (λ (w : Maps). Plays (span (took_with frames took) failures s s') (λ (x : X). (h, new.at))
+    (structure_from (header (sets_of w) u) (body_of unit) 0) r) m p in
+    let w = subst (λ (v : SliceUnit). Plays (span (took_with frames took) failures s s') (λ (x : X). (h, new.at))
+    (structure_from (header (sets_of (maps_of before)) v) (body_of unit) 0) r) unit-is q in
+    plays-seen (took_with frames took) failures (λ (x : X). (h, new.at)) (λ k. contents.OfSlice k []) (header (sets_of (maps_of before)) (slice_unit unit))
+    (body_of unit) 0 s s' r w
 
 -- the same structure at the same bit
-pub data-there : {S X : Type 0} (took : S → List Told → Type 0) (failures : S → ℕ) (view : X → List CodedMacroblock × ℕ) (pictures : List CodedPicture) (s : CodedSlice) (begins there : Bool) (body at_body : Body) (bit : ℕ) (s1 s2 : S) (r : Result X Stop) → begins ≡ there → body ≡ at_body → Plays (span took failures s1 s2) view (structure_from (data_in begins pictures s) body bit) r → Plays (span took failures s1 s2) view (structure_from (data_in there pictures s) at_body bit) r
+pub data-there : {S X : Type 0} (took : S → List Told → Type 0) (failures : S → ℕ) (view : X → List CodedMacroblock × ℕ) (pictures : List CodedPicture)
+    (s : CodedSlice) (begins there : Bool) (body at_body : Body) (bit : ℕ) (s1 s2 : S) (r : Result X Stop) → begins ≡ there → body ≡ at_body →
+    Plays (span took failures s1 s2) view (structure_from (data_in begins pictures s) body bit) r →
+    Plays (span took failures s1 s2) view (structure_from (data_in there pictures s) at_body bit) r
 data-there took failures view pictures s begins there body at_body bit s1 s2 r e b p =
-    subst (λ (x : Bool). Plays (span took failures s1 s2) view (structure_from (data_in x pictures s) at_body bit) r) e (subst (λ (w : Body). Plays (span took failures s1 s2) view (structure_from (data_in begins pictures s) w bit) r) b p)
+    subst (λ (x : Bool). Plays (span took failures s1 s2) view (structure_from (data_in x pictures s) at_body bit) r) e
+    (subst (λ (w : Body). Plays (span took failures s1 s2) view (structure_from (data_in begins pictures s) w bit) r) b p)
 
 -- A slice with its slice data, part by part.
 module _ {S : Type 0} (took : S → List Told → Type 0) (failures : S → ℕ) (before : History) (unit : NalUnit) (h : Header) (bit : ℕ) where
@@ -112,17 +142,24 @@ module _ {S : Type 0} (took : S → List Told → Type 0) (failures : S → ℕ)
   header_view x = (contents.OfSlice h [], bit)
 
   -- its header is no header
-  pub slice-stops : (s s' : S) (e : Stop) → Plays {X = Unit {0}} (span took failures s s') header_view (structure_from (header_content before unit) (body_of unit) 0) (Err e) → Plays {X = Unit {0}} (span took failures s s') (λ x. []) (whole_slice before unit) (Err e)
+  pub slice-stops : (s s' : S) (e : Stop) →
+      Plays {X = Unit {0}} (span took failures s s') header_view (structure_from (header_content before unit) (body_of unit) 0) (Err e) →
+      Plays {X = Unit {0}} (span took failures s s') (λ x. []) (whole_slice before unit) (Err e)
   unfolding whole_slice
   slice-stops s s' e p = plays-stops took failures header_view (λ x. []) _ _ s s' e p
 
-  module _ (s s1 : S) (x : Unit {0}) (read : Plays (span took failures s s1) header_view (structure_from (header_content before unit) (body_of unit) 0) (Ok x)) where
+  module _ (s s1 : S) (x : Unit {0}) (read : Plays (span took failures s s1) header_view (structure_from (header_content before unit) (body_of unit) 0)
+      (Ok x)) where
     -- a rule on it is broken
-    pub slice-broken : (s2 : S) (e : Stop) → Plays {X = Unit {0}} (span took failures s1 s2) (λ x. x) (steps_outcome (slice_steps modes.Full before unit h)) (Err e) → Plays {X = Unit {0}} (span took failures s s2) (λ x. []) (whole_slice before unit) (Err e)
+    pub slice-broken : (s2 : S) (e : Stop) →
+        Plays {X = Unit {0}} (span took failures s1 s2) (λ x. x) (steps_outcome (slice_steps modes.Full before unit h)) (Err e) →
+        Plays {X = Unit {0}} (span took failures s s2) (λ x. []) (whole_slice before unit) (Err e)
     unfolding whole_slice
-    slice-broken s2 e p = plays-on took failures header_view (λ x. []) _ _ s s1 s2 x (Err e) read (plays-stops took failures (λ (x : Unit {0}). x) (λ x. []) _ _ s1 s2 e p)
+    slice-broken s2 e p = plays-on took failures header_view (λ x. []) _ _ s s1 s2 x (Err e) read
+        (plays-stops took failures (λ (x : Unit {0}). x) (λ x. []) _ _ s1 s2 e p)
 
-    module _ (s2 : S) (y : Unit {0}) (met : Plays (span took failures s1 s2) (λ (x : Unit {0}). x) (steps_outcome (slice_steps modes.Full before unit h)) (Ok y)) (sets : Pps × Sps) (named : sets_at before h ≡ Some sets) (ms : List CodedMacroblock) (end : ℕ) (s3 : S) where
+    module _ (s2 : S) (y : Unit {0}) (met : Plays (span took failures s1 s2) (λ (x : Unit {0}). x) (steps_outcome (slice_steps modes.Full before unit h))
+        (Ok y)) (sets : Pps × Sps) (named : sets_at before h ≡ Some sets) (ms : List CodedMacroblock) (end : ℕ) (s3 : S) where
       abbrev body_data : Grammar (List CodedMacroblock)
       body_data = data_in (begins_at before h) (runs_of before) (with_sets unit h [] sets)
 
@@ -131,11 +168,14 @@ module _ {S : Type 0} (took : S → List Told → Type 0) (failures : S → ℕ)
       data-is = ap (λ o. data_by o before unit h) named
 
       -- slice data were read, or stop
-      pub slice-reads : (r : Result (Unit {0}) Stop) → Plays (span took failures s2 s3) (λ x. (ms, end)) (structure_from body_data (body_of unit) bit) r → Plays (span took failures s s3) (λ x. record { unit = unit; content = contents.OfSlice h ms } ∷ before) (whole_slice before unit) r
+      pub slice-reads : (r : Result (Unit {0}) Stop) → Plays (span took failures s2 s3) (λ x. (ms, end)) (structure_from body_data (body_of unit) bit) r →
+          Plays (span took failures s s3) (λ x. record { unit = unit; content = contents.OfSlice h ms } ∷ before) (whole_slice before unit) r
       unfolding whole_slice course_outcome
       slice-reads r p =
-          let d = subst (λ (g : Grammar (List CodedMacroblock)). Plays (span took failures s2 s3) (λ (x : Unit {0}). (ms, end)) (structure_from g (body_of unit) bit) r) (sym data-is) p in
-          let content = plays-seen took failures (λ (x : Unit {0}). (ms, end)) (contents.OfSlice h) (slice_data_at before unit h) (body_of unit) bit s2 s3 r d in
+          let d = subst (λ (g : Grammar (List CodedMacroblock)). Plays (span took failures s2 s3) (λ (x : Unit {0}). (ms, end))
+          (structure_from g (body_of unit) bit) r) (sym data-is) p in
+          let content = plays-seen took failures (λ (x : Unit {0}). (ms, end)) (contents.OfSlice h) (slice_data_at before unit h) (body_of unit) bit s2 s3 r
+          d in
           plays-on took failures header_view (λ x. record { unit = unit; content = contents.OfSlice h ms } ∷ before) _ _ s s1 s3 x r read
           (plays-on took failures (λ (x : Unit {0}). x) (λ x. record { unit = unit; content = contents.OfSlice h ms } ∷ before) _ _ s1 s2 s3 y r met
           (plays-gives took failures (λ (x : Unit {0}). contents.OfSlice h ms) (λ c. record { unit = unit; content = c } ∷ before) _ s2 s3 r

@@ -1,5 +1,6 @@
 -- The rules of a slice, by what is kept of the pictures before it.
-use Rattle.std.proofs.Common.{◌≡◌, ℕ, ◌<◌, ◌≤◌, ◌^◌, ◌==◌, ◌||◌, not, Bool, true, false, List, [], ◌∷◌, map, length, Option, Some, None, Result, Ok, Err, OnOk, refl, ap, sym, ◌∙◌, subst, arith}
+use Rattle.std.proofs.Common.{◌≡◌, ℕ, ◌<◌, ◌≤◌, ◌^◌, ◌==◌, ◌||◌, not, Bool, true, false, List, [], ◌∷◌, map, length, Option, Some, None, Result, Ok, Err}
+use Rattle.std.proofs.Common.{OnOk, refl, ap, sym, ◌∙◌, subst, arith}
 use Rattle.h264_base.specs.declared.mode.Mode.{Mode}
 use Rattle.std.specs.Prelude.{IfSome}
 use Rattle.h264_units.specs.Stream.{NalUnit}
@@ -18,7 +19,8 @@ use Rattle.h264_verify.specs.Buffering.{after_all, gaps_turn}
 use Rattle.h264_verify.specs.Demands.{judged}
 use Rattle.h264_verify.specs.Slices.{is_i, type_demand}
 use Rattle.h264_verify.specs.Order.{first_slice_rules, later_slice_rules}
-use Rattle.h264_verify.specs.Pictures.{CodedSlice, CodedPicture, with_sets, open_of, begins_after, goes_on, runs_of, counted, prev_ref_frame_num_of, held_after, held_in}
+use Rattle.h264_verify.specs.Pictures.{CodedSlice, CodedPicture, with_sets, open_of, begins_after, goes_on, runs_of, counted, prev_ref_frame_num_of}
+use Rattle.h264_verify.specs.Pictures.{held_after, held_in}
 use Rattle.h264_verify.proofs.Holding.{gap-by, ended-gap}
 use Rattle.h264_verify.proofs.Made.{made-then, made-with, made-some, made-same}
 use Rattle.h264_verify.proofs.Filling.{sized}
@@ -29,7 +31,8 @@ use Rattle.h264_sps.specs.Usable.{is_usable}
 use Rattle.h264_marking.specs.Frames.{References, frame_places}
 use Rattle.h264_picture.specs.Buffer.{buffer_size}
 use Rattle.h264_dpb.specs.Kept.{size_of}
-use Rattle.h264_verify.specs.Keeping.{format_of, format_in, IsMadeAs, GoesWith, IsSettled, KeepsFrames, WhereMade, FillsFrames, EntersBy, HoldsOpen, KeepsPictures, KeepsSlices, KeepsSomeGap, KeepsSomeRules, first_by, later_by, is_typed}
+use Rattle.h264_verify.specs.Keeping.{format_of, format_in, IsMadeAs, GoesWith, IsSettled, KeepsFrames, WhereMade, FillsFrames, EntersBy, HoldsOpen}
+use Rattle.h264_verify.specs.Keeping.{KeepsPictures, KeepsSlices, KeepsSomeGap, KeepsSomeRules, first_by, later_by, is_typed}
 use Rattle.h264_verify.proofs.Slicing.{ok-true}
 
 -- ---- before a picture that begins
@@ -47,7 +50,8 @@ some-ended slices d k h = record {
   keeps = ended-gap k.mode k.frames _ (runs_of k.before) d k.keeps;
 }
 
-pub some-begun : (begins : Bool) (slices : Slices) (d : Option Decoder) → begins ≡ true → KeepsSomeRules begins slices d → slices.pictures < 2 ^ 42 → KeepsSomeGap d
+pub some-begun : (begins : Bool) (slices : Slices) (d : Option Decoder) → begins ≡ true → KeepsSomeRules begins slices d → slices.pictures < 2 ^ 42 →
+    KeepsSomeGap d
 some-begun true slices d b k h = some-ended slices d k h
 some-begun false slices d b k h = cc
 
@@ -65,21 +69,31 @@ idr-some idr P (Some d) f = f
 -- after the gap
 abbrev Gap : (ℕ → Frame) → List CodedPicture → CodedSlice → ℕ → References → Decoder → Type 0
 Gap frames pictures slice prev held =
-    FillsFrames frames (turn_then (after_all pictures) (gaps_turn (numbering_of slice.sps slice.header) (unused_short_term_frame_nums (is_idr slice.header) prev (numbering_of slice.sps slice.header)) held)) (length pictures)
+    FillsFrames frames (turn_then (after_all pictures)
+    (gaps_turn (numbering_of slice.sps slice.header) (unused_short_term_frame_nums (is_idr slice.header) prev (numbering_of slice.sps slice.header))
+    held)) (length pictures)
 
-enters-held : (mode : Mode) (frames : ℕ → Frame) (on : Bool) (pictures : List CodedPicture) (slice : CodedSlice) (d : Option Decoder) → (is_idr slice.header ≡ false → IsMadeAs (format_of slice.sps) d) →
-    WhereMade mode (Gap frames pictures slice (prev_ref_frame_num_of pictures) (held_after pictures)) d → WhereMade mode (EntersBy frames true slice on pictures) d
+enters-held : (mode : Mode) (frames : ℕ → Frame) (on : Bool) (pictures : List CodedPicture) (slice : CodedSlice) (d : Option Decoder) →
+    (is_idr slice.header ≡ false → IsMadeAs (format_of slice.sps) d) →
+    WhereMade mode (Gap frames pictures slice (prev_ref_frame_num_of pictures) (held_after pictures)) d →
+    WhereMade mode (EntersBy frames true slice on pictures) d
 enters-held mode frames on pictures slice d m k =
-    made-with _ _ _ mode d (λ x k m. record { format = m; output = k.output; settled = k.settled }) k (idr-some (is_idr slice.header) (λ (x : Decoder). x.format ≡ Some (format_of slice.sps)) d m)
+    made-with _ _ _ mode d (λ x k m. record { format = m; output = k.output; settled = k.settled }) k
+    (idr-some (is_idr slice.header) (λ (x : Decoder). x.format ≡ Some (format_of slice.sps)) d m)
 
 pub held-all : (on : Bool) (pictures : List CodedPicture) (slices : Slices) → KeepsPictures on true pictures slices → slices.held ≡ held_after pictures
 held-all true pictures slices k = k.held
 held-all false pictures slices k = k.held
 
-pub enters-first : {X E : Type 0} (r : Result X E) (mode : Mode) (frames : ℕ → Frame) (on : Bool) (pictures : List CodedPicture) (slices : Slices) (slice : CodedSlice) (old new : Option Decoder) → WhereMade mode (KeepsFrames frames on true pictures) old → format_in new ≡ format_in old →
-    (is_idr slice.header ≡ false → IsMadeAs (format_of slice.sps) old) → KeepsPictures on true pictures slices → OnOk r (WhereMade mode (Gap frames pictures slice slices.prev_ref_frame_num slices.held) new) → OnOk r (WhereMade mode (EntersBy frames true slice on pictures) new)
+pub enters-first : {X E : Type 0} (r : Result X E) (mode : Mode) (frames : ℕ → Frame) (on : Bool) (pictures : List CodedPicture) (slices : Slices)
+    (slice : CodedSlice) (old new : Option Decoder) → WhereMade mode (KeepsFrames frames on true pictures) old → format_in new ≡ format_in old →
+    (is_idr slice.header ≡ false → IsMadeAs (format_of slice.sps) old) → KeepsPictures on true pictures slices →
+    OnOk r (WhereMade mode (Gap frames pictures slice slices.prev_ref_frame_num slices.held) new) →
+    OnOk r (WhereMade mode (EntersBy frames true slice on pictures) new)
 enters-first (Err e) mode frames on pictures slices slice old new keeps same m k g = tt
-enters-first (Ok x) mode frames on pictures slices slice old new keeps same m k g = enters-held mode frames on pictures slice new (λ i. made-same _ _ mode (format_of slice.sps) old new keeps g same (m i)) (rw (k.prev_ref, held-all on pictures slices k) at g)
+enters-first (Ok x) mode frames on pictures slices slice old new keeps same m k g =
+    enters-held mode frames on pictures slice new (λ i. made-same _ _ mode (format_of slice.sps) old new keeps g same (m i))
+    (rw (k.prev_ref, held-all on pictures slices k) at g)
 
 -- a picture that is no IDR picture goes on with the sequence of those before it
 module _ (sps : Sps) (usable : is_usable sps ≡ true) where
@@ -89,40 +103,53 @@ module _ (sps : Sps) (usable : is_usable sps ≡ true) where
   settled-places : (d : Decoder) → d.format ≡ Some (format_of sps) → IsSettled d → frame_places sps.max_num_ref_frames ≤ size_of d.output
   settled-places d e s = fit (size_of d.output) (sized d.format (format_of sps) d.output e s.sized)
 
-  format-with : (frames : ℕ → Frame) (on : Bool) (pictures : List CodedPicture) → HasSet sps pictures → (d : Decoder) → KeepsFrames frames on true pictures d → d.format ≡ Some (format_of sps)
+  format-with : (frames : ℕ → Frame) (on : Bool) (pictures : List CodedPicture) → HasSet sps pictures →
+      (d : Decoder) → KeepsFrames frames on true pictures d → d.format ≡ Some (format_of sps)
   format-with frames on [] h d k = absurd h
   format-with frames on (p ∷ ps) h d k = k.format ∙ ap (λ (x : Sps). Some (format_of x)) h
 
-  places-with : (frames : ℕ → Frame) (on : Bool) (pictures : List CodedPicture) → HasSet sps pictures → (d : Decoder) → KeepsFrames frames on true pictures d → frame_places sps.max_num_ref_frames ≤ size_of d.output
+  places-with : (frames : ℕ → Frame) (on : Bool) (pictures : List CodedPicture) → HasSet sps pictures →
+      (d : Decoder) → KeepsFrames frames on true pictures d → frame_places sps.max_num_ref_frames ≤ size_of d.output
   places-with frames on pictures h d k = settled-places d (format-with frames on pictures h d k) (gap-by frames on pictures d k).settled
 
-  goes-after : (mode : Mode) (frames : ℕ → Frame) (on : Bool) (pictures : List CodedPicture) (slices : Slices) (decoder : Option Decoder) → KeepsPictures on true pictures slices → AreSound (has_ended on true) pictures → WhereMade mode (KeepsFrames frames on true pictures) decoder → HasSet sps pictures → GoesWith sps slices.held decoder
+  goes-after : (mode : Mode) (frames : ℕ → Frame) (on : Bool) (pictures : List CodedPicture) (slices : Slices) (decoder : Option Decoder) →
+      KeepsPictures on true pictures slices → AreSound (has_ended on true) pictures → WhereMade mode (KeepsFrames frames on true pictures) decoder →
+      HasSet sps pictures → GoesWith sps slices.held decoder
   goes-after mode frames on pictures slices decoder k s f h = record {
-    few = subst (λ (r : References). length r.frames ≤ frame_places sps.max_num_ref_frames) (sym (held-all on pictures slices k)) (set-few sps pictures h (ended-sound-of on pictures s));
-    places = made-some _ mode decoder (made-then _ (λ d. frame_places sps.max_num_ref_frames ≤ size_of d.output) mode decoder (places-with frames on pictures h) f);
+    few = subst (λ (r : References). length r.frames ≤ frame_places sps.max_num_ref_frames) (sym (held-all on pictures slices k))
+        (set-few sps pictures h (ended-sound-of on pictures s));
+    places = made-some _ mode decoder (made-then _ (λ d. frame_places sps.max_num_ref_frames ≤ size_of d.output) mode decoder
+        (places-with frames on pictures h) f);
     format = made-some _ mode decoder (made-then _ (λ d. d.format ≡ Some (format_of sps)) mode decoder (format-with frames on pictures h) f);
   }
 
-  pub goes-with : (mode : Mode) (begins : Bool) (frames : ℕ → Frame) (before : History) (slices : Slices) (decoder : Option Decoder) → begins ≡ true → KeepsSlices before begins slices → WhereMade mode (KeepsFrames frames (goes_on before) begins (runs_of before)) decoder → HasSet sps (runs_of before) → GoesWith sps slices.held decoder
+  pub goes-with : (mode : Mode) (begins : Bool) (frames : ℕ → Frame) (before : History) (slices : Slices) (decoder : Option Decoder) → begins ≡ true →
+      KeepsSlices before begins slices → WhereMade mode (KeepsFrames frames (goes_on before) begins (runs_of before)) decoder → HasSet sps (runs_of before) →
+      GoesWith sps slices.held decoder
   goes-with mode true frames before slices decoder b k f h = goes-after mode frames (goes_on before) (runs_of before) slices decoder k.kept k.sound f h
   goes-with mode false frames before slices decoder b k f h = cc
 
 -- ---- a slice that goes on
 
-enters-on : (frames : ℕ → Frame) (on : Bool) (pictures : List CodedPicture) (slice : CodedSlice) (h : Header) → begins_after (open_of on pictures) h ≡ false → (d : Decoder) → KeepsFrames frames on false pictures d → EntersBy frames false slice on pictures d
+enters-on : (frames : ℕ → Frame) (on : Bool) (pictures : List CodedPicture) (slice : CodedSlice) (h : Header) → begins_after (open_of on pictures) h ≡ false →
+    (d : Decoder) → KeepsFrames frames on false pictures d → EntersBy frames false slice on pictures d
 enters-on frames on [] slice h b d k = cc
 enters-on frames on (p ∷ ps) slice h b d k = k
 
-pub enters-later : (mode : Mode) (frames : ℕ → Frame) (on : Bool) (pictures : List CodedPicture) (slice : CodedSlice) (h : Header) (decoder : Option Decoder) → begins_after (open_of on pictures) h ≡ false → WhereMade mode (KeepsFrames frames on false pictures) decoder → WhereMade mode (EntersBy frames false slice on pictures) decoder
+pub enters-later : (mode : Mode) (frames : ℕ → Frame) (on : Bool) (pictures : List CodedPicture) (slice : CodedSlice) (h : Header)
+    (decoder : Option Decoder) → begins_after (open_of on pictures) h ≡ false → WhereMade mode (KeepsFrames frames on false pictures) decoder →
+    WhereMade mode (EntersBy frames false slice on pictures) decoder
 enters-later mode frames on pictures slice h decoder b k = made-then _ _ mode decoder (enters-on frames on pictures slice h b) k
 
-later-open : (p : CodedPicture) (ps : List CodedPicture) (slices : Slices) (pps : Pps) (sps : Sps) (h : Header) (unit : NalUnit) (o : Option OpenPicture) → slices.picture ≡ o → HoldsOpen (Some p) o → slices.held ≡ held_in (p ∷ ps) →
+later-open : (p : CodedPicture) (ps : List CodedPicture) (slices : Slices) (pps : Pps) (sps : Sps) (h : Header) (unit : NalUnit) (o : Option OpenPicture) →
+    slices.picture ≡ o → HoldsOpen (Some p) o → slices.held ≡ held_in (p ∷ ps) →
     later_by slices pps sps h ≡ later_slice_rules (p ∷ ps) (with_sets unit h [] (pps, sps))
 later-open p ps slices pps sps h unit None e k held = absurd k
 later-open p ps slices pps sps h unit (Some o) e k held = rw (e, k.types, k.marking, held) refl
 
 -- its rules
-pub later-rules : (on : Bool) (pictures : List CodedPicture) (slices : Slices) (pps : Pps) (sps : Sps) (h : Header) (unit : NalUnit) → begins_after (open_of on pictures) h ≡ false → KeepsPictures on false pictures slices →
+pub later-rules : (on : Bool) (pictures : List CodedPicture) (slices : Slices) (pps : Pps) (sps : Sps) (h : Header) (unit : NalUnit) →
+    begins_after (open_of on pictures) h ≡ false → KeepsPictures on false pictures slices →
     later_by slices pps sps h ≡ later_slice_rules pictures (with_sets unit h [] (pps, sps))
 later-rules on [] slices pps sps h unit b k = cc
 later-rules false (p ∷ ps) slices pps sps h unit b k = cc

@@ -30,17 +30,28 @@ decoded-said frames (Decodes ps ∷ told) calls h = (h.0, decoded-said frames to
 decoded-said frames (Shows e ∷ told) calls h = decoded-said frames told calls h
 
 -- a sink was told so
-pub tells-said : {S : Type 0} (frames : ℕ → Frame) (took : S → List Call → Type 0) (s s' : S) (calls : List Call) → CallsTell took s s' calls → Tells (took_with frames took) s s' (map Said calls)
+pub tells-said : {S : Type 0} (frames : ℕ → Frame) (took : S → List Call → Type 0) (s s' : S) (calls : List Call) → CallsTell took s s' calls →
+    Tells (took_with frames took) s s' (map Said calls)
 unfolding took_with
-tells-said frames took s s' calls t = record { told = λ before h. (decoded-said frames before calls h.0, subst (took s') (sym (calls-said frames before calls)) (t.told (calls_of frames before) h.1)) }
+tells-said frames took s s' calls t = record {
+  told =
+      λ before h. (decoded-said frames before calls h.0, subst (took s') (sym (calls-said frames before calls)) (t.told (calls_of frames before) h.1));
+}
 
 saids-both : (xs ys : List Call) → map Said (xs ++ ys) ≡ map Said xs ++ map Said ys
 saids-both [] ys = refl
 saids-both (x ∷ xs) ys = ap (λ (l : List Told). Said x ∷ l) (saids-both xs ys)
 
 -- or only the first of it
-pub front-said : {S : Type 0} (frames : ℕ → Frame) (took : S → List Call → Type 0) (s s' : S) (calls : List Call) → CallsFront took s s' calls → TellsFront (took_with frames took) s s' (map Said calls)
-front-said frames took s s' calls k = record { front = map Said k.front; rest = map Said k.rest; whole = ap (λ (l : List Call). map Said l) k.whole ∙ saids-both k.front k.rest; tells = tells-said frames took s s' k.front k.tells }
+pub front-said : {S : Type 0} (frames : ℕ → Frame) (took : S → List Call → Type 0) (s s' : S) (calls : List Call) → CallsFront took s s' calls →
+    TellsFront (took_with frames took) s s' (map Said calls)
+front-said frames took s s' calls k = record {
+  front = map Said k.front;
+  rest = map Said k.rest;
+  whole = ap (λ (l : List Call). map Said l) k.whole ∙
+      saids-both k.front k.rest;
+  tells = tells-said frames took s s' k.front k.tells;
+}
 
 -- ---- elements
 
@@ -48,8 +59,12 @@ said-elements : (body : Body) (es : List Element) → map Said (map (call_of bod
 said-elements body [] = refl
 said-elements body (e ∷ es) = ap (λ (l : List Told). said_of body e ∷ l) (said-elements body es)
 
-pub elements-tell : {S : Type 0} (frames : ℕ → Frame) (took : S → List Call → Type 0) (s s' : S) (body : Body) (es : List Element) → CallsTell took s s' (map (call_of body) es) → Tells (took_with frames took) s s' (map (said_of body) es)
-elements-tell frames took s s' body es t = subst (Tells (took_with frames took) s s') (said-elements body es) (tells-said frames took s s' (map (call_of body) es) t)
+pub elements-tell : {S : Type 0} (frames : ℕ → Frame) (took : S → List Call → Type 0) (s s' : S) (body : Body) (es : List Element) →
+    CallsTell took s s' (map (call_of body) es) → Tells (took_with frames took) s s' (map (said_of body) es)
+elements-tell frames took s s' body es t =
+    subst (Tells (took_with frames took) s s') (said-elements body es) (tells-said frames took s s' (map (call_of body) es) t)
 
-pub elements-front : {S : Type 0} (frames : ℕ → Frame) (took : S → List Call → Type 0) (s s' : S) (body : Body) (es : List Element) → CallsFront took s s' (map (call_of body) es) → TellsFront (took_with frames took) s s' (map (said_of body) es)
-elements-front frames took s s' body es t = subst (TellsFront (took_with frames took) s s') (said-elements body es) (front-said frames took s s' (map (call_of body) es) t)
+pub elements-front : {S : Type 0} (frames : ℕ → Frame) (took : S → List Call → Type 0) (s s' : S) (body : Body) (es : List Element) →
+    CallsFront took s s' (map (call_of body) es) → TellsFront (took_with frames took) s s' (map (said_of body) es)
+elements-front frames took s s' body es t =
+    subst (TellsFront (took_with frames took) s s') (said-elements body es) (front-said frames took s s' (map (call_of body) es) t)

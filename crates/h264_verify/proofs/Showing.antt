@@ -23,7 +23,8 @@ shows-call : (frames : ℕ → Frame) (written : List (Entry Shown)) → calls_o
 shows-call frames [] = refl
 shows-call frames (e ∷ es) = ap (λ (l : List Call). shown_call frames e ∷ l) (shows-call frames es)
 
-calls-shown : (frames : ℕ → Frame) (told : List Told) (written : List (Entry Shown)) → calls_of frames (told ++ map Shows written) ≡ calls_of frames told ++ shown_calls frames written
+calls-shown : (frames : ℕ → Frame) (told : List Told) (written : List (Entry Shown)) →
+    calls_of frames (told ++ map Shows written) ≡ calls_of frames told ++ shown_calls frames written
 calls-shown frames [] written = shows-call frames written
 calls-shown frames (Said c ∷ told) written = ap (λ (l : List Call). c ∷ l) (calls-shown frames told written)
 calls-shown frames (Decodes ps ∷ told) written = calls-shown frames told written
@@ -39,9 +40,16 @@ decoded-shown frames (Said c ∷ told) written h = decoded-shown frames told wri
 decoded-shown frames (Decodes ps ∷ told) written h = (h.0, decoded-shown frames told written h.1)
 decoded-shown frames (Shows e ∷ told) written h = decoded-shown frames told written h
 
-pub tells-shown : {S : Type 0} (frames : ℕ → Frame) (took : S → List Call → Type 0) (s s' : S) (written : List (Entry Shown)) → CallsTell took s s' (shown_calls frames written) → Tells (took_with frames took) s s' (map Shows written)
+pub tells-shown : {S : Type 0} (frames : ℕ → Frame) (took : S → List Call → Type 0) (s s' : S) (written : List (Entry Shown)) →
+    CallsTell took s s' (shown_calls frames written) → Tells (took_with frames took) s s' (map Shows written)
 unfolding took_with
-tells-shown frames took s s' written t = record { told = λ before h. (decoded-shown frames before written h.0, subst (took s') (sym (calls-shown frames before written)) (t.told (calls_of frames before) h.1)) }
+tells-shown frames took s s' written t =
+    record {
+      told = λ before h. (
+        decoded-shown frames before written h.0,
+        subst (took s') (sym (calls-shown frames before written)) (t.told (calls_of frames before) h.1),
+      );
+    }
 
 -- entries whose calls are the first of these
 record Cut (frames : ℕ → Frame) (written : List (Entry Shown)) (front : List Call) : Type 0 where
@@ -57,18 +65,30 @@ cut frames (e ∷ es) (c ∷ front) rest h =
     let head : shown_call frames e ≡ c = cc in
     let tail : shown_calls frames es ≡ front ++ rest = cc in
     let k = cut frames es front rest tail in
-    record { first = e ∷ k.first; last = k.last; whole = ap (λ (l : List (Entry Shown)). e ∷ l) k.whole; calls = ap (λ (l : List Call). shown_call frames e ∷ l) k.calls ∙ ap (λ (x : Call). x ∷ front) head }
+    record {
+      first = e ∷ k.first;
+      last = k.last;
+      whole = ap (λ (l : List (Entry Shown)). e ∷ l) k.whole;
+      calls = ap (λ (l : List Call). shown_call frames e ∷ l) k.calls ∙ ap (λ (x : Call). x ∷ front) head;
+    }
 
 shows-both : (xs ys : List (Entry Shown)) → map Shows (xs ++ ys) ≡ map Shows xs ++ map Shows ys
 shows-both [] ys = refl
 shows-both (x ∷ xs) ys = ap (λ (l : List Told). Shows x ∷ l) (shows-both xs ys)
 
-pub front-shown : {S : Type 0} (frames : ℕ → Frame) (took : S → List Call → Type 0) (s s' : S) (written : List (Entry Shown)) → CallsFront took s s' (shown_calls frames written) → TellsFront (took_with frames took) s s' (map Shows written)
+pub front-shown : {S : Type 0} (frames : ℕ → Frame) (took : S → List Call → Type 0) (s s' : S) (written : List (Entry Shown)) →
+    CallsFront took s s' (shown_calls frames written) → TellsFront (took_with frames took) s s' (map Shows written)
 front-shown frames took s s' written k =
     let c = cut frames written k.front k.rest k.whole in
-    record { front = map Shows c.first; rest = map Shows c.last; whole = ap (λ (l : List (Entry Shown)). map Shows l) c.whole ∙ shows-both c.first c.last; tells = tells-shown frames took s s' c.first (subst (CallsTell took s s') (sym c.calls) k.tells) }
+    record {
+      front = map Shows c.first;
+      rest = map Shows c.last;
+      whole = ap (λ (l : List (Entry Shown)). map Shows l) c.whole ∙ shows-both c.first c.last;
+      tells = tells-shown frames took s s' c.first (subst (CallsTell took s s') (sym c.calls) k.tells);
+    }
 
-pub shows-outcome : (written : List (Entry Shown)) → (let o : Outcome (Unit {0}) = record { calls = map Shows written; answer = Ok tt } in steps_outcome (told_frames modes.Full written) ≡ o)
+pub shows-outcome : (written : List (Entry Shown)) →
+    (let o : Outcome (Unit {0}) = record { calls = map Shows written; answer = Ok tt } in steps_outcome (told_frames modes.Full written) ≡ o)
 shows-outcome [] = refl
 shows-outcome (e ∷ es) = ap (λ (o : Outcome (Unit {0})). with_calls (Shows e ∷ []) o) (shows-outcome es)
 
@@ -76,10 +96,15 @@ abbrev all_shown : List (Entry Shown) → Outcome (Unit {0})
 all_shown written = record { calls = map Shows written; answer = Ok tt }
 
 -- frames that were written
-pub writes-plays : {S : Type 0} (frames : ℕ → Frame) (took : S → List Call → Type 0) (failures : S → ℕ) (written : List (Entry Shown)) (s s' : S) (r : Result (Unit {0}) Stop) → Writes took failures (shown_calls frames written) s s' r → Plays (span (took_with frames took) failures s s') (λ (x : Unit {0}). x) (steps_outcome (told_frames modes.Full written)) r
-writes-plays {S} frames took failures written s s' r w = subst (λ (o : Outcome (Unit {0})). Plays (span (took_with frames took) failures s s') (λ (x : Unit {0}). x) o r) (sym (shows-outcome written)) (record { plays = by r w.writes })
+pub writes-plays : {S : Type 0} (frames : ℕ → Frame) (took : S → List Call → Type 0) (failures : S → ℕ) (written : List (Entry Shown)) (s s' : S)
+    (r : Result (Unit {0}) Stop) → Writes took failures (shown_calls frames written) s s' r →
+    Plays (span (took_with frames took) failures s s') (λ (x : Unit {0}). x) (steps_outcome (told_frames modes.Full written)) r
+writes-plays {S} frames took failures written s s' r w =
+    subst (λ (o : Outcome (Unit {0})). Plays (span (took_with frames took) failures s s') (λ (x : Unit {0}). x) o r) (sym (shows-outcome written))
+    (record { plays = by r w.writes })
   where
-    by : (r : Result (Unit {0}) Stop) → WritesBy took failures (shown_calls frames written) s s' r → PlaysBy (span (took_with frames took) failures s s') (λ (x : Unit {0}). x) (all_shown written) r
+    by : (r : Result (Unit {0}) Stop) → WritesBy took failures (shown_calls frames written) s s' r →
+        PlaysBy (span (took_with frames took) failures s s') (λ (x : Unit {0}). x) (all_shown written) r
     by (Ok x) h = (refl, tells-shown frames took s s' written h.0, h.1)
     by (Err Write) h = (front-shown frames took s s' written h.1, h.2)
     by (Err Memory) h = let e : Memory ≡ Write = h.0 in cc
@@ -87,14 +112,16 @@ writes-plays {S} frames took failures written s s' r w = subst (λ (o : Outcome 
     by (Err (No bit rule)) h = let e : No bit rule ≡ Write = h.0 in cc
     by (Err (Outside bit feature)) h = let e : Outside bit feature ≡ Write = h.0 in cc
 
-pub writes-kept : {S : Type 0} (took : S → List Call → Type 0) (failures : S → ℕ) (calls : List Call) (s s' : S) (r : Result (Unit {0}) Stop) → Writes took failures calls s s' r → OnOk r (failures s' ≡ failures s)
+pub writes-kept : {S : Type 0} (took : S → List Call → Type 0) (failures : S → ℕ) (calls : List Call) (s s' : S) (r : Result (Unit {0}) Stop) →
+    Writes took failures calls s s' r → OnOk r (failures s' ≡ failures s)
 writes-kept {S} took failures calls s s' r w = by r w.writes
   where
     by : (r : Result (Unit {0}) Stop) → WritesBy took failures calls s s' r → OnOk r (failures s' ≡ failures s)
     by (Ok x) h = h.1
     by (Err e) h = tt
 
-pub writes-alone : {S : Type 0} (took : S → List Call → Type 0) (failures : S → ℕ) (calls : List Call) (s s' : S) (r : Result (Unit {0}) Stop) → Writes took failures calls s s' r → IfErr r (λ e. e ≡ Write)
+pub writes-alone : {S : Type 0} (took : S → List Call → Type 0) (failures : S → ℕ) (calls : List Call) (s s' : S) (r : Result (Unit {0}) Stop) →
+    Writes took failures calls s s' r → IfErr r (λ e. e ≡ Write)
 writes-alone {S} took failures calls s s' r w = by r w.writes
   where
     by : (r : Result (Unit {0}) Stop) → WritesBy took failures calls s s' r → IfErr r (λ e. e ≡ Write)
@@ -109,17 +136,23 @@ calls-decoded frames (Said c ∷ told) pictures = ap (λ (l : List Call). c ∷ 
 calls-decoded frames (Decodes ps ∷ told) pictures = calls-decoded frames told pictures
 calls-decoded frames (Shows e ∷ told) pictures = ap (λ (l : List Call). shown_call frames e ∷ l) (calls-decoded frames told pictures)
 
-decoded-one : (frames : ℕ → Frame) (told : List Told) (pictures : List CodedPicture) → HasFrame frames pictures → AreDecoded frames told → AreDecoded frames (told ++ Decodes pictures ∷ [])
+decoded-one : (frames : ℕ → Frame) (told : List Told) (pictures : List CodedPicture) → HasFrame frames pictures → AreDecoded frames told →
+    AreDecoded frames (told ++ Decodes pictures ∷ [])
 decoded-one frames [] pictures d h = (d, tt)
 decoded-one frames (Said c ∷ told) pictures d h = decoded-one frames told pictures d h
 decoded-one frames (Decodes ps ∷ told) pictures d h = (h.0, decoded-one frames told pictures d h.1)
 decoded-one frames (Shows e ∷ told) pictures d h = decoded-one frames told pictures d h
 
-decodes-tell : {S : Type 0} (frames : ℕ → Frame) (took : S → List Call → Type 0) (s : S) (pictures : List CodedPicture) → HasFrame frames pictures → Tells (took_with frames took) s s (Decodes pictures ∷ [])
+decodes-tell : {S : Type 0} (frames : ℕ → Frame) (took : S → List Call → Type 0) (s : S) (pictures : List CodedPicture) → HasFrame frames pictures →
+    Tells (took_with frames took) s s (Decodes pictures ∷ [])
 unfolding took_with
-decodes-tell frames took s pictures d = record { told = λ before h. (decoded-one frames before pictures d h.0, subst (took s) (sym (calls-decoded frames before pictures)) h.1) }
+decodes-tell frames took s pictures d = record {
+  told =
+      λ before h. (decoded-one frames before pictures d h.0, subst (took s) (sym (calls-decoded frames before pictures)) h.1);
+}
 
-pub decodes-plays : {S : Type 0} (frames : ℕ → Frame) (took : S → List Call → Type 0) (failures : S → ℕ) (s : S) (pictures : List CodedPicture) → HasFrame frames pictures → Plays (span (took_with frames took) failures s s) (λ (x : Unit {0}). x) (tells (Decodes pictures)) (Ok tt)
+pub decodes-plays : {S : Type 0} (frames : ℕ → Frame) (took : S → List Call → Type 0) (failures : S → ℕ) (s : S) (pictures : List CodedPicture) →
+    HasFrame frames pictures → Plays (span (took_with frames took) failures s s) (λ (x : Unit {0}). x) (tells (Decodes pictures)) (Ok tt)
 decodes-plays frames took failures s pictures d = record { plays = (refl, decodes-tell frames took s pictures d, refl) }
 
 shown-both : (xs ys : List (Entry Shown)) → told_frames modes.Full (xs ++ ys) ≡ told_frames modes.Full xs ++ told_frames modes.Full ys
@@ -127,7 +160,10 @@ shown-both [] ys = refl
 shown-both (x ∷ xs) ys = ap (λ (l : List Step). step.Tells (Shows x) ∷ l) (shown-both xs ys)
 
 -- it is decoded, and then frames are written in two steps
-pub end-outcome : (pictures : List CodedPicture) (xs ys : List (Entry Shown)) → steps_outcome ((step.Tells (Decodes pictures) ∷ []) ++ told_frames modes.Full (xs ++ ys)) ≡ (tells (Decodes pictures) >>= λ _. steps_outcome (told_frames modes.Full xs) >>= λ _. steps_outcome (told_frames modes.Full ys))
+pub end-outcome : (pictures : List CodedPicture) (xs ys : List (Entry Shown)) →
+    steps_outcome ((step.Tells (Decodes pictures) ∷ []) ++ told_frames modes.Full (xs ++ ys)) ≡
+    (tells (Decodes pictures) >>= λ _. steps_outcome (told_frames modes.Full xs) >>= λ _. steps_outcome (told_frames modes.Full ys))
 end-outcome pictures xs ys =
     steps-append (step.Tells (Decodes pictures) ∷ []) (told_frames modes.Full (xs ++ ys))
-    ∙ ap (λ (o : Outcome (Unit {0})). tells (Decodes pictures) >>= λ _. o) (ap steps_outcome (shown-both xs ys) ∙ steps-append (told_frames modes.Full xs) (told_frames modes.Full ys))
+    ∙ ap (λ (o : Outcome (Unit {0})). tells (Decodes pictures) >>= λ _. o)
+    (ap steps_outcome (shown-both xs ys) ∙ steps-append (told_frames modes.Full xs) (told_frames modes.Full ys))

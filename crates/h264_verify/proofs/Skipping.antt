@@ -24,7 +24,8 @@ use Rattle.h264_verify.proofs.Missing.{Fills, steps-some}
 -- the buffer sees the pictures alone
 missing-named : (refs held : References) (b : Buffered Shown) → names held ≡ names refs → missing_turn held b ≡ missing_turn refs b
 unfolding missing_turn
-missing-named refs held b e = ap (λ (held : List (Option ℕ)). turn_of (missing_step (λ (n : Shown). is_held held n.picture) (missing_in held) b) (missing_in held) b.size) e
+missing-named refs held b e = ap (λ (held : List (Option ℕ)). turn_of (missing_step (λ (n : Shown). is_held held n.picture) (missing_in held) b)
+    (missing_in held) b.size) e
 
 stays-named : (mode : Mode) (refs held : References) (b : Buffered Shown) → names held ≡ names refs → BufferStays mode refs b → BufferStays mode held b
 unfolding BufferStays
@@ -89,15 +90,18 @@ module _ (n : Numbering) where
       ∙ ap (λ (t : Turn). turn_then t (gaps_turn n numbers next.held)) more
       ∙ skipped-turn count number next.held b next.steady more
 
-  skipped-full : (frames : ℕ → Frame) (t : Turn) (next : ℕ) (count last : ℕ) (refs : References) → IsSteady n last refs.frames → missing_turn refs t.buffer ≡ stays t.buffer → (d : Decoder) → FillsFrames frames t next d →
+  skipped-full : (frames : ℕ → Frame) (t : Turn) (next : ℕ) (count last : ℕ) (refs : References) → IsSteady n last refs.frames →
+      missing_turn refs t.buffer ≡ stays t.buffer → (d : Decoder) → FillsFrames frames t next d →
       FillsFrames frames (turn_then t (gaps_turn n (numbers_from count ((last + 1) % n.max_frame_num) n.max_frame_num) refs)) next d
   skipped-full frames t next count last refs s still d k =
       let same = skipped-turn count last refs t.buffer s still in
       subst (λ (u : Turn). FillsFrames frames u next d)
-      (sym (ap (λ (u : Turn). let v : Turn = record { written = t.written ++ u.written; buffer = u.buffer } in v) same ∙ ap (λ (l : List _). let v : Turn = record { written = l; buffer = t.buffer } in v) (append-nil t.written)))
+      (sym (ap (λ (u : Turn). let v : Turn = record { written = t.written ++ u.written; buffer = u.buffer } in v) same ∙
+      ap (λ (l : List _). let v : Turn = record { written = l; buffer = t.buffer } in v) (append-nil t.written)))
       k
 
-  skipped-kept : (mode : Mode) (frames : ℕ → Frame) (t : Turn) (next : ℕ) (d : Option Decoder) (count last : ℕ) (refs : References) → IsSteady n last refs.frames → BufferStays mode refs t.buffer → WhereMade mode (FillsFrames frames t next) d →
+  skipped-kept : (mode : Mode) (frames : ℕ → Frame) (t : Turn) (next : ℕ) (d : Option Decoder) (count last : ℕ) (refs : References) →
+      IsSteady n last refs.frames → BufferStays mode refs t.buffer → WhereMade mode (FillsFrames frames t next) d →
       WhereMade mode (FillsFrames frames (turn_then t (gaps_turn n (numbers_from count ((last + 1) % n.max_frame_num) n.max_frame_num) refs)) next) d
   unfolding BufferStays
   skipped-kept modes.Units frames t next d count last refs s still k = unit-made _ _ d k
@@ -105,8 +109,11 @@ module _ (n : Numbering) where
   skipped-kept modes.Full frames t next d count last refs s still k = made-then _ _ modes.Full d (skipped-full frames t next count last refs s still) k
 
 -- the rest of the missing numbers is skipped
-pub fills-skipped : {S : Type 0} (mode : Mode) (bit : ℕ) (n : Numbering) (count prev : ℕ) (held : References) (took : S → List Call → Type 0) (failures : S → ℕ) (frames : ℕ → Frame) (t : Turn) (next : ℕ) (old : S) (left last then_last : ℕ) (now then_held : References) (new : S) (d : Option Decoder) →
-    IsSteady n last now.frames → (f : Fills mode bit n count prev held took failures frames t next old left last now new d) → BufferStays mode now f.turn.buffer → Fills mode bit n count prev held took failures frames t next old 0 then_last then_held new d
+pub fills-skipped : {S : Type 0} (mode : Mode) (bit : ℕ) (n : Numbering) (count prev : ℕ) (held : References) (took : S → List Call → Type 0)
+    (failures : S → ℕ) (frames : ℕ → Frame) (t : Turn) (next : ℕ) (old : S) (left last then_last : ℕ) (now then_held : References) (new : S)
+    (d : Option Decoder) →
+    IsSteady n last now.frames → (f : Fills mode bit n count prev held took failures frames t next old left last now new d) →
+    BufferStays mode now f.turn.buffer → Fills mode bit n count prev held took failures frames t next old 0 then_last then_held new d
 fills-skipped mode bit n count prev held took failures frames t next old left last then_last now then_held new d s f still =
     let all = turn_then f.turn (gaps_turn n (numbers_from left ((last + 1) % n.max_frame_num) n.max_frame_num) now) in
     record {

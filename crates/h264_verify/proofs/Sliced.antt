@@ -32,45 +32,60 @@ use Rattle.h264_verify.proofs.Ruling.{goes-with}
 use Rattle.h264_verify.proofs.Standing.{stands-if, before-active, joined-sound, gap-filled, joined-active, joined-named}
 use Rattle.h264_verify.proofs.Judged.{closed-on, own-then}
 
-module _ {S : Type 0} (mode : Mode) (took : S → List Call → Type 0) (failures : S → ℕ) (frames : ℕ → Frame) (before : History) (unit : NalUnit) (h : Header) (begins : Bool) (old mid : State) (s s1 : S) (placed : PlacesSlice mode (frame_span took failures frames s s1) (slice_after before unit h begins) old mid) where
-  -- there are pictures of which this is kept before its rules
-  pub some-rules : KeepsSomeRules begins mid.slices mid.decoder
-  some-rules = record { mode = mode; frames = placed.closes.made; before = before; slices_are = placed.ended; keeps = placed.closes.keeps }
+module _ {S : Type 0} (mode : Mode) (took : S → List Call → Type 0) (failures : S → ℕ) (frames : ℕ → Frame) (before : History) (unit : NalUnit) (h : Header)
+    (begins : Bool) (old mid : State) (s s1 : S) (placed : PlacesSlice mode (frame_span took failures frames s s1) (slice_after before unit h begins) old mid)
+  where
+    -- there are pictures of which this is kept before its rules
+    pub some-rules : KeepsSomeRules begins mid.slices mid.decoder
+    some-rules = record { mode = mode; frames = placed.closes.made; before = before; slices_are = placed.ended; keeps = placed.closes.keeps }
 
-  module _ (pps : Pps) (sps : Sps) (m : old.sets ≡ maps_of before) (sets : sets_of old.sets h.pic_parameter_set_id.value ≡ Some (pps, sps)) where
-    abbrev slice : List CodedMacroblock → CodedSlice
-    slice ms = with_sets unit h ms (pps, sps)
+    module _ (pps : Pps) (sps : Sps) (m : old.sets ≡ maps_of before) (sets : sets_of old.sets h.pic_parameter_set_id.value ≡ Some (pps, sps)) where
+      abbrev slice : List CodedMacroblock → CodedSlice
+      slice ms = with_sets unit h ms (pps, sps)
 
-    -- where it begins a picture that is no IDR picture, it goes on with the sequence
-    pub goes-on-with : is_usable sps ≡ true → begins ≡ true → is_idr h ≡ false → GoesWith sps mid.slices.held mid.decoder
-    goes-on-with usable begun i =
-        let set = stands-if begins _ (runs_of before) old.sets sps _ h (before-active before begins _ _ placed.ended m) (placed.stands (pps, sps) sets) begun i in
-        goes-with sps usable mode begins placed.closes.made before mid.slices mid.decoder begun placed.ended placed.closes.keeps set
+      -- where it begins a picture that is no IDR picture, it goes on with the sequence
+      pub goes-on-with : is_usable sps ≡ true → begins ≡ true → is_idr h ≡ false → GoesWith sps mid.slices.held mid.decoder
+      goes-on-with usable begun i =
+          let set = stands-if begins _ (runs_of before) old.sets sps _ h (before-active before begins _ _ placed.ended m) (placed.stands (pps, sps) sets) begun
+          i in
+          goes-with sps usable mode begins placed.closes.made before mid.slices mid.decoder begun placed.ended placed.closes.keeps set
 
-    module _ (b : begins ≡ begins_at before h) where
-      -- what comes to pass of it
-      pub judges-rules : (new : Option Decoder) (s2 : S) (r : Result (Unit {0}) Stop) → Plays (span (took_with placed.closes.made took) failures s1 s2) (λ (x : Unit {0}). x) (steps_outcome (told_rules mode begins (runs_of before) (slice []))) r → OnOk r (WhereMade mode (EntersBy placed.closes.made begins (slice []) (goes_on before) (runs_of before)) new) → JudgesSlice mode (frame_span took failures frames s s2) (slice_after before unit h begins) (pps, sps) new r
-      judges-rules new s2 r plays enters = record {
-        made = placed.closes.made;
-        same = placed.closes.same;
-        plays = closed-on (took_with placed.closes.made took) failures mode before unit h begins b s s1 s2 tt r placed.closes.plays
-            (own-then (took_with placed.closes.made took) failures mode before unit h begins b mid.slices.due old.sets placed.ended.due m (pps, sps) sets tt (placed.stands (pps, sps) sets) tt placed.first s1 s2 r plays);
-        enters = enters;
-      }
+      module _ (b : begins ≡ begins_at before h) where
+        -- what comes to pass of it
+        pub judges-rules : (new : Option Decoder) (s2 : S) (r : Result (Unit {0}) Stop) →
+            Plays (span (took_with placed.closes.made took) failures s1 s2) (λ (x : Unit {0}). x)
+            (steps_outcome (told_rules mode begins (runs_of before) (slice []))) r →
+            OnOk r (WhereMade mode (EntersBy placed.closes.made begins (slice []) (goes_on before) (runs_of before)) new) →
+            JudgesSlice mode (frame_span took failures frames s s2) (slice_after before unit h begins) (pps, sps) new r
+        judges-rules new s2 r plays enters = record {
+          made = placed.closes.made;
+          same = placed.closes.same;
+          plays = closed-on (took_with placed.closes.made took) failures mode before unit h begins b s s1 s2 tt r placed.closes.plays
+              (own-then (took_with placed.closes.made took) failures mode before unit h begins b mid.slices.due old.sets placed.ended.due m (pps, sps) sets tt
+              (placed.stands (pps, sps) sets) tt placed.first s1 s2 r plays);
+          enters = enters;
+        }
 
-      -- it is sound with the pictures before it
-      pub sound-slice : (ms : List CodedMacroblock) (new : Slices) → IsMarked h → is_usable sps ≡ true → (begins ≡ true → all_filled (numbering_of sps h) (unused_short_term_frame_nums (is_idr h) mid.slices.prev_ref_frame_num (numbering_of sps h)) mid.slices.held ≡ Some new.held) → AreSound false (joined_to begins (slice ms) (runs_of before))
-      sound-slice ms new marked usable filled =
-          let active = before-active before begins _ _ placed.ended m in
-          joined-sound begins (goes_on before) (slice ms) (runs_of before) b placed.ended.sound marked usable (stands-if begins _ (runs_of before) old.sets sps _ h active (placed.stands (pps, sps) sets))
-          (λ begun. gap-filled before begins mid.slices _ (slice ms) placed.ended begun (filled begun))
+        -- it is sound with the pictures before it
+        pub sound-slice : (ms : List CodedMacroblock) (new : Slices) → IsMarked h → is_usable sps ≡ true →
+            (begins ≡ true → all_filled (numbering_of sps h) (unused_short_term_frame_nums (is_idr h) mid.slices.prev_ref_frame_num (numbering_of sps h))
+            mid.slices.held ≡ Some new.held) → AreSound false (joined_to begins (slice ms) (runs_of before))
+        sound-slice ms new marked usable filled =
+            let active = before-active before begins _ _ placed.ended m in
+            joined-sound begins (goes_on before) (slice ms) (runs_of before) b placed.ended.sound marked usable
+            (stands-if begins _ (runs_of before) old.sets sps _ h active (placed.stands (pps, sps) sets))
+            (λ begun. gap-filled before begins mid.slices _ (slice ms) placed.ended begun (filled begun))
 
-      -- what is kept of it, where its rules are met
-      pub keeps-slice : (ms : List CodedMacroblock) (new : Slices) → IsMarked h → is_usable sps ≡ true → KeepsPictures true false (joined_to begins (slice ms) (runs_of before)) new → new.due ≡ false → (begins ≡ true → all_filled (numbering_of sps h) (unused_short_term_frame_nums (is_idr h) mid.slices.prev_ref_frame_num (numbering_of sps h)) mid.slices.held ≡ Some new.held) → KeepsSlices (record { unit = unit; content = contents.OfSlice h ms } ∷ before) false new
-      keeps-slice ms new marked usable kept due filled =
-          let stands = placed.stands (pps, sps) sets in
-          let active = before-active before begins _ _ placed.ended m in
-          slice-keeps before unit h ms old.sets new begins _ b m sets kept due
-          (sound-slice ms new marked usable filled)
-          (joined-active old.sets (slice ms) sets begins (goes_on before) (runs_of before) _ _ b active stands)
-          (joined-named old.sets (slice ms) sets begins (goes_on before) (runs_of before) b (subst (λ (x : Maps). NamesSet (goes_on before) (runs_of before) x) (sym m) placed.ended.named))
+        -- what is kept of it, where its rules are met
+        pub keeps-slice : (ms : List CodedMacroblock) (new : Slices) → IsMarked h → is_usable sps ≡ true →
+            KeepsPictures true false (joined_to begins (slice ms) (runs_of before)) new → new.due ≡ false →
+            (begins ≡ true → all_filled (numbering_of sps h) (unused_short_term_frame_nums (is_idr h) mid.slices.prev_ref_frame_num (numbering_of sps h))
+            mid.slices.held ≡ Some new.held) → KeepsSlices (record { unit = unit; content = contents.OfSlice h ms } ∷ before) false new
+        keeps-slice ms new marked usable kept due filled =
+            let stands = placed.stands (pps, sps) sets in
+            let active = before-active before begins _ _ placed.ended m in
+            slice-keeps before unit h ms old.sets new begins _ b m sets kept due
+            (sound-slice ms new marked usable filled)
+            (joined-active old.sets (slice ms) sets begins (goes_on before) (runs_of before) _ _ b active stands)
+            (joined-named old.sets (slice ms) sets begins (goes_on before) (runs_of before) b
+            (subst (λ (x : Maps). NamesSet (goes_on before) (runs_of before) x) (sym m) placed.ended.named))

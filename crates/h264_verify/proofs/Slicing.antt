@@ -1,5 +1,6 @@
 -- Rules one after another, and the sets of a slice.
-use Rattle.std.proofs.Common.{OnOk, IsTrue, IsFalse, ◌⊎◌, inl, inr, IfNone, ◌≡◌, ℕ, ◌*◌, Bool, true, false, List, [], ◌∷◌, ◌++◌, Option, Some, None, Result, Ok, Err, refl, ap, sym, ◌∙◌, subst, append_assoc, ◌||◌, if◌then◌else◌}
+use Rattle.std.proofs.Common.{OnOk, IsTrue, IsFalse, ◌⊎◌, inl, inr, IfNone, ◌≡◌, ℕ, ◌*◌, Bool, true, false, List, [], ◌∷◌, ◌++◌, Option, Some, None, Result}
+use Rattle.std.proofs.Common.{Ok, Err, refl, ap, sym, ◌∙◌, subst, append_assoc, ◌||◌, if◌then◌else◌}
 use Rattle.std.specs.Option.{is_some, option_map}
 use Rattle.h264_base.specs.Call.{span}
 use Rattle.h264_base.specs.declared.rule.Rule.TheVariants.{SetChanged}
@@ -36,7 +37,8 @@ one-met d r m = ap (λ b. if b then r else Err (No d.bit d.rule)) m
 one-unmet : (d : Demand) (r : Result (Unit {0}) Stop) → d.met ≡ false → (if d.met then r else Err (No d.bit d.rule)) ≡ Err (No d.bit d.rule)
 one-unmet d r m = ap (λ b. if b then r else Err (No d.bit d.rule)) m
 
-err-on : (d : Demand) (b : Bool) → d.met ≡ b → (x y : Result (Unit {0}) Stop) (e : Stop) → (x ≡ Err e → y ≡ Err e) → (if d.met then x else Err (No d.bit d.rule)) ≡ Err e → (if d.met then y else Err (No d.bit d.rule)) ≡ Err e
+err-on : (d : Demand) (b : Bool) → d.met ≡ b → (x y : Result (Unit {0}) Stop) (e : Stop) → (x ≡ Err e → y ≡ Err e) →
+    (if d.met then x else Err (No d.bit d.rule)) ≡ Err e → (if d.met then y else Err (No d.bit d.rule)) ≡ Err e
 err-on d true m x y e f h = one-met d y m ∙ f (sym (one-met d x m) ∙ h)
 err-on d false m x y e f h = one-unmet d y m ∙ (sym (one-unmet d x m) ∙ h)
 
@@ -44,7 +46,8 @@ pub front-err : (ds es : List Demand) (e : Stop) → judged ds ≡ Err e → jud
 front-err [] es e h = cc
 front-err (d ∷ ds) es e h = err-on d d.met refl (judged ds) (judged (ds ++ es)) e (front-err ds es e) h
 
-ok-on : (d : Demand) (b : Bool) → d.met ≡ b → (x y z : Result (Unit {0}) Stop) (u : Unit {0}) → (x ≡ Ok u → y ≡ z) → (if d.met then x else Err (No d.bit d.rule)) ≡ Ok u → (if d.met then y else Err (No d.bit d.rule)) ≡ z
+ok-on : (d : Demand) (b : Bool) → d.met ≡ b → (x y z : Result (Unit {0}) Stop) (u : Unit {0}) → (x ≡ Ok u → y ≡ z) →
+    (if d.met then x else Err (No d.bit d.rule)) ≡ Ok u → (if d.met then y else Err (No d.bit d.rule)) ≡ z
 ok-on d true m x y z u f h = one-met d y m ∙ f (sym (one-met d x m) ∙ h)
 ok-on d false m x y z u f h = let g : Err (No d.bit d.rule) ≡ Ok u = sym (one-unmet d x m) ∙ h in cc
 
@@ -52,7 +55,8 @@ pub front-ok : (ds es : List Demand) (x : Unit {0}) → judged ds ≡ Ok x → j
 front-ok [] es x h = refl
 front-ok (d ∷ ds) es x h = ok-on d d.met refl (judged ds) (judged (ds ++ es)) (judged es) x (front-ok ds es x) h
 
-named-on : (d : Demand) (b : Bool) → d.met ≡ b → (x : Result (Unit {0}) Stop) (e : Stop) → (x ≡ Err e → IsNamed e) → (if d.met then x else Err (No d.bit d.rule)) ≡ Err e → IsNamed e
+named-on : (d : Demand) (b : Bool) → d.met ≡ b → (x : Result (Unit {0}) Stop) (e : Stop) → (x ≡ Err e → IsNamed e) →
+    (if d.met then x else Err (No d.bit d.rule)) ≡ Err e → IsNamed e
 named-on d true m x e f h = f (sym (one-met d x m) ∙ h)
 named-on d false m x e f h = let g : Err (No d.bit d.rule) ≡ Err e = sym (one-unmet d x m) ∙ h in let k : No d.bit d.rule ≡ e = cc in subst IsNamed k tt
 
@@ -65,11 +69,15 @@ sets-kept : (maps : Maps) (pair : Option SetPair) (id : ℕ) → sets_of (with_p
 sets-kept maps None id = refl
 sets-kept maps (Some pair) id = refl
 
-pub sets-after : (maps new : Maps) (h : Header) (o : Option (Pps × Sps)) → new ≡ maps_with maps (contents.OfSlice h []) → sets_of new h.pic_parameter_set_id.value ≡ o → sets_of maps h.pic_parameter_set_id.value ≡ o
-sets-after maps new h o e f = sym (sets-kept maps (pair_of maps h.pic_parameter_set_id.value) h.pic_parameter_set_id.value) ∙ ap (λ m. sets_of m h.pic_parameter_set_id.value) (sym e) ∙ f
+pub sets-after : (maps new : Maps) (h : Header) (o : Option (Pps × Sps)) → new ≡ maps_with maps (contents.OfSlice h []) →
+    sets_of new h.pic_parameter_set_id.value ≡ o → sets_of maps h.pic_parameter_set_id.value ≡ o
+sets-after maps new h o e f = sym (sets-kept maps (pair_of maps h.pic_parameter_set_id.value) h.pic_parameter_set_id.value) ∙
+    ap (λ m. sets_of m h.pic_parameter_set_id.value) (sym e) ∙ f
 
-pub sets-before : (maps new : Maps) (h : Header) (o : Option (Pps × Sps)) → new ≡ maps_with maps (contents.OfSlice h []) → sets_of maps h.pic_parameter_set_id.value ≡ o → sets_of new h.pic_parameter_set_id.value ≡ o
-sets-before maps new h o e f = ap (λ m. sets_of m h.pic_parameter_set_id.value) e ∙ sets-kept maps (pair_of maps h.pic_parameter_set_id.value) h.pic_parameter_set_id.value ∙ f
+pub sets-before : (maps new : Maps) (h : Header) (o : Option (Pps × Sps)) → new ≡ maps_with maps (contents.OfSlice h []) →
+    sets_of maps h.pic_parameter_set_id.value ≡ o → sets_of new h.pic_parameter_set_id.value ≡ o
+sets-before maps new h o e f = ap (λ m. sets_of m h.pic_parameter_set_id.value) e ∙
+    sets-kept maps (pair_of maps h.pic_parameter_set_id.value) h.pic_parameter_set_id.value ∙ f
 
 -- rules at the front of others: the first that is not met, or the answer of the others
 pub stop-at : (ds es : List Demand) (e : Stop) → Err e ≡ judged ds → Err e ≡ judged (ds ++ es)
@@ -103,7 +111,11 @@ active-content None sps e = cc
 active-content (Some pair) sps e = (decides-sps pair.sps sps).1 (some-same pair.sps sps e)
 
 -- What activating the sets of a slice answers is the answer of its rule, and this is then kept.
-module _ (maps new : Maps) (h : Header) (renews : Bool) (pps : Pps) (sps : Sps) (r : Result (Unit {0}) Stop) (named : sets_of maps h.pic_parameter_set_id.value ≡ Some (pps, sps)) (ok : (pair : SetPair) → pair_of maps h.pic_parameter_set_id.value ≡ Some pair → (IsTrue renews ⊎ IsActive maps pair.sps) → (r ≡ Ok tt) × (new ≡ with_active maps pair)) (changed : (pair : SetPair) → pair_of maps h.pic_parameter_set_id.value ≡ Some pair → IsFalse renews → (IsActive maps pair.sps → ⊥) → r ≡ Err (No h.pic_parameter_set_id.bit SetChanged)) where
+module _ (maps new : Maps) (h : Header) (renews : Bool) (pps : Pps) (sps : Sps) (r : Result (Unit {0}) Stop)
+    (named : sets_of maps h.pic_parameter_set_id.value ≡ Some (pps, sps))
+    (ok : (pair : SetPair) → pair_of maps h.pic_parameter_set_id.value ≡ Some pair → (IsTrue renews ⊎ IsActive maps pair.sps) → (r ≡ Ok tt) ×
+    (new ≡ with_active maps pair)) (changed : (pair : SetPair) → pair_of maps h.pic_parameter_set_id.value ≡ Some pair → IsFalse renews →
+    (IsActive maps pair.sps → ⊥) → r ≡ Err (No h.pic_parameter_set_id.bit SetChanged)) where
   abbrev pair : SetPair
   pair = record { pps = pps; sps = sps }
 
@@ -146,8 +158,10 @@ ok-true true x e h = refl
 ok-true false x e h = cc
 
 -- a stop that these steps come to
-pub refused : {S : Type 0} (took : S → List Told → Type 0) (failures : S → ℕ) (steps : List Step) (s : S) (e : Stop) → steps_outcome steps ≡ answers (Err e) → IsNamed e → Plays (span took failures s s) (λ (x : Unit {0}). x) (steps_outcome steps) (Err e)
-refused took failures steps s e h n = subst (λ (o : Outcome (Unit {0})). Plays (span took failures s s) (λ (x : Unit {0}). x) o (Err e)) (sym h) (answers-plays took failures e s n)
+pub refused : {S : Type 0} (took : S → List Told → Type 0) (failures : S → ℕ) (steps : List Step) (s : S) (e : Stop) → steps_outcome steps ≡ answers (Err e) →
+    IsNamed e → Plays (span took failures s s) (λ (x : Unit {0}). x) (steps_outcome steps) (Err e)
+refused took failures steps s e h n = subst (λ (o : Outcome (Unit {0})). Plays (span took failures s s) (λ (x : Unit {0}). x) o (Err e)) (sym h)
+    (answers-plays took failures e s n)
 
 -- The steps of a slice, after what is kept of the units before it.
 module _ (mode : Mode) (before : History) (unit : NalUnit) (h : Header) (begins : Bool) (b : begins ≡ begins_at before h) where
@@ -172,24 +186,32 @@ module _ (mode : Mode) (before : History) (unit : NalUnit) (h : Header) (begins 
     three : (xs ys zs ts : List Step) → (xs ++ (ys ++ zs)) ++ ts ≡ xs ++ (ys ++ (zs ++ ts))
     three xs ys zs ts = append_assoc xs (ys ++ zs) ts ∙ ap (λ (l : List Step). xs ++ l) (append_assoc ys zs ts)
 
-    standing-rest : (begins : Bool) (sets : Pps × Sps) (ts : List Step) → rules_of mode begins due maps (runs_of before) (slice sets) ++ ts ≡ needs (standing_demands begins sets.1 due maps (8 * unit.from) h) ++ (needs (first_mb_demands mode (coded_before begins (runs_of before)) h) ++ (slice_rules mode begins (runs_of before) (slice sets) ++ ts))
-    standing-rest true sets ts = three (needs (standing_demands true sets.1 due maps (8 * unit.from) h)) (needs (first_mb_demands mode 0 h)) (slice_rules mode true (runs_of before) (slice sets)) ts
-    standing-rest false sets ts = three (needs (standing_demands false sets.1 due maps (8 * unit.from) h)) (needs (first_mb_demands mode (coded_before false (runs_of before)) h)) (slice_rules mode false (runs_of before) (slice sets)) ts
+    standing-rest : (begins : Bool) (sets : Pps × Sps) (ts : List Step) → rules_of mode begins due maps (runs_of before) (slice sets) ++ ts ≡
+        needs (standing_demands begins sets.1 due maps (8 * unit.from) h) ++
+        (needs (first_mb_demands mode (coded_before begins (runs_of before)) h) ++ (slice_rules mode begins (runs_of before) (slice sets) ++ ts))
+    standing-rest true sets ts = three (needs (standing_demands true sets.1 due maps (8 * unit.from) h)) (needs (first_mb_demands mode 0 h))
+        (slice_rules mode true (runs_of before) (slice sets)) ts
+    standing-rest false sets ts = three (needs (standing_demands false sets.1 due maps (8 * unit.from) h))
+        (needs (first_mb_demands mode (coded_before false (runs_of before)) h)) (slice_rules mode false (runs_of before) (slice sets)) ts
 
-    with-sets : (sets : Pps × Sps) → sets_of maps h.pic_parameter_set_id.value ≡ Some sets → steps_outcome own_steps ≡ after_rules (judged (standing_demands begins sets.1 due maps (8 * unit.from) h)) (needs place ++ rules_then sets)
+    with-sets : (sets : Pps × Sps) → sets_of maps h.pic_parameter_set_id.value ≡ Some sets →
+        steps_outcome own_steps ≡ after_rules (judged (standing_demands begins sets.1 due maps (8 * unit.from) h)) (needs place ++ rules_then sets)
     with-sets sets n =
         ap (λ o. steps_outcome (steps_by mode o before unit h)) (ap (λ m. sets_of m h.pic_parameter_set_id.value) (sym maps-are) ∙ n)
-        ∙ ap (λ x. steps_outcome (rules_of mode x (is_idr_due before) (maps_of before) (runs_of before) (slice sets) ++ Tells (Said (slice_call (joined_to x (slice sets) (runs_of before)) (slice sets))) ∷ [])) (sym b)
+        ∙ ap (λ x. steps_outcome (rules_of mode x (is_idr_due before) (maps_of before) (runs_of before) (slice sets) ++
+        Tells (Said (slice_call (joined_to x (slice sets) (runs_of before)) (slice sets))) ∷ [])) (sym b)
         ∙ ap (λ x. steps_outcome (rules_of mode begins x (maps_of before) (runs_of before) (slice sets) ++ Tells (call sets) ∷ [])) (sym due-is)
         ∙ ap (λ m. steps_outcome (rules_of mode begins due m (runs_of before) (slice sets) ++ Tells (call sets) ∷ [])) (sym maps-are)
         ∙ ap steps_outcome (standing-rest begins sets (Tells (call sets) ∷ []))
         ∙ needs-first (standing_demands begins sets.1 due maps (8 * unit.from) h) (needs place ++ rules_then sets)
 
     -- where it stands is against a rule
-    pub at-standing : (sets : Pps × Sps) → sets_of maps h.pic_parameter_set_id.value ≡ Some sets → (e : Stop) → Err e ≡ judged (standing_demands begins sets.1 due maps (8 * unit.from) h) → steps_outcome own_steps ≡ answers (Err e)
+    pub at-standing : (sets : Pps × Sps) → sets_of maps h.pic_parameter_set_id.value ≡ Some sets →
+        (e : Stop) → Err e ≡ judged (standing_demands begins sets.1 due maps (8 * unit.from) h) → steps_outcome own_steps ≡ answers (Err e)
     at-standing sets n e p = with-sets sets n ∙ ap (λ r. after_rules r (needs place ++ rules_then sets)) (sym p)
 
-    module _ (sets : Pps × Sps) (named : sets_of maps h.pic_parameter_set_id.value ≡ Some sets) (x : Unit {0}) (stands : Ok x ≡ judged (standing_demands begins sets.1 due maps (8 * unit.from) h)) where
+    module _ (sets : Pps × Sps) (named : sets_of maps h.pic_parameter_set_id.value ≡ Some sets) (x : Unit {0})
+        (stands : Ok x ≡ judged (standing_demands begins sets.1 due maps (8 * unit.from) h)) where
       after-standing : steps_outcome own_steps ≡ steps_outcome (needs place ++ rules_then sets)
       after-standing = with-sets sets named ∙ ap (λ r. after_rules r (needs place ++ rules_then sets)) (sym stands)
 

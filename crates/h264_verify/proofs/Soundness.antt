@@ -33,35 +33,44 @@ closes-sound true (p ∷ ps) s m = (s.0, λ e. m.0, s.2)
 closes-sound false (p ∷ ps) s m = s
 
 -- after a unit that is no slice
-pub passed-sound : (ends on : Bool) (pictures : List CodedPicture) → AreSound (has_ended on false) pictures → Met (needs (if ends then (if on then end_of_picture pictures else []) else [])) → AreSound (has_ended (not ends && on) false) pictures
+pub passed-sound : (ends on : Bool) (pictures : List CodedPicture) → AreSound (has_ended on false) pictures →
+    Met (needs (if ends then (if on then end_of_picture pictures else []) else [])) → AreSound (has_ended (not ends && on) false) pictures
 passed-sound true on pictures s m = closes-sound on pictures s m
 passed-sound false on pictures s m = s
 
 -- before a slice
-pub begun-sound : (begins on : Bool) (pictures : List CodedPicture) → AreSound (has_ended on false) pictures → Met (needs (if begins then (if on then end_of_picture pictures else []) else [])) → AreSound (has_ended on begins) pictures
+pub begun-sound : (begins on : Bool) (pictures : List CodedPicture) → AreSound (has_ended on false) pictures →
+    Met (needs (if begins then (if on then end_of_picture pictures else []) else [])) → AreSound (has_ended on begins) pictures
 begun-sound true on pictures s m = sound-ended on pictures (closes-sound on pictures s m)
 begun-sound false on pictures s m = s
 
 -- ---- the gap before a picture
 
-filled-on : (o : Option References) (steps : References → List Step) (next : References → Option References) → is_some o ≡ true → Met (missing_on o steps) → ((held : References) → Met (steps held) → is_some (next held) ≡ true) → is_some (option_and_then next o) ≡ true
+filled-on : (o : Option References) (steps : References → List Step) (next : References → Option References) → is_some o ≡ true → Met (missing_on o steps) →
+    ((held : References) → Met (steps held) → is_some (next held) ≡ true) → is_some (option_and_then next o) ≡ true
 filled-on None steps next t m f = cc
 filled-on (Some held) steps next t m f = f held m
 
 -- its missing numbers were filled
-missing-filled : (mode : Mode) (bit : ℕ) (n : Numbering) (numbers : List ℕ) (refs : References) (b : Buffered Shown) → Met (missing_steps mode bit n numbers refs b) → is_some (all_filled n numbers refs) ≡ true
+missing-filled : (mode : Mode) (bit : ℕ) (n : Numbering) (numbers : List ℕ) (refs : References) (b : Buffered Shown) →
+    Met (missing_steps mode bit n numbers refs b) → is_some (all_filled n numbers refs) ≡ true
 missing-filled mode bit n [] refs b m = refl
 missing-filled mode bit n (number ∷ numbers) refs b m =
-    filled-on (filled (record n { frame_num = number }) refs) (λ held. told_frames mode (missing_turn held b).written ++ missing_steps mode bit n numbers held (missing_turn held b).buffer) (all_filled n numbers) m.0 m.1
-    (λ held k. missing-filled mode bit n numbers held (missing_turn held b).buffer (met-last (told_frames mode (missing_turn held b).written) (missing_steps mode bit n numbers held (missing_turn held b).buffer) k))
+    filled-on (filled (record n { frame_num = number }) refs)
+    (λ held. told_frames mode (missing_turn held b).written ++ missing_steps mode bit n numbers held (missing_turn held b).buffer) (all_filled n numbers)
+    m.0 m.1
+    (λ held k. missing-filled mode bit n numbers held (missing_turn held b).buffer
+    (met-last (told_frames mode (missing_turn held b).written) (missing_steps mode bit n numbers held (missing_turn held b).buffer) k))
 
 -- where a slice that begins a picture has met its rules
-pub begun-filled : (begins due : Bool) (maps : Maps) (pictures : List CodedPicture) (s : CodedSlice) → Met (rules_of modes.Full begins due maps pictures s) → begins ≡ true → has_gap_filled (record { first = s; later = [] }) pictures ≡ true
+pub begun-filled : (begins due : Bool) (maps : Maps) (pictures : List CodedPicture) (s : CodedSlice) → Met (rules_of modes.Full begins due maps pictures s) →
+    begins ≡ true → has_gap_filled (record { first = s; later = [] }) pictures ≡ true
 begun-filled true due maps pictures s m b =
     let n = numbering_of s.sps s.header in
     let missing = missing_before (record { first = s; later = [] }) pictures in
     let steps = missing_steps modes.Full s.header.frame_num.bit n missing (held_after pictures) (after_all pictures).buffer in
-    missing-filled modes.Full s.header.frame_num.bit n missing (held_after pictures) (after_all pictures).buffer (met-first steps _ (met-first (steps ++ _) _ m.1.1.1.1.1.1))
+    missing-filled modes.Full s.header.frame_num.bit n missing (held_after pictures) (after_all pictures).buffer
+    (met-first steps _ (met-first (steps ++ _) _ m.1.1.1.1.1.1))
 begun-filled false due maps pictures s m b = cc
 
 -- ---- some of these pictures
@@ -74,7 +83,8 @@ ended-are true (p ∷ ps) s = s.2
 ended-are false (p ∷ ps) s = s
 
 -- each with those before it
-pub sound-at : (ended : Bool) (later : List CodedPicture) (p : CodedPicture) (ps : List CodedPicture) → AreSound ended (later ++ p ∷ ps) → (e : Bool) × AreSound e (p ∷ ps)
+pub sound-at : (ended : Bool) (later : List CodedPicture) (p : CodedPicture) (ps : List CodedPicture) → AreSound ended (later ++ p ∷ ps) → (e : Bool) ×
+    AreSound e (p ∷ ps)
 sound-at ended [] p ps s = (ended, s)
 sound-at ended (q ∷ later) p ps s = sound-at true later p ps s.2
 

@@ -1,5 +1,6 @@
 -- What a sink is told of a stream, or a front of it, is one list of calls.
-use Rattle.std.proofs.Common.{◌≡◌, ℕ, ◌*◌, arith, append_assoc, ⊎_elim, Bool, true, false, List, [], ◌∷◌, ◌++◌, length, ◌⊎◌, inl, inr, Option, Some, None, Result, Ok, Err, refl, ap, sym, ◌∙◌, subst, if◌then◌else◌}
+use Rattle.std.proofs.Common.{◌≡◌, ℕ, ◌*◌, arith, append_assoc, ⊎_elim, Bool, true, false, List, [], ◌∷◌, ◌++◌, length, ◌⊎◌, inl, inr, Option, Some, None}
+use Rattle.std.proofs.Common.{Result, Ok, Err, refl, ap, sym, ◌∙◌, subst, if◌then◌else◌}
 use Rattle.std.proofs.lemmas.List.{append-nil}
 use Rattle.h264_verify.specs.Units.{terms_of}
 use Rattle.h264_base.specs.declared.mode.Target.{Target}
@@ -159,7 +160,8 @@ module _ (before : History) (p : CodedPicture) (ps : List CodedPicture) (runs : 
   -- the end of the picture, and whatever comes after it
   closing-fair : (more : List Step) → AreFair (closing_frames modes.Full before ++ more)
   closing-fair more =
-      let go : AreFair (end_frames modes.Full (runs_of before) ++ more) = subst (λ pictures. AreFair (end_frames modes.Full pictures ++ more)) (sym runs) refl in
+      let go : AreFair (end_frames modes.Full (runs_of before) ++ more) =
+      subst (λ pictures. AreFair (end_frames modes.Full pictures ++ more)) (sym runs) refl in
       subst (λ (b : Bool). AreFair ((if b then end_frames modes.Full (runs_of before) else []) ++ more)) (sym on) go
 
   closes-fair : AreFair (closing_frames modes.Full before)
@@ -168,17 +170,21 @@ module _ (before : History) (p : CodedPicture) (ps : List CodedPicture) (runs : 
   ends-fair : (unit : NalUnit) → AreFair (end_steps_at before unit)
   ends-fair unit =
       let kind = nal_unit_type (header_of unit) in
-      steps-fair (whole_at modes.Full kind before) (needs (closing_at kind before) ++ frames_at modes.Full kind before) (if-fair (ends_picture kind) (whole_steps modes.Full before) whole-fair)
-      (steps-fair (needs (closing_at kind before)) (frames_at modes.Full kind before) (needs-fair (closing_at kind before)) (if-fair (ends_picture kind) (closing_frames modes.Full before) closes-fair))
+      steps-fair (whole_at modes.Full kind before) (needs (closing_at kind before) ++ frames_at modes.Full kind before)
+      (if-fair (ends_picture kind) (whole_steps modes.Full before) whole-fair)
+      (steps-fair (needs (closing_at kind before)) (frames_at modes.Full kind before) (needs-fair (closing_at kind before))
+      (if-fair (ends_picture kind) (closing_frames modes.Full before) closes-fair))
 
   later-fair : (unit : NalUnit) (h : Header) → begins_at before h ≡ false → (o : Option (Pps × Sps)) → AreFair (steps_by modes.Full o before unit h)
   later-fair unit h b None = tt
   later-fair unit h b (Some sets) =
       let s = with_sets unit h [] sets in
-      steps-fair (rules_of modes.Full (begins_at before h) (is_idr_due before) (maps_of before) (runs_of before) s) (Tells (Said (slice_call (joined_to (begins_at before h) s (runs_of before)) s)) ∷ [])
+      steps-fair (rules_of modes.Full (begins_at before h) (is_idr_due before) (maps_of before) (runs_of before) s)
+      (Tells (Said (slice_call (joined_to (begins_at before h) s (runs_of before)) s)) ∷ [])
       (subst (λ (x : Bool). AreFair (rules_of modes.Full x (is_idr_due before) (maps_of before) (runs_of before) s)) (sym b) (tt)) tt
 
-  begins-fair : (unit : NalUnit) (h : Header) (b : Bool) → begins_at before h ≡ b → AreFair ((if b then closing_frames modes.Full before else []) ++ steps_by modes.Full (sets_at before h) before unit h)
+  begins-fair : (unit : NalUnit) (h : Header) (b : Bool) → begins_at before h ≡ b →
+      AreFair ((if b then closing_frames modes.Full before else []) ++ steps_by modes.Full (sets_at before h) before unit h)
   begins-fair unit h true e = closing-fair (steps_by modes.Full (sets_at before h) before unit h)
   begins-fair unit h false e = later-fair unit h e (sets_at before h)
 
@@ -202,9 +208,11 @@ module _ (before : History) (p : CodedPicture) (ps : List CodedPicture) (runs : 
   end-fair bit =
       let rest = closing_frames modes.Full before ++ (needs (picture_demand modes.Full before bit ∷ []) ++ last_frames modes.Full (runs_of before)) in
       steps-fair (whole_steps modes.Full before) (needs (closing_demands before) ++ rest) whole-fair
-      (steps-fair (needs (closing_demands before)) rest (needs-fair (closing_demands before)) (closing-fair (needs (picture_demand modes.Full before bit ∷ []) ++ last_frames modes.Full (runs_of before))))
+      (steps-fair (needs (closing_demands before)) rest (needs-fair (closing_demands before))
+      (closing-fair (needs (picture_demand modes.Full before bit ∷ []) ++ last_frames modes.Full (runs_of before))))
 
-  after-fair : (target : Target) (units : List NalUnit) (tail : Tail) (end : ℕ) (stop : Stop) (calls : List Told) → IsStopAfter (terms_of modes.Full target) before (remainder units tail end) stop calls → IsFair calls
+  after-fair : (target : Target) (units : List NalUnit) (tail : Tail) (end : ℕ) (stop : Stop) (calls : List Told) →
+      IsStopAfter (terms_of modes.Full target) before (remainder units tail end) stop calls → IsFair calls
   after-fair target units tail end stop calls (AtNext unit later e h) = stop-keeps IsFair fair-closed target before unit (fair-unit unit) stop calls h
   after-fair target units tail end stop calls (AtTail e h n) = none-fair calls n
   after-fair target units tail end stop calls (AtEnd e t h) = stop-fair (end_steps modes.Full before (8 * end)) (end-fair (8 * end)) calls stop h
@@ -228,26 +236,34 @@ told-unit : (target : Target) (before : History) (r : ReadUnit) (calls : List To
 told-unit target before r calls l =
     let n = length (runs_of before) in
     record {
-      of = course-keeps (AreOf n) (of-closed n) (body_of r.unit) (unit_course (terms_of modes.Full target) before r.unit) (unit-keeps (AreOf n) target before r.unit (of-unit target before r.unit)) calls (Ok r.content) l.runs;
+      of = course-keeps (AreOf n) (of-closed n) (body_of r.unit) (unit_course (terms_of modes.Full target) before r.unit)
+          (unit-keeps (AreOf n) target before r.unit (of-unit target before r.unit)) calls (Ok r.content) l.runs;
       fair = λ p ps runs on.
           let Q = IsFair before p ps runs on in
-          course-keeps Q (fair-closed before p ps runs on) (body_of r.unit) (unit_course (terms_of modes.Full target) before r.unit) (unit-keeps Q target before r.unit (fair-unit before p ps runs on r.unit)) calls (Ok r.content) l.runs;
+          course-keeps Q (fair-closed before p ps runs on) (body_of r.unit) (unit_course (terms_of modes.Full target) before r.unit)
+          (unit-keeps Q target before r.unit (fair-unit before p ps runs on r.unit)) calls (Ok r.content) l.runs;
     }
 
 -- the end of the input
 told-end : (before : History) (bit : ℕ) (calls : List Told) → AreMet (end_steps modes.Full before bit) calls → IsTold before calls
 told-end before bit calls h = record {
-  of = subst (AreOf (length (runs_of before))) (ap (λ (o : Outcome (Unit {0})). o.calls) (met-is (end_steps modes.Full before bit) calls h)) (end-of modes.Full before bit);
+  of = subst (AreOf (length (runs_of before))) (ap (λ (o : Outcome (Unit {0})). o.calls) (met-is (end_steps modes.Full before bit) calls h))
+      (end-of modes.Full before bit);
   fair = λ p ps runs on. met-fair before p ps runs on (end_steps modes.Full before bit) (end-fair before p ps runs on bit) calls h;
 }
 
 -- a stop
-following-of : (target : Target) (before : History) (units : List NalUnit) (tail : Tail) (end : ℕ) (stop : Stop) (calls : List Told) → IsStopAfter (terms_of modes.Full target) before (remainder units tail end) stop calls → AreOf (length (runs_of before)) calls
-following-of target before units tail end stop calls (AtNext unit later e h) = stop-keeps (AreOf (length (runs_of before))) (of-closed (length (runs_of before))) target before unit (of-unit target before unit) stop calls h
+following-of : (target : Target) (before : History) (units : List NalUnit) (tail : Tail) (end : ℕ) (stop : Stop) (calls : List Told) →
+    IsStopAfter (terms_of modes.Full target) before (remainder units tail end) stop calls → AreOf (length (runs_of before)) calls
+following-of target before units tail end stop calls (AtNext unit later e h) =
+    stop-keeps (AreOf (length (runs_of before))) (of-closed (length (runs_of before))) target before unit (of-unit target before unit) stop calls h
 following-of target before units tail end stop calls (AtTail e h n) = subst (AreOf (length (runs_of before))) (sym n) tt
-following-of target before units tail end stop calls (AtEnd e t h) = subst (AreOf (length (runs_of before))) (ap (λ (o : Outcome (Unit {0})). o.calls) (stop-is (end_steps modes.Full before (8 * end)) calls stop h)) (end-of modes.Full before (8 * end))
+following-of target before units tail end stop calls (AtEnd e t h) =
+    subst (AreOf (length (runs_of before))) (ap (λ (o : Outcome (Unit {0})). o.calls) (stop-is (end_steps modes.Full before (8 * end)) calls stop h))
+    (end-of modes.Full before (8 * end))
 
-told-stop : (target : Target) (before : History) (units : List NalUnit) (tail : Tail) (end : ℕ) (stop : Stop) (calls : List Told) → IsStopAfter (terms_of modes.Full target) before (remainder units tail end) stop calls → IsTold before calls
+told-stop : (target : Target) (before : History) (units : List NalUnit) (tail : Tail) (end : ℕ) (stop : Stop) (calls : List Told) →
+    IsStopAfter (terms_of modes.Full target) before (remainder units tail end) stop calls → IsTold before calls
 told-stop target before units tail end stop calls h = record {
   of = following-of target before units tail end stop calls h;
   fair = λ p ps runs on. after-fair before p ps runs on target units tail end stop calls h;
@@ -255,14 +271,16 @@ told-stop target before units tail end stop calls h = record {
 
 -- it is of the pictures that have ended, or of all, of which the newest has then ended
 abbrev IsEnded : History → List Told → Type 0
-IsEnded before calls = AreOf (ended_in before) calls ⊎ (AreOf (length (runs_of before)) calls × ((frames : ℕ → Frame) → AreDecoded frames calls → HasFrame frames (runs_of before)))
+IsEnded before calls = AreOf (ended_in before) calls ⊎
+    (AreOf (length (runs_of before)) calls × ((frames : ℕ → Frame) → AreDecoded frames calls → HasFrame frames (runs_of before)))
 
 told-ended : (before : History) (calls : List Told) → IsTold before calls → IsEnded before calls
 told-ended before calls t = by (goes_on before) refl (runs_of before) refl
   where
     by : (on : Bool) → goes_on before ≡ on → (pictures : List CodedPicture) → runs_of before ≡ pictures → IsEnded before calls
     by false on pictures runs =
-        let same : ended_in before ≡ length (runs_of before) = ap (λ (b : Bool). length (ended_pictures b false (runs_of before))) on ∙ ended-whole (runs_of before) in
+        let same : ended_in before ≡ length (runs_of before) = ap (λ (b : Bool). length (ended_pictures b false (runs_of before))) on ∙
+        ended-whole (runs_of before) in
         inl (subst (λ n. AreOf n calls) (sym same) t.of)
     by true on [] runs = inr (t.of, λ frames d. subst (HasFrame frames) (sym runs) tt)
     by true on (p ∷ ps) runs = ⊎_elim
@@ -271,7 +289,8 @@ told-ended before calls t = by (goes_on before) refl (runs_of before) refl
         (fair-frames before p ps runs on (ended_in before) calls (t.fair p ps runs on))
 
 -- the newest of these pictures has ended too
-newest-frames : (frames : ℕ → Frame) (on : Bool) (pictures : List CodedPicture) → HaveFrames frames (ended_pictures on false pictures) → HasFrame frames pictures → HaveFrames frames pictures
+newest-frames : (frames : ℕ → Frame) (on : Bool) (pictures : List CodedPicture) → HaveFrames frames (ended_pictures on false pictures) →
+    HasFrame frames pictures → HaveFrames frames pictures
 newest-frames frames on [] h k = tt
 newest-frames frames true (p ∷ ps) h k = (k, h)
 newest-frames frames false (p ∷ ps) h k = h
@@ -279,7 +298,8 @@ newest-frames frames false (p ∷ ps) h k = h
 -- ---- a front of what is told
 
 -- a front of two lists in turn is one of the first, or has all of that and a front of the second
-pub front-of : (told rest xs ys : List Told) → told ++ rest ≡ xs ++ ys → ((more : List Told) × (xs ≡ told ++ more)) ⊎ ((part : List Told) × (told ≡ xs ++ part) × (ys ≡ part ++ rest))
+pub front-of : (told rest xs ys : List Told) → told ++ rest ≡ xs ++ ys → ((more : List Told) × (xs ≡ told ++ more)) ⊎
+    ((part : List Told) × (told ≡ xs ++ part) × (ys ≡ part ++ rest))
 front-of [] rest xs ys e = inl (xs, refl)
 front-of (t ∷ told) rest [] ys e = inr (t ∷ told, refl, sym e)
 front-of (t ∷ told) rest (x ∷ xs) ys e =
@@ -287,70 +307,101 @@ front-of (t ∷ told) rest (x ∷ xs) ys e =
     let tail : told ++ rest ≡ xs ++ ys = cc in
     by head (front-of told rest xs ys tail)
   where
-    by : t ≡ x → ((more : List Told) × (xs ≡ told ++ more)) ⊎ ((part : List Told) × (told ≡ xs ++ part) × (ys ≡ part ++ rest)) → ((more : List Told) × (x ∷ xs ≡ (t ∷ told) ++ more)) ⊎ ((part : List Told) × (t ∷ told ≡ (x ∷ xs) ++ part) × (ys ≡ part ++ rest))
+    by : t ≡ x → ((more : List Told) × (xs ≡ told ++ more)) ⊎ ((part : List Told) × (told ≡ xs ++ part) × (ys ≡ part ++ rest)) →
+        ((more : List Told) × (x ∷ xs ≡ (t ∷ told) ++ more)) ⊎ ((part : List Told) × (t ∷ told ≡ (x ∷ xs) ++ part) × (ys ≡ part ++ rest))
     by head (inl m) = inl (m.0, ap (λ (y : Told). y ∷ xs) (sym head) ∙ ap (λ (l : List Told). t ∷ l) m.1)
     by head (inr m) = inr (m.0, ap (λ (y : Told). y ∷ told) head ∙ ap (λ (l : List Told). x ∷ l) m.1, m.2)
 
 module _ (frames others : ℕ → Frame) where
   -- after legal units
-  after-output : (target : Target) (before : History) (first last all : List Told) → AreLegal (terms_of modes.Full target) before first → all ≡ first ++ last → IsEnded before last → AreDecoded frames all → AreDecoded others all → calls_of frames all ≡ calls_of others all
+  after-output : (target : Target) (before : History) (first last all : List Told) → AreLegal (terms_of modes.Full target) before first →
+      all ≡ first ++ last → IsEnded before last → AreDecoded frames all → AreDecoded others all → calls_of frames all ≡ calls_of others all
   after-output target before first last all l e (inl of) d d' =
       let pictures = ended_pictures (goes_on before) false (runs_of before) in
       let one = decoded-first frames first last (subst (AreDecoded frames) e d) in
       let other = decoded-first others first last (subst (AreDecoded others) e d') in
-      let shown = shown-alike frames others pictures (legal-family frames others target before first l one other) (legal-frames target before first l frames one) (legal-frames target before first l others other) in
-      calls-same frames others (length pictures) all shown (subst (AreOf (length pictures)) (sym e) (of-both (length pictures) first last (legal-of target before first l) of))
+      let shown = shown-alike frames others pictures (legal-family frames others target before first l one other)
+      (legal-frames target before first l frames one) (legal-frames target before first l others other) in
+      calls-same frames others (length pictures) all shown
+      (subst (AreOf (length pictures)) (sym e) (of-both (length pictures) first last (legal-of target before first l) of))
   after-output target before first last all l e (inr more) d d' =
       let pictures = runs_of before in
       let n = length pictures in
       let whole : (family : ℕ → Frame) → AreDecoded family all → HaveFrames family pictures = λ family x.
       let y = subst (AreDecoded family) e x in
-      newest-frames family (goes_on before) pictures (legal-frames target before first l family (decoded-first family first last y)) (more.1 family (decoded-last family first last y)) in
-      let shown = shown-alike frames others pictures (same-on frames others pictures (legal-read target before first l) (whole frames d) (whole others d')) (whole frames d) (whole others d') in
+      newest-frames family (goes_on before) pictures (legal-frames target before first l family (decoded-first family first last y))
+      (more.1 family (decoded-last family first last y)) in
+      let shown = shown-alike frames others pictures (same-on frames others pictures (legal-read target before first l) (whole frames d) (whole others d'))
+      (whole frames d) (whole others d') in
       let of = of-both n first last (of-more (ended_in before) n first (ended-few (goes_on before) pictures) (legal-of target before first l)) more.0 in
       calls-same frames others n all shown (subst (AreOf n) (sym e) of)
 
-  part-output : (target : Target) (before : History) (first last part rest told : List Told) → AreLegal (terms_of modes.Full target) before first → IsTold before last → told ≡ first ++ part → last ≡ part ++ rest → AreDecoded frames told → AreDecoded others told → calls_of frames told ≡ calls_of others told
-  part-output target before first last part rest told l t e p d d' = after-output target before first part told l e (told-ended before part (told-first before last part rest p t)) d d'
+  part-output : (target : Target) (before : History) (first last part rest told : List Told) → AreLegal (terms_of modes.Full target) before first →
+      IsTold before last → told ≡ first ++ part → last ≡ part ++ rest → AreDecoded frames told → AreDecoded others told →
+      calls_of frames told ≡ calls_of others told
+  part-output target before first last part rest told l t e p d d' =
+      after-output target before first part told l e (told-ended before part (told-first before last part rest p t)) d d'
 
-  legal-front : (target : Target) (before : History) (calls told rest : List Told) → AreLegal (terms_of modes.Full target) before calls → told ++ rest ≡ calls → AreDecoded frames told → AreDecoded others told → calls_of frames told ≡ calls_of others told
+  legal-front : (target : Target) (before : History) (calls told rest : List Told) → AreLegal (terms_of modes.Full target) before calls →
+      told ++ rest ≡ calls → AreDecoded frames told → AreDecoded others told → calls_of frames told ≡ calls_of others told
   legal-front target [] calls [] rest l e d d' = refl
   legal-front target [] calls (t ∷ told) rest l e d d' = absurd (let none : t ∷ (told ++ rest) ≡ [] = e ∙ l in cc)
   legal-front target (r ∷ before) calls told rest l e d d' = ⊎_elim
       (λ (m : (more : List Told) × (l.0 ≡ told ++ more)). legal-front target before l.0 told m.0 l.2 (sym m.1) d d')
-      (λ (m : (part : List Told) × (told ≡ l.0 ++ part) × (l.1 ≡ part ++ rest)). part-output target before l.0 l.1 m.0 rest told l.2 (told-unit target before r l.1 l.3) m.1 m.2 d d')
+      (λ (m : (part : List Told) × (told ≡ l.0 ++ part) × (l.1 ≡ part ++ rest)). part-output target before l.0 l.1 m.0 rest told l.2
+      (told-unit target before r l.1 l.3) m.1 m.2 d d')
       (front-of told rest l.0 l.1 (e ∙ l.4))
 
-  after-front : (target : Target) (before : History) (first last told rest : List Told) → AreLegal (terms_of modes.Full target) before first → IsTold before last → told ++ rest ≡ first ++ last → AreDecoded frames told → AreDecoded others told → calls_of frames told ≡ calls_of others told
+  after-front : (target : Target) (before : History) (first last told rest : List Told) → AreLegal (terms_of modes.Full target) before first →
+      IsTold before last → told ++ rest ≡ first ++ last → AreDecoded frames told → AreDecoded others told → calls_of frames told ≡ calls_of others told
   after-front target before first last told rest l t e d d' = ⊎_elim
       (λ (m : (more : List Told) × (first ≡ told ++ more)). legal-front target before first told m.0 l (sym m.1) d d')
       (λ (m : (part : List Told) × (told ≡ first ++ part) × (last ≡ part ++ rest)). part-output target before first last m.0 rest told l t m.1 m.2 d d')
       (front-of told rest first last e)
 
   -- a front of what is told of a stream up to its verdict
-  pub front-output : (target : Target) (bytes : List ℕ) (told rest : List Told) (answer : Result Summary Stop) → Verdict (terms_of modes.Full target) bytes (told ++ rest) answer → AreDecoded frames told → AreDecoded others told → calls_of frames told ≡ calls_of others told
-  front-output target bytes told rest (Ok summary) h d d' = after-front target h.units h.first h.last told rest h.legal (told-end h.units (8 * length bytes) h.last h.end) h.calls_are d d'
-  front-output target bytes told rest (Err stop) h d d' = after-front target h.before h.first h.last told rest h.legal (told-stop target h.before h.units h.tail (length bytes) stop h.last h.stops) h.calls_are d d'
+  pub front-output : (target : Target) (bytes : List ℕ) (told rest : List Told) (answer : Result Summary Stop) →
+      Verdict (terms_of modes.Full target) bytes (told ++ rest) answer → AreDecoded frames told → AreDecoded others told →
+      calls_of frames told ≡ calls_of others told
+  front-output target bytes told rest (Ok summary) h d d' =
+      after-front target h.units h.first h.last told rest h.legal (told-end h.units (8 * length bytes) h.last h.end) h.calls_are d d'
+  front-output target bytes told rest (Err stop) h d d' =
+      after-front target h.before h.first h.last told rest h.legal (told-stop target h.before h.units h.tail (length bytes) stop h.last h.stops) h.calls_are d
+      d'
 
   -- all of it
-  pub verdict-output : (target : Target) (bytes : List ℕ) (all : List Told) (answer : Result Summary Stop) → Verdict (terms_of modes.Full target) bytes all answer → AreDecoded frames all → AreDecoded others all → calls_of frames all ≡ calls_of others all
-  verdict-output target bytes all answer h d d' = front-output target bytes all [] answer (subst (λ (l : List Told). Verdict (terms_of modes.Full target) bytes l answer) (sym (append-nil all)) h) d d'
+  pub verdict-output : (target : Target) (bytes : List ℕ) (all : List Told) (answer : Result Summary Stop) →
+      Verdict (terms_of modes.Full target) bytes all answer → AreDecoded frames all → AreDecoded others all → calls_of frames all ≡ calls_of others all
+  verdict-output target bytes all answer h d d' =
+      front-output target bytes all [] answer (subst (λ (l : List Told). Verdict (terms_of modes.Full target) bytes l answer) (sym (append-nil all)) h) d d'
 
   -- what legal units tell
-  pub legal-output : (target : Target) (before : History) (told : List Told) → AreLegal (terms_of modes.Full target) before told → AreDecoded frames told → AreDecoded others told → calls_of frames told ≡ calls_of others told
+  pub legal-output : (target : Target) (before : History) (told : List Told) → AreLegal (terms_of modes.Full target) before told → AreDecoded frames told →
+      AreDecoded others told → calls_of frames told ≡ calls_of others told
   legal-output target before told l d d' = legal-front target before told told [] l (append-nil told) d d'
 
 -- the longer of two fronts begins with the shorter
-longer : (frames others : ℕ → Frame) (target : Target) (bytes : List ℕ) (told other part more : List Told) (answer : Result Summary Stop) → other ≡ told ++ part → Verdict (terms_of modes.Full target) bytes (other ++ more) answer → AreDecoded frames told → AreDecoded others other → (rest : List Call) × (calls_of others other ≡ calls_of frames told ++ rest)
+longer : (frames others : ℕ → Frame) (target : Target) (bytes : List ℕ) (told other part more : List Told) (answer : Result Summary Stop) → other ≡ told ++
+    part → Verdict (terms_of modes.Full target) bytes (other ++ more) answer → AreDecoded frames told → AreDecoded others other → (rest : List Call) ×
+    (calls_of others other ≡ calls_of frames told ++ rest)
 longer frames others target bytes told other part more answer e v d d' =
     let first = decoded-first others told part (subst (AreDecoded others) e d') in
-    let front = subst (λ (l : List Told). Verdict (terms_of modes.Full target) bytes l answer) (ap (λ (l : List Told). l ++ more) e ∙ append_assoc told part more) v in
-    let same = front-output frames others target bytes told (part ++ more) answer front d first in
-    (calls_of others part, ap (λ (l : List Told). calls_of others l) e ∙ calls-both others told part ∙ ap (λ (l : List Call). l ++ calls_of others part) (sym same))
+    let front = subst (λ (l : List Told). Verdict (terms_of modes.Full target) bytes l answer)
+    (ap (λ (l : List Told). l ++ more) e ∙ append_assoc told part more) v in
+    let same = front-output frames others target bytes told (part ++ more) answer front d first in (
+      calls_of others part,
+      ap (λ (l : List Told). calls_of others l) e ∙ calls-both others told part ∙
+          ap (λ (l : List Call). l ++ calls_of others part) (sym same),
+    )
 
 -- two fronts, with two families: one begins with the other
-pub fronts-output : (target : Target) (bytes : List ℕ) (told rest other more : List Told) (answer another : Result Summary Stop) → Verdict (terms_of modes.Full target) bytes (told ++ rest) answer → Verdict (terms_of modes.Full target) bytes (other ++ more) another → (frames others : ℕ → Frame) → AreDecoded frames told → AreDecoded others other → IsFrontOf (calls_of frames told) (calls_of others other) ⊎ IsFrontOf (calls_of others other) (calls_of frames told)
+pub fronts-output : (target : Target) (bytes : List ℕ) (told rest other more : List Told) (answer another : Result Summary Stop) →
+    Verdict (terms_of modes.Full target) bytes (told ++ rest) answer → Verdict (terms_of modes.Full target) bytes (other ++ more) another →
+    (frames others : ℕ → Frame) → AreDecoded frames told → AreDecoded others other → IsFrontOf (calls_of frames told) (calls_of others other) ⊎
+    IsFrontOf (calls_of others other) (calls_of frames told)
 fronts-output target bytes told rest other more answer another v w frames others d d' = ⊎_elim
-    (λ (m : (extra : List Told) × (other ≡ told ++ extra)). let l = longer frames others target bytes told other m.0 more another m.1 w d d' in inl (record { rest = l.0; whole = l.1 }))
-    (λ (m : (part : List Told) × (told ≡ other ++ part) × (more ≡ part ++ rest)). let l = longer others frames target bytes other told m.0 rest answer m.1 v d' d in inr (record { rest = l.0; whole = l.1 }))
+    (λ (m : (extra : List Told) × (other ≡ told ++ extra)). let l = longer frames others target bytes told other m.0 more another m.1 w d d' in
+    inl (record { rest = l.0; whole = l.1 }))
+    (λ (m : (part : List Told) × (told ≡ other ++ part) × (more ≡ part ++ rest)). let l =
+    longer others frames target bytes other told m.0 rest answer m.1 v d' d in inr (record { rest = l.0; whole = l.1 }))
     (front-of told rest other more (one-verdict (terms_of modes.Full target) bytes (told ++ rest) (other ++ more) answer another v w).0)

@@ -1,5 +1,6 @@
 -- What derives for the target Baseline derives for MainIP, with the same elements and values.
-use Rattle.std.proofs.Common.{◌≡◌, ℕ, ◌*◌, ◌==◌, ◌||◌, ◌&&◌, Bool, true, false, List, [], ◌∷◌, ◌++◌, length, Result, Ok, Err, refl, ap, sym, ◌∙◌, subst, inl, inr, if◌then◌else◌}
+use Rattle.std.proofs.Common.{◌≡◌, ℕ, ◌*◌, ◌==◌, ◌||◌, ◌&&◌, Bool, true, false, List, [], ◌∷◌, ◌++◌, length, Result, Ok, Err, refl, ap, sym, ◌∙◌, subst, inl}
+use Rattle.std.proofs.Common.{inr, if◌then◌else◌}
 use Rattle.h264_base.specs.declared.mode.Mode.{Mode}
 use Rattle.h264_base.specs.declared.mode.Target.{Target}
 use Rattle.h264_base.specs.declared.mode.Target.TheVariants.{Baseline, MainIP}
@@ -37,7 +38,8 @@ follows-same : {A : Type 0} (g : Grammar A) → Follows g g
 follows-same g = record { same = λ body i v j e. refl }
 
 -- part by part
-module _ {A B : Type 0} (g g' : Grammar A) (f f' : A → Grammar B) (first : Follows g g') (rest : (x : A) → Follows (f x) (f' x)) (body : Body) (i : ℕ) (v : B) (j : ℕ) where
+module _ {A B : Type 0} (g g' : Grammar A) (f f' : A → Grammar B) (first : Follows g g') (rest : (x : A) → Follows (f x) (f' x)) (body : Body) (i : ℕ) (v : B)
+    (j : ℕ) where
   abbrev next : A → ℕ → Run B
   next x k = run (f x) body k
 
@@ -48,7 +50,8 @@ module _ {A B : Type 0} (g g' : Grammar A) (f f' : A → Grammar B) (first : Fol
   goes-same es (Ok p) h = ap (λ (r : Run B). let w : Run B = record { elements = es ++ r.elements; answer = r.answer } in w) ((rest p.0).same body p.1 v j h)
   goes-same es (Err s) h = refl
 
-  first-same : (a : Result (A × ℕ) Stop) → (run g body i).answer ≡ a → (going_on (run g body i).elements next a).answer ≡ Ok (v, j) → run g' body i ≡ run g body i
+  first-same : (a : Result (A × ℕ) Stop) → (run g body i).answer ≡ a → (going_on (run g body i).elements next a).answer ≡ Ok (v, j) →
+      run g' body i ≡ run g body i
   first-same (Ok p) e h = first.same body i p.0 p.1 e
   first-same (Err s) e h = absurd (cc)
 
@@ -64,7 +67,8 @@ follows-then : {A B : Type 0} {g g' : Grammar A} {f f' : A → Grammar B} → Fo
 follows-then {g} {g'} {f} {f'} first rest = record { same = λ body i v j h. then-same g g' f f' first rest body i v j h }
 
 -- a rule that is met where another is
-check-same : {A : Type 0} (holds holds' : Bool) (s : Stop) (r : Run A) (v : A) (j : ℕ) → (holds ≡ true → holds' ≡ true) → (if holds then r else stopped s).answer ≡ Ok (v, j) → (if holds' then r else stopped s) ≡ (if holds then r else stopped s)
+check-same : {A : Type 0} (holds holds' : Bool) (s : Stop) (r : Run A) (v : A) (j : ℕ) → (holds ≡ true → holds' ≡ true) →
+    (if holds then r else stopped s).answer ≡ Ok (v, j) → (if holds' then r else stopped s) ≡ (if holds then r else stopped s)
 check-same true true s r v j k h = refl
 check-same true false s r v j k h = absurd (let e : false ≡ true = k refl in cc)
 check-same false holds' s r v j k h = absurd (cc)
@@ -89,7 +93,9 @@ profile-follows n set0 h = by (n == 66) (n == 77) (n == 88) set0 h
 
 front-follows : Follows (profile_and_level Baseline) (profile_and_level MainIP)
 unfolding profile_and_level
-front-follows = follows-then (follows-same _) (λ profile. follows-then (follows-same _) (λ flags. follows-then (follows-check _ _ _ _ (profile-follows (natural profile.value) flags.set0)) (λ _. follows-same _)))
+front-follows = follows-then (follows-same _)
+    (λ profile. follows-then (follows-same _)
+    (λ flags. follows-then (follows-check _ _ _ _ (profile-follows (natural profile.value) flags.set0)) (λ _. follows-same _)))
 
 sps-follows : Follows (sps Baseline) (sps MainIP)
 unfolding sps
@@ -106,30 +112,37 @@ bipred-follows = follows-then (follows-same _) (λ e. follows-then (follows-chec
 pps-follows : Follows (pps Baseline) (pps MainIP)
 unfolding pps
 pps-follows =
-    follows-then (follows-same _) (λ id. follows-then (follows-same _) (λ sps. follows-then (follows-same _) (λ _. follows-then (follows-same _) (λ bottom. follows-then (follows-same _) (λ _.
-    follows-then (follows-same _) (λ l0. follows-then (follows-same _) (λ l1. follows-then weighted-follows (λ weighted. follows-then bipred-follows (λ bipred. follows-same _)))))))))
+    follows-then (follows-same _) (λ id. follows-then (follows-same _)
+    (λ sps. follows-then (follows-same _) (λ _. follows-then (follows-same _) (λ bottom. follows-then (follows-same _) (λ _.
+    follows-then (follows-same _) (λ l0. follows-then (follows-same _)
+    (λ l1. follows-then weighted-follows (λ weighted. follows-then bipred-follows (λ bipred. follows-same _)))))))))
 
 -- ---- units
 
 module _ (mode : Mode) where
-  content-follows : (kind : ℕ) (before : History) (unit : NalUnit) → Follows (content (terms_of mode Baseline) kind before unit) (content (terms_of mode MainIP) kind before unit)
+  content-follows : (kind : ℕ) (before : History) (unit : NalUnit) →
+      Follows (content (terms_of mode Baseline) kind before unit) (content (terms_of mode MainIP) kind before unit)
   unfolding content
   content-follows kind before unit =
       follows-if (kind == 7) (follows-then sps-follows (λ set. follows-same _))
       (follows-if (kind == 8) (follows-then pps-follows (λ set. follows-same _)) (follows-same (other_content mode kind before unit)))
 
-  says-follows : {A : Type 0} {g g' : Grammar A} → Follows g g' → (body : Body) (i : ℕ) (es : List Element) (v : A) (j : ℕ) → Says g body i es (Ok (v, j)) → Says g' body i es (Ok (v, j))
+  says-follows : {A : Type 0} {g g' : Grammar A} → Follows g g' → (body : Body) (i : ℕ) (es : List Element) (v : A) (j : ℕ) → Says g body i es (Ok (v, j)) →
+      Says g' body i es (Ok (v, j))
   says-follows {A} {g} {g'} f body i es v j s =
       let one = run-one g body i es (Ok (v, j)) s in
       let other = f.same body i v j (ap (λ (r : Run A). r.answer) one) ∙ one in
       subst (λ (r : Run A). Says g' body i r.elements r.answer) other (run-says g' body i)
 
   -- a course with another rest
-  takes-follows : (body : Body) (steps : List Step) (one other : Course) (c : Content) → ((calls : List Told) → Runs body one calls (Ok c) → Runs body other calls (Ok c)) → (calls : List Told) → Runs body (Takes steps one) calls (Ok c) → Runs body (Takes steps other) calls (Ok c)
+  takes-follows : (body : Body) (steps : List Step) (one other : Course) (c : Content) →
+      ((calls : List Told) → Runs body one calls (Ok c) → Runs body other calls (Ok c)) → (calls : List Told) → Runs body (Takes steps one) calls (Ok c) →
+      Runs body (Takes steps other) calls (Ok c)
   takes-follows body steps one other c h calls (inl r) = inl (r.0, r.1, r.2, h r.1 r.3, r.4)
   takes-follows body steps one other c h calls (inr r) = absurd (let e = r.2 in cc)
 
-  reads-follows : (body : Body) {g g' : Grammar Content} (next : Content → ℕ → Course) (c : Content) → Follows g g' → (calls : List Told) → Runs body (Reads g 0 next) calls (Ok c) → Runs body (Reads g' 0 next) calls (Ok c)
+  reads-follows : (body : Body) {g g' : Grammar Content} (next : Content → ℕ → Course) (c : Content) → Follows g g' →
+      (calls : List Told) → Runs body (Reads g 0 next) calls (Ok c) → Runs body (Reads g' 0 next) calls (Ok c)
   reads-follows body next c f calls (inl r) = inl (r.0, r.1, r.2, r.3, says-follows f body 0 r.0 r.1 r.2 r.4, r.5, r.6)
   reads-follows body next c f calls (inr r) = absurd (let e = r.4 in cc)
 
@@ -141,7 +154,8 @@ module _ (mode : Mode) where
   said_steps unit = Tells (Said (unit_call unit.from (header_of unit) (length unit.body))) ∷ []
 
   abbrev ending_steps : History → NalUnit → List Step
-  ending_steps before unit = whole_at mode (nal_unit_type (header_of unit)) before ++ (needs (closing_at (nal_unit_type (header_of unit)) before) ++ frames_at mode (nal_unit_type (header_of unit)) before)
+  ending_steps before unit = whole_at mode (nal_unit_type (header_of unit)) before ++
+      (needs (closing_at (nal_unit_type (header_of unit)) before) ++ frames_at mode (nal_unit_type (header_of unit)) before)
 
   abbrev after_content : History → NalUnit → Content → ℕ → Course
   after_content before unit found bit = Takes (content_steps mode before unit found) (data_course mode before unit found bit)
@@ -149,7 +163,9 @@ module _ (mode : Mode) where
   abbrev read_for : Target → History → NalUnit → Course
   read_for target before unit = Reads (content (terms_of mode target) (nal_unit_type (header_of unit)) before unit) 0 (after_content before unit)
 
-  unit-follows : (before : History) (unit : NalUnit) (c : Content) (calls : List Told) → Runs (body_of unit) (unit_course (terms_of mode Baseline) before unit) calls (Ok c) → Runs (body_of unit) (unit_course (terms_of mode MainIP) before unit) calls (Ok c)
+  unit-follows : (before : History) (unit : NalUnit) (c : Content) (calls : List Told) →
+      Runs (body_of unit) (unit_course (terms_of mode Baseline) before unit) calls (Ok c) →
+      Runs (body_of unit) (unit_course (terms_of mode MainIP) before unit) calls (Ok c)
   unit-follows before unit c calls r =
       let body = body_of unit in
       let ended : Target → Course = λ target. Takes (ending_steps before unit) (read_for target before unit) in
@@ -162,9 +178,16 @@ module _ (mode : Mode) where
 
   legal-follows : (units : History) (calls : List Told) → AreLegal (terms_of mode Baseline) units calls → AreLegal (terms_of mode MainIP) units calls
   legal-follows [] calls l = l
-  legal-follows (r ∷ before) calls l = (l.0, l.1, legal-follows before l.0 l.2, record { sound = l.3.sound; runs = unit-follows before r.unit r.content l.1 l.3.runs }, l.4)
+  legal-follows (r ∷ before) calls l = (
+    l.0,
+    l.1,
+    legal-follows before l.0 l.2,
+    record { sound = l.3.sound; runs = unit-follows before r.unit r.content l.1 l.3.runs },
+    l.4,
+  )
 
-  pub holds-follows : (bytes : List ℕ) (told : List Told) (summary : Summary) → Holds (terms_of mode Baseline) bytes told summary → Holds (terms_of mode MainIP) bytes told summary
+  pub holds-follows : (bytes : List ℕ) (told : List Told) (summary : Summary) → Holds (terms_of mode Baseline) bytes told summary →
+      Holds (terms_of mode MainIP) bytes told summary
   holds-follows bytes told summary h = record {
     units = h.units;
     stream = h.stream;

@@ -1,5 +1,6 @@
 -- The fold over the units says what the verdict's relation says, and nothing else does.
-use Rattle.std.proofs.Common.{OnOk, IfErr, Option, Some, None, ◌≡◌, ℕ, ◌+◌, ◌*◌, inl, inr, List, [], ◌∷◌, ◌++◌, length, take, drop, get_or, ◌<◌, Result, Ok, Err, refl, ap, sym, ◌∙◌, subst, arith, append_assoc, MatchResult}
+use Rattle.std.proofs.Common.{OnOk, IfErr, Option, Some, None, ◌≡◌, ℕ, ◌+◌, ◌*◌, inl, inr, List, [], ◌∷◌, ◌++◌, length, take, drop, get_or, ◌<◌, Result, Ok}
+use Rattle.std.proofs.Common.{Err, refl, ap, sym, ◌∙◌, subst, arith, append_assoc, MatchResult}
 use Rattle.std.specs.List.{flat_map}
 use Rattle.std.proofs.lemmas.List.{append-nil}
 use Rattle.h264_verify.specs.declared.state.Terms.{Terms}
@@ -33,34 +34,43 @@ use Rattle.h264_verify.specs.StepOutcome.{steps_outcome, course_outcome}
 use Rattle.h264_verify.specs.UnitOutcome.{unit_outcome, end_outcome}
 use Rattle.h264_verify.specs.Progress.{Progress, IsFresh}
 use Rattle.h264_verify.specs.Feeding.{standing_after, GoesOn, StopsOn, FinishesOn, FedOn, JudgesWith, WasFed, IsFed}
-use Rattle.h264_verify.specs.Verdict.{IsSound, IsLegal, IsStop, AtBytes, InCourse, in_order, AreLegal, Holds, IsStopAfter, AtNext, AtTail, AtEnd, StopsAt, Verdict, Whole, Front, IsWanting, BeforeNext, ForPicture, WantsAt, Wanting, JudgedBy, Judged, remainder}
+use Rattle.h264_verify.specs.Verdict.{IsSound, IsLegal, IsStop, AtBytes, InCourse, in_order, AreLegal, Holds, IsStopAfter, AtNext, AtTail, AtEnd, StopsAt}
+use Rattle.h264_verify.specs.Verdict.{Verdict, Whole, Front, IsWanting, BeforeNext, ForPicture, WantsAt, Wanting, JudgedBy, Judged, remainder}
 use Rattle.h264_verify.proofs.Tellings.{tells-none}
 use Rattle.h264_verify.proofs.AgreeingUnits.{of-both, of-more}
 use Rattle.h264_verify.proofs.Feeding.{with-both, goes-both}
 use Rattle.h264_verify.proofs.Familiar.{told-agree, goes-agree, fed-agree, on-then, on-none}
-use Rattle.h264_verify.proofs.Sources.{one-outcome, some-outcome, goes-more, goes-then, stops-plays, fed-same, fed-on, fed-stops, fed-read, fed-ends, judges-memory, piece-more, pieces-stop, pieces-finish, goes-all}
+use Rattle.h264_verify.proofs.Sources.{one-outcome, some-outcome, goes-more, goes-then, stops-plays, fed-same, fed-on, fed-stops, fed-read, fed-ends}
+use Rattle.h264_verify.proofs.Sources.{judges-memory, piece-more, pieces-stop, pieces-finish, goes-all}
 use Rattle.h264_verify.proofs.Stepping.{outcome, met-is, stop-is, either, bound, bind-stop, runs-outcome, SomeRun, some-run}
 use Rattle.h264_verify.proofs.Stepping as stepping
 use Rattle.h264_verify.proofs.Bounds.{are-decodable}
 use Rattle.h264_verify.proofs.Ways.{splits-shown, way-none, shows-as, shows-both, shows-more}
 
 -- A legal unit comes to its calls, and joins those before it.
-pub legal-unit : (terms : Terms) (before : History) (r : ReadUnit) (calls : List Told) → IsLegal terms before r calls → unit_outcome terms before r.unit ≡ outcome calls (Ok (r ∷ before))
+pub legal-unit : (terms : Terms) (before : History) (r : ReadUnit) (calls : List Told) → IsLegal terms before r calls →
+    unit_outcome terms before r.unit ≡ outcome calls (Ok (r ∷ before))
 unfolding unit_outcome
 legal-unit terms before r calls l =
-    bound (answers (emulation_checked r.unit.from r.unit.body)) _ [] tt _ (ap (λ (x : Result (Unit {0}) Stop). answers x) (sym (none-checked r.unit.from r.unit.body l.sound)))
-    (bound (course_outcome (body_of r.unit) (unit_course terms before r.unit)) _ calls r.content _ (runs-outcome (body_of r.unit) (unit_course terms before r.unit) calls (Ok r.content) l.runs) refl)
+    bound (answers (emulation_checked r.unit.from r.unit.body)) _ [] tt _
+    (ap (λ (x : Result (Unit {0}) Stop). answers x) (sym (none-checked r.unit.from r.unit.body l.sound)))
+    (bound (course_outcome (body_of r.unit) (unit_course terms before r.unit)) _ calls r.content _
+    (runs-outcome (body_of r.unit) (unit_course terms before r.unit) calls (Ok r.content) l.runs) refl)
     ∙ ap (λ c. outcome c (Ok (r ∷ before))) (append-nil calls)
 
 -- A unit at which the verdict falls comes to the calls up to there.
-pub stop-unit : (terms : Terms) (before : History) (unit : NalUnit) (stop : Stop) (calls : List Told) → IsStop terms before unit stop calls → unit_outcome terms before unit ≡ outcome calls (Err stop)
+pub stop-unit : (terms : Terms) (before : History) (unit : NalUnit) (stop : Stop) (calls : List Told) → IsStop terms before unit stop calls →
+    unit_outcome terms before unit ≡ outcome calls (Err stop)
 unfolding unit_outcome
 stop-unit terms before unit stop calls (AtBytes place fault e n) =
-    bind-stop (answers (emulation_checked unit.from unit.body)) _ [] (No (8 * (unit.from + place)) Emulation) (ap (λ (x : Result (Unit {0}) Stop). answers x) (sym (some-checked unit.from unit.body place fault)))
+    bind-stop (answers (emulation_checked unit.from unit.body)) _ [] (No (8 * (unit.from + place)) Emulation)
+    (ap (λ (x : Result (Unit {0}) Stop). answers x) (sym (some-checked unit.from unit.body place fault)))
     ∙ rw (e, n) refl
 stop-unit terms before unit stop calls (InCourse sound runs) =
-    bound (answers (emulation_checked unit.from unit.body)) _ [] tt _ (ap (λ (x : Result (Unit {0}) Stop). answers x) (sym (none-checked unit.from unit.body sound)))
-    (bind-stop (course_outcome (body_of unit) (unit_course terms before unit)) _ calls stop (runs-outcome (body_of unit) (unit_course terms before unit) calls (Err stop) runs))
+    bound (answers (emulation_checked unit.from unit.body)) _ [] tt _
+    (ap (λ (x : Result (Unit {0}) Stop). answers x) (sym (none-checked unit.from unit.body sound)))
+    (bind-stop (course_outcome (body_of unit) (unit_course terms before unit)) _ calls stop
+    (runs-outcome (body_of unit) (unit_course terms before unit) calls (Err stop) runs))
 
 pub stopped-not : (a b : List Told) (stop : Stop) (h : History) → outcome a (Err stop) ≡ outcome b (Ok h) → ⊥
 stopped-not a b stop h e = let f : Err stop ≡ Ok h = ap (λ (o : Outcome History). o.answer) e in cc
@@ -76,12 +86,15 @@ data Either (terms : Terms) (before : History) (unit : NalUnit) : Type 0 where
 either-unit : (terms : Terms) (before : History) (unit : NalUnit) → Either terms before unit
 either-unit terms before unit = by (emulation_checked unit.from unit.body) (is-checked unit.from unit.body)
   where
-    course : IsSound unit → (calls : List Told) (a : Result Content Stop) → Runs (body_of unit) (unit_course terms before unit) calls a → Either terms before unit
+    course : IsSound unit → (calls : List Told) (a : Result Content Stop) → Runs (body_of unit) (unit_course terms before unit) calls a →
+        Either terms before unit
     course sound calls (Ok found) runs = Legal found calls (record { sound = sound; runs = runs })
     course sound calls (Err stop) runs = Fails stop calls (InCourse sound runs)
 
-    by : (r : Result (Unit {0}) Stop) → MatchResult r (λ _. (place : ℕ) → IsFault unit.body place → ⊥) (λ stop. (place : ℕ) × (stop ≡ No (8 * (unit.from + place)) Emulation) × IsFirstFault unit.body place) → Either terms before unit
-    by (Ok x) f = let r : SomeRun (body_of unit) (unit_course terms before unit) = some-run (body_of unit) (unit_course terms before unit) in course f r.calls r.answer r.runs
+    by : (r : Result (Unit {0}) Stop) → MatchResult r (λ _. (place : ℕ) → IsFault unit.body place → ⊥)
+        (λ stop. (place : ℕ) × (stop ≡ No (8 * (unit.from + place)) Emulation) × IsFirstFault unit.body place) → Either terms before unit
+    by (Ok x) f = let r : SomeRun (body_of unit) (unit_course terms before unit) = some-run (body_of unit) (unit_course terms before unit) in
+        course f r.calls r.answer r.runs
     by (Err stop) f = Fails stop [] (AtBytes f.0 f.2 f.1 refl)
 
 -- units that lead somewhere are legal, with their calls
@@ -89,8 +102,12 @@ module _ (terms : Terms) (after : History) where
   abbrev IsLed : History → List NalUnit → List Told → List Told → Type 0
   IsLed before units calls earlier = AreLegal terms after (earlier ++ calls) × (in_order after [] ≡ in_order before units)
 
-  led-unit : (before : History) (unit : NalUnit) (units : List NalUnit) (calls earlier : List Told) → AreLegal terms before earlier → (l : Leads (judging terms) before (unit ∷ units) calls after) → ((cs : List Told) → Leads (judging terms) l.0 units l.2 after → AreLegal terms l.0 (earlier ++ cs) → IsLed l.0 units l.2 (earlier ++ cs)) → Either terms before unit → IsLed before (unit ∷ units) calls earlier
-  led-unit before unit units calls earlier legal l next (Fails stop cs h) = let e : outcome cs (Err stop) ≡ outcome l.1 (Ok l.0) = sym (stop-unit terms before unit stop cs h) ∙ l.3 in absurd (stopped-not cs l.1 stop l.0 e)
+  led-unit : (before : History) (unit : NalUnit) (units : List NalUnit) (calls earlier : List Told) → AreLegal terms before earlier →
+      (l : Leads (judging terms) before (unit ∷ units) calls after) →
+      ((cs : List Told) → Leads (judging terms) l.0 units l.2 after → AreLegal terms l.0 (earlier ++ cs) → IsLed l.0 units l.2 (earlier ++ cs)) →
+      Either terms before unit → IsLed before (unit ∷ units) calls earlier
+  led-unit before unit units calls earlier legal l next (Fails stop cs h) = let e : outcome cs (Err stop) ≡ outcome l.1 (Ok l.0) =
+      sym (stop-unit terms before unit stop cs h) ∙ l.3 in absurd (stopped-not cs l.1 stop l.0 e)
   led-unit before unit units calls earlier legal l next (Legal c cs h) =
       let r : ReadUnit = record { unit = unit; content = c } in
       let e : outcome cs (Ok (r ∷ before)) ≡ outcome l.1 (Ok l.0) = sym (legal-unit terms before r cs h) ∙ l.3 in
@@ -101,11 +118,19 @@ module _ (terms : Terms) (after : History) where
         rest.1 ∙ ap (λ m. in_order m units) (sym mid),
       )
 
-  pub leads-legal : (before : History) (units : List NalUnit) (calls earlier : List Told) → Leads (judging terms) before units calls after → AreLegal terms before earlier → IsLed before units calls earlier
-  leads-legal before [] calls earlier l legal = (subst (λ h. AreLegal terms h (earlier ++ calls)) (sym l.1) (subst (AreLegal terms before) (sym (append-nil earlier) ∙ ap (λ c. earlier ++ c) (sym l.0)) legal), ap (λ h. in_order h []) l.1)
-  leads-legal before (unit ∷ units) calls earlier l legal = led-unit before unit units calls earlier legal l (λ cs rest before-legal. leads-legal l.0 units l.2 (earlier ++ cs) rest before-legal) (either-unit terms before unit)
+  pub leads-legal : (before : History) (units : List NalUnit) (calls earlier : List Told) → Leads (judging terms) before units calls after →
+      AreLegal terms before earlier → IsLed before units calls earlier
+  leads-legal before [] calls earlier l legal = (
+    subst (λ h. AreLegal terms h (earlier ++ calls)) (sym l.1)
+        (subst (AreLegal terms before) (sym (append-nil earlier) ∙ ap (λ c. earlier ++ c) (sym l.0)) legal),
+    ap (λ h. in_order h []) l.1,
+  )
+  leads-legal before (unit ∷ units) calls earlier l legal =
+      led-unit before unit units calls earlier legal l (λ cs rest before-legal. leads-legal l.0 units l.2 (earlier ++ cs) rest before-legal)
+      (either-unit terms before unit)
 
-legal-units : (terms : Terms) (reads : History) (units : List NalUnit) (tail : Tail) (end : ℕ) (calls : List Told) → AreLegal terms reads calls → units_outcome (judging terms) [] (in_order reads units) tail end ≡ with_calls calls (units_outcome (judging terms) reads units tail end)
+legal-units : (terms : Terms) (reads : History) (units : List NalUnit) (tail : Tail) (end : ℕ) (calls : List Told) → AreLegal terms reads calls →
+    units_outcome (judging terms) [] (in_order reads units) tail end ≡ with_calls calls (units_outcome (judging terms) reads units tail end)
 unfolding ◌>>=◌
 legal-units terms [] units tail end calls l = rw l refl
 legal-units terms (r ∷ before) units tail end calls l =
@@ -115,16 +140,21 @@ legal-units terms (r ∷ before) units tail end calls l =
     ∙ ap (λ c. with_calls c (units_outcome (judging terms) (r ∷ before) units tail end)) (sym l.4)
 
 -- the end of the input
-met-end : (terms : Terms) (before : History) (bit : ℕ) (calls : List Told) → AreMet (end_steps terms.mode before bit) calls → end_outcome terms.mode before bit ≡ outcome calls (Ok (summary_of terms.mode before))
+met-end : (terms : Terms) (before : History) (bit : ℕ) (calls : List Told) → AreMet (end_steps terms.mode before bit) calls →
+    end_outcome terms.mode before bit ≡ outcome calls (Ok (summary_of terms.mode before))
 unfolding end_outcome
-met-end terms before bit calls h = bound (steps_outcome (end_steps terms.mode before bit)) _ calls tt _ (met-is (end_steps terms.mode before bit) calls h) refl ∙ ap (λ l. outcome l (Ok (summary_of terms.mode before))) (append-nil calls)
+met-end terms before bit calls h = bound (steps_outcome (end_steps terms.mode before bit)) _ calls tt _ (met-is (end_steps terms.mode before bit) calls h)
+    refl ∙ ap (λ l. outcome l (Ok (summary_of terms.mode before))) (append-nil calls)
 
-unmet-end : (terms : Terms) (before : History) (bit : ℕ) (calls : List Told) (stop : Stop) → IsFirstStop (end_steps terms.mode before bit) calls stop → end_outcome terms.mode before bit ≡ outcome calls (Err stop)
+unmet-end : (terms : Terms) (before : History) (bit : ℕ) (calls : List Told) (stop : Stop) → IsFirstStop (end_steps terms.mode before bit) calls stop →
+    end_outcome terms.mode before bit ≡ outcome calls (Err stop)
 unfolding end_outcome
-unmet-end terms before bit calls stop h = bind-stop (steps_outcome (end_steps terms.mode before bit)) _ calls stop (stop-is (end_steps terms.mode before bit) calls stop h)
+unmet-end terms before bit calls stop h =
+    bind-stop (steps_outcome (end_steps terms.mode before bit)) _ calls stop (stop-is (end_steps terms.mode before bit) calls stop h)
 
 -- What the relation says is what comes of the stream.
-holds-comes : (terms : Terms) (bytes : List ℕ) (calls : List Told) (summary : Summary) → Holds terms bytes calls summary → Comes (judging terms) 0 [] bytes (record { calls = calls; answer = Ok summary })
+holds-comes : (terms : Terms) (bytes : List ℕ) (calls : List Told) (summary : Summary) → Holds terms bytes calls summary →
+    Comes (judging terms) 0 [] bytes (record { calls = calls; answer = Ok summary })
 holds-comes terms bytes calls summary h = record {
   units = in_order h.units [];
   tail = Zeros;
@@ -140,7 +170,9 @@ holds-comes terms bytes calls summary h = record {
     at-length : (n : ℕ) → end_outcome terms.mode h.units (8 * (0 + n)) ≡ end_outcome terms.mode h.units (8 * n)
     at-length n = let e : 0 + n ≡ n = omega arith in ap (λ k. end_outcome terms.mode h.units (8 * k)) e
 
-stop-after : (terms : Terms) (before : History) (units : List NalUnit) (tail : Tail) (end : ℕ) (stop : Stop) (calls : List Told) → IsStopAfter terms before (remainder units tail end) stop calls → units_outcome (judging terms) before units tail end ≡ record { calls = calls; answer = Err stop }
+stop-after : (terms : Terms) (before : History) (units : List NalUnit) (tail : Tail) (end : ℕ) (stop : Stop) (calls : List Told) →
+    IsStopAfter terms before (remainder units tail end) stop calls →
+    units_outcome (judging terms) before units tail end ≡ record { calls = calls; answer = Err stop }
 unfolding ◌>>=◌
 stop-after terms before units tail end stop calls (AtNext unit later e h) =
     ap (λ us. units_outcome (judging terms) before us tail end) e
@@ -154,7 +186,8 @@ stop-after terms before units tail end stop calls (AtEnd e t h) =
     ∙ ap (λ z. tail_outcome (judging terms) before z end) t
     ∙ unmet-end terms before (8 * end) calls stop h
 
-stops-comes : (terms : Terms) (bytes : List ℕ) (calls : List Told) (stop : Stop) → StopsAt terms bytes calls stop → Comes (judging terms) 0 [] bytes (record { calls = calls; answer = Err stop })
+stops-comes : (terms : Terms) (bytes : List ℕ) (calls : List Told) (stop : Stop) → StopsAt terms bytes calls stop →
+    Comes (judging terms) 0 [] bytes (record { calls = calls; answer = Err stop })
 stops-comes terms bytes calls stop h = record {
   units = in_order h.before h.units;
   tail = h.tail;
@@ -169,31 +202,40 @@ stops-comes terms bytes calls stop h = record {
     at-length : (n : ℕ) → units_outcome (judging terms) h.before h.units h.tail (0 + n) ≡ units_outcome (judging terms) h.before h.units h.tail n
     at-length n = let e : 0 + n ≡ n = omega arith in ap (λ k. units_outcome (judging terms) h.before h.units h.tail k) e
 
-pub verdict-comes : (terms : Terms) (bytes : List ℕ) (calls : List Told) (answer : Result Summary Stop) → Verdict terms bytes calls answer → Comes (judging terms) 0 [] bytes (record { calls = calls; answer = answer })
+pub verdict-comes : (terms : Terms) (bytes : List ℕ) (calls : List Told) (answer : Result Summary Stop) → Verdict terms bytes calls answer →
+    Comes (judging terms) 0 [] bytes (record { calls = calls; answer = answer })
 verdict-comes terms bytes calls (Ok summary) h = holds-comes terms bytes calls summary h
 verdict-comes terms bytes calls (Err stop) h = stops-comes terms bytes calls stop h
 
 -- all is legal, or the verdict falls somewhere
 data Among (terms : Terms) (units : List NalUnit) (tail : Tail) (end : ℕ) : Type 0 where
-  AllLegal : (reads : History) (first last : List Told) → units ≡ in_order reads [] → tail ≡ Zeros → AreLegal terms reads first → AreMet (end_steps terms.mode reads (8 * end)) last → Among terms units tail end
-  Falls : (before : History) (rest : List NalUnit) (first last : List Told) (stop : Stop) → units ≡ in_order before rest → AreLegal terms before first → IsStopAfter terms before (remainder rest tail end) stop last → Among terms units tail end
+  AllLegal : (reads : History) (first last : List Told) → units ≡ in_order reads [] → tail ≡ Zeros → AreLegal terms reads first →
+      AreMet (end_steps terms.mode reads (8 * end)) last → Among terms units tail end
+  Falls : (before : History) (rest : List NalUnit) (first last : List Told) (stop : Stop) → units ≡ in_order before rest → AreLegal terms before first →
+      IsStopAfter terms before (remainder rest tail end) stop last → Among terms units tail end
 
-among-end : (terms : Terms) (before : History) (earlier : List Told) (end : ℕ) → AreLegal terms before earlier → stepping.Either (end_steps terms.mode before (8 * end)) → Among terms (in_order before []) Zeros end
+among-end : (terms : Terms) (before : History) (earlier : List Told) (end : ℕ) → AreLegal terms before earlier →
+    stepping.Either (end_steps terms.mode before (8 * end)) → Among terms (in_order before []) Zeros end
 among-end terms before earlier end l (inl h) = AllLegal before earlier h.0 refl refl l h.1
 among-end terms before earlier end l (inr h) = Falls before [] earlier h.0 h.1 refl l (AtEnd refl refl h.2)
 
-among-tail : (terms : Terms) (before : History) (earlier : List Told) (end : ℕ) → AreLegal terms before earlier → (tail : Tail) → Among terms (in_order before []) tail end
+among-tail : (terms : Terms) (before : History) (earlier : List Told) (end : ℕ) → AreLegal terms before earlier →
+    (tail : Tail) → Among terms (in_order before []) tail end
 among-tail terms before earlier end l Zeros = among-end terms before earlier end l (either (end_steps terms.mode before (8 * end)))
 among-tail terms before earlier end l (Stray place) = Falls before [] earlier [] _ refl l (AtTail refl refl refl)
 among-tail terms before earlier end l (Bare place) = Falls before [] earlier [] _ refl l (AtTail refl refl refl)
 among-tail terms before earlier end l (Long place) = Falls before [] earlier [] _ refl l (AtTail refl refl refl)
 among-tail terms before earlier end l Cut = Falls before [] earlier [] _ refl l (AtTail refl refl refl)
 
-among : (terms : Terms) (before : History) (earlier : List Told) (end : ℕ) → AreLegal terms before earlier → (units : List NalUnit) (tail : Tail) → Among terms (in_order before units) tail end
+among : (terms : Terms) (before : History) (earlier : List Told) (end : ℕ) → AreLegal terms before earlier →
+    (units : List NalUnit) (tail : Tail) → Among terms (in_order before units) tail end
 among terms before earlier end l [] tail = among-tail terms before earlier end l tail
-among terms before earlier end l (unit ∷ units) tail = by (either-unit terms before unit) (λ c calls h. among terms (record { unit = unit; content = c } ∷ before) (earlier ++ calls) end (earlier, calls, l, h, refl) units tail)
+among terms before earlier end l (unit ∷ units) tail =
+    by (either-unit terms before unit) (λ c calls h. among terms (record { unit = unit; content = c } ∷ before) (earlier ++ calls) end
+    (earlier, calls, l, h, refl) units tail)
   where
-    by : Either terms before unit → ((c : Content) (calls : List Told) → IsLegal terms before (record { unit = unit; content = c }) calls → Among terms (in_order before (unit ∷ units)) tail end) → Among terms (in_order before (unit ∷ units)) tail end
+    by : Either terms before unit → ((c : Content) (calls : List Told) → IsLegal terms before (record { unit = unit; content = c }) calls →
+        Among terms (in_order before (unit ∷ units)) tail end) → Among terms (in_order before (unit ∷ units)) tail end
     by (Fails stop calls h) next = Falls before (unit ∷ units) earlier calls stop refl l (AtNext unit units refl h)
     by (Legal c calls h) next = next c calls h
 
@@ -203,16 +245,37 @@ pub record SomeVerdict (terms : Terms) (bytes : List ℕ) : Type 0 where
   pub answer : Result Summary Stop
   pub verdict : Verdict terms bytes calls answer
 
-of-split : (terms : Terms) (bytes : List ℕ) (units : List NalUnit) (tail : Tail) → Splits 0 bytes units tail → Among terms units tail (length bytes) → SomeVerdict terms bytes
+of-split : (terms : Terms) (bytes : List ℕ) (units : List NalUnit) (tail : Tail) → Splits 0 bytes units tail → Among terms units tail (length bytes) →
+    SomeVerdict terms bytes
 of-split terms bytes units tail s (AllLegal reads first last e t l h) = record {
   calls = first ++ last;
   answer = Ok (summary_of terms.mode reads);
-  verdict = record { units = reads; stream = subst (λ us. Splits 0 bytes us Zeros) e (subst (Splits 0 bytes units) t s); first = first; last = last; legal = l; end = h; calls_are = refl; summary_is = refl; pictures = are-decodable terms.mode terms.target reads first last (8 * length bytes) l h };
+  verdict = record {
+    units = reads;
+    stream = subst (λ us. Splits 0 bytes us Zeros) e (subst (Splits 0 bytes units) t s);
+    first = first;
+    last = last;
+    legal = l;
+    end = h;
+    calls_are = refl;
+    summary_is = refl;
+    pictures = are-decodable terms.mode terms.target reads first last (8 * length bytes) l h;
+  };
 }
 of-split terms bytes units tail s (Falls before rest first last stop e l f) = record {
   calls = first ++ last;
   answer = Err stop;
-  verdict = record { before = before; units = rest; tail = tail; stream = subst (λ us. Splits 0 bytes us tail) e s; first = first; last = last; legal = l; stops = f; calls_are = refl };
+  verdict = record {
+    before = before;
+    units = rest;
+    tail = tail;
+    stream = subst (λ us. Splits 0 bytes us tail) e s;
+    first = first;
+    last = last;
+    legal = l;
+    stops = f;
+    calls_are = refl;
+  };
 }
 
 -- What comes of the stream is what the relation says.
@@ -223,11 +286,14 @@ comes-verdict terms bytes o c =
     subst (λ (w : Outcome Summary). Verdict terms bytes w.calls w.answer) e v.verdict
 
 pub some-verdict : (terms : Terms) (bytes : List ℕ) → SomeVerdict terms bytes
-some-verdict terms bytes = let o = some-outcome (judging terms) [] bytes in of-split terms bytes o.1.units o.1.tail o.1.splits (among terms [] [] (length bytes) refl o.1.units o.1.tail)
+some-verdict terms bytes = let o = some-outcome (judging terms) [] bytes in
+    of-split terms bytes o.1.units o.1.tail o.1.splits (among terms [] [] (length bytes) refl o.1.units o.1.tail)
 
-pub one-verdict : (terms : Terms) (bytes : List ℕ) (calls others : List Told) (one other : Result Summary Stop) → Verdict terms bytes calls one → Verdict terms bytes others other → (calls ≡ others) × (one ≡ other)
+pub one-verdict : (terms : Terms) (bytes : List ℕ) (calls others : List Told) (one other : Result Summary Stop) → Verdict terms bytes calls one →
+    Verdict terms bytes others other → (calls ≡ others) × (one ≡ other)
 one-verdict terms bytes calls others one other a b =
-    let e = one-outcome (judging terms) [] bytes (record { calls = calls; answer = one }) (record { calls = others; answer = other }) (verdict-comes terms bytes calls one a) (verdict-comes terms bytes others other b) in
+    let e = one-outcome (judging terms) [] bytes (record { calls = calls; answer = one }) (record { calls = others; answer = other })
+    (verdict-comes terms bytes calls one a) (verdict-comes terms bytes others other b) in
     (ap (λ (o : Outcome Summary). o.calls) e, ap (λ (o : Outcome Summary). o.answer) e)
 
 pub in-order : (h : History) (us : List NalUnit) → in_order h us ≡ in_order h [] ++ us
@@ -235,18 +301,23 @@ in-order [] us = refl
 in-order (r ∷ h) us = in-order h (r.unit ∷ us) ∙ sym (append_assoc (in_order h []) (r.unit ∷ []) us) ∙ ap (λ l. l ++ us) (sym (in-order h (r.unit ∷ [])))
 
 -- where memory was wanting, after legal units
-wants-after : (terms : Terms) (before : History) (units : List NalUnit) (calls : List Told) → LacksNext (judging terms) before units calls → IsWanting terms before units calls
+wants-after : (terms : Terms) (before : History) (units : List NalUnit) (calls : List Told) → LacksNext (judging terms) before units calls →
+    IsWanting terms before units calls
 wants-after terms before units calls (lacking.ForBytes e) = BeforeNext e
 wants-after terms before units calls (lacking.ForUnit unit later e g) = ForPicture unit later e g
 
-wants-at : (terms : Terms) (bytes : List ℕ) (before : History) (told : List Told) (all units : List NalUnit) (tail : Tail) (calls : List Told) → AreLegal terms before told → Splits 0 bytes all tail → all ≡ in_order before [] ++ units → Lacks (judging terms) before units calls → WantsAt terms bytes (told ++ calls)
+wants-at : (terms : Terms) (bytes : List ℕ) (before : History) (told : List Told) (all units : List NalUnit) (tail : Tail) (calls : List Told) →
+    AreLegal terms before told → Splits 0 bytes all tail → all ≡ in_order before [] ++ units → Lacks (judging terms) before units calls →
+    WantsAt terms bytes (told ++ calls)
 wants-at terms bytes before told all units tail calls l s e k =
     let legal = leads-legal terms k.mid before k.judged k.first told k.led l in
     record {
       before = k.mid;
       units = k.later;
       tail = tail;
-      stream = subst (λ us. Splits 0 bytes us tail) (e ∙ ap (λ us. in_order before [] ++ us) k.units_are ∙ sym (append_assoc (in_order before []) k.judged k.later) ∙ ap (λ us. us ++ k.later) (sym (in-order before k.judged) ∙ sym legal.1) ∙ sym (in-order k.mid k.later)) s;
+      stream = subst (λ us. Splits 0 bytes us tail)
+          (e ∙ ap (λ us. in_order before [] ++ us) k.units_are ∙ sym (append_assoc (in_order before []) k.judged k.later) ∙
+          ap (λ us. us ++ k.later) (sym (in-order before k.judged) ∙ sym legal.1) ∙ sym (in-order k.mid k.later)) s;
       first = told ++ k.first;
       last = k.last;
       legal = legal.0;
@@ -254,14 +325,22 @@ wants-at terms bytes before told all units tail calls l s e k =
       calls_are = ap (λ c. told ++ c) k.calls_are ∙ sym (append_assoc told k.first k.last);
     }
 
-wanting : {S : Type 0} (terms : Terms) (took : S → List Told → Type 0) (failures : S → ℕ) (bytes : List ℕ) (before : History) (told : List Told) (at : ℕ) (rest : List ℕ) (s s' : S) → AreLegal terms before told → ((all : List NalUnit) (tail : Tail) → Splits 0 bytes all tail → (units : List NalUnit) × (all ≡ in_order before [] ++ units) × Splits at rest units tail) → Lacking (judging terms) (span took failures s s') at before rest → Wanting terms (span took failures s s') bytes told
+wanting : {S : Type 0} (terms : Terms) (took : S → List Told → Type 0) (failures : S → ℕ) (bytes : List ℕ) (before : History) (told : List Told) (at : ℕ)
+    (rest : List ℕ) (s s' : S) → AreLegal terms before told →
+    ((all : List NalUnit) (tail : Tail) → Splits 0 bytes all tail → (units : List NalUnit) × (all ≡ in_order before [] ++ units) ×
+    Splits at rest units tail) → Lacking (judging terms) (span took failures s s') at before rest → Wanting terms (span took failures s s') bytes told
 wanting terms took failures bytes before told at rest s s' l cut k =
     let all = some-split 0 bytes (omega arith) in
     let u = cut all.units all.tail all.splits in
-    record { more = k.calls; tells = k.tells; wants = wants-at terms bytes before told all.units u.0 all.tail k.calls l all.splits u.1 (k.lacks u.0 all.tail u.2) }
+    record {
+      more = k.calls;
+      tells = k.tells;
+      wants = wants-at terms bytes before told all.units u.0 all.tail k.calls l all.splits u.1 (k.lacks u.0 all.tail u.2);
+    }
 
 -- What was played of the stream's outcome, after what a sink was told before, is its verdict.
-module _ {S : Type 0} (terms : Terms) (took : S → List Told → Type 0) (failures : S → ℕ) (bytes : List ℕ) (calls : List Told) (later : Outcome Summary) (s s' : S) (v : (answer : Result Summary Stop) → later.answer ≡ answer → Verdict terms bytes (calls ++ later.calls) answer) where
+module _ {S : Type 0} (terms : Terms) (took : S → List Told → Type 0) (failures : S → ℕ) (bytes : List ℕ) (calls : List Told) (later : Outcome Summary)
+    (s s' : S) (v : (answer : Result Summary Stop) → later.answer ≡ answer → Verdict terms bytes (calls ++ later.calls) answer) where
   whole : (answer : Result Summary Stop) → later.answer ≡ answer → Tells took s s' later.calls → Whole terms (span took failures s s') bytes calls answer
   whole answer e t = record { more = later.calls; tells = t; verdict = v answer e }
 
@@ -274,7 +353,8 @@ module _ {S : Type 0} (terms : Terms) (took : S → List Told → Type 0) (failu
     verdict = subst (λ l. Verdict terms bytes l later.answer) (ap (λ l. calls ++ l) t.whole ∙ sym (append_assoc calls t.front t.rest)) (v later.answer refl);
   }
 
-  judged-by : (result : Result Summary Stop) → RansBy (span took failures s s') later result → (result ≡ Err Memory → Wanting terms (span took failures s s') bytes calls) → JudgedBy terms (span took failures s s') bytes calls result
+  judged-by : (result : Result Summary Stop) → RansBy (span took failures s s') later result →
+      (result ≡ Err Memory → Wanting terms (span took failures s s') bytes calls) → JudgedBy terms (span took failures s s') bytes calls result
   judged-by (Ok x) p w = (whole (Ok x) p.plays.0 p.plays.1, p.plays.2)
   judged-by (Err (No bit rule)) p w = (whole (Err (No bit rule)) p.plays.0 p.plays.1, p.plays.2)
   judged-by (Err (Outside bit feature)) p w = (whole (Err (Outside bit feature)) p.plays.0 p.plays.1, p.plays.2)
@@ -283,17 +363,20 @@ module _ {S : Type 0} (terms : Terms) (took : S → List Told → Type 0) (failu
   judged-by (Err Write) p w = (front p.plays.0, p.plays.1)
 
 -- what was judged by the fold has this verdict
-pub judges-judged : {S : Type 0} (terms : Terms) (took : S → List Call → Type 0) (failures : S → ℕ) (bytes : List ℕ) (frames : ℕ → Frame) (s s' : S) (result : Result Summary Stop) → JudgesWith terms (span took failures s s') bytes result → Judged terms (span took failures s s') bytes frames [] result
+pub judges-judged : {S : Type 0} (terms : Terms) (took : S → List Call → Type 0) (failures : S → ℕ) (bytes : List ℕ) (frames : ℕ → Frame) (s s' : S)
+    (result : Result Summary Stop) → JudgesWith terms (span took failures s s') bytes result → Judged terms (span took failures s s') bytes frames [] result
 judges-judged terms took failures bytes frames s s' result w =
     let j = w.judges in
     record {
       made = w.frames;
       same = record { calls = refl; decoded = λ x. x };
-      judged = judged-by terms (took_with w.frames took) failures bytes [] j.outcome s s' (λ answer e. subst (Verdict terms bytes j.outcome.calls) e (comes-verdict terms bytes j.outcome j.comes)) result j.ran
+      judged = judged-by terms (took_with w.frames took) failures bytes [] j.outcome s s'
+          (λ answer e. subst (Verdict terms bytes j.outcome.calls) e (comes-verdict terms bytes j.outcome j.comes)) result j.ran
           (λ e. wanting terms (took_with w.frames took) failures bytes [] [] 0 bytes s s' refl (λ all tail sp. (all, refl, sp)) (j.lacks e));
     }
 
-plays-rans : {S : Type 0} (took : S → List Told → Type 0) (failures : S → ℕ) (o : Outcome Summary) (s s' : S) (r : Result Summary Stop) → Plays (span took failures s s') (λ (x : Summary). x) o r → RansBy (span took failures s s') o r
+plays-rans : {S : Type 0} (took : S → List Told → Type 0) (failures : S → ℕ) (o : Outcome Summary) (s s' : S) (r : Result Summary Stop) →
+    Plays (span took failures s s') (λ (x : Summary). x) o r → RansBy (span took failures s s') o r
 plays-rans took failures o s s' (Ok x) p = p
 plays-rans took failures o s s' (Err (No bit rule)) p = p
 plays-rans took failures o s s' (Err (Outside bit feature)) p = p
@@ -315,26 +398,45 @@ fed-nothing terms session frames f = record {
   goes = λ more o c. (o, subst (λ split. ToCome (judging terms) (standing_after split []) more o) (sym f.split) c, refl);
 }
 
-fed-later : {terms : Terms} {session : Progress} {bytes : List ℕ} {frames : ℕ → Frame} {told : List Told} (w : WasFed terms session bytes frames told) (more : List ℕ) (o : Outcome Summary) → Comes (judging terms) 0 [] (bytes ++ more) o → (later : Outcome Summary) × ToCome (judging terms) (standing_after session.split w.before) more later × ((answer : Result Summary Stop) → later.answer ≡ answer → Verdict terms (bytes ++ more) (told ++ later.calls) answer)
+fed-later : {terms : Terms} {session : Progress} {bytes : List ℕ} {frames : ℕ → Frame} {told : List Told} (w : WasFed terms session bytes frames told)
+    (more : List ℕ) (o : Outcome Summary) → Comes (judging terms) 0 [] (bytes ++ more) o → (later : Outcome Summary) ×
+    ToCome (judging terms) (standing_after session.split w.before) more later ×
+    ((answer : Result Summary Stop) → later.answer ≡ answer → Verdict terms (bytes ++ more) (told ++ later.calls) answer)
 fed-later {terms} {session} {bytes} {told} w more o c =
-    let f = w.goes more o c in
-    (f.0, f.1, λ answer e. subst (Verdict terms (bytes ++ more) (told ++ f.0.calls)) e (subst (λ (q : Outcome Summary). Verdict terms (bytes ++ more) q.calls q.answer) f.2 (comes-verdict terms (bytes ++ more) o c)))
+    let f = w.goes more o c in (
+      f.0,
+      f.1,
+      λ answer e. subst (Verdict terms (bytes ++ more) (told ++ f.0.calls)) e
+          (subst (λ (q : Outcome Summary). Verdict terms (bytes ++ more) q.calls q.answer) f.2 (comes-verdict terms (bytes ++ more) o c)),
+    )
 
 -- the same terms
-pub keeps-as : {frames : ℕ → Frame} {before : History} {state : State} {t t' : Terms} → t ≡ t' → Keeps t.mode frames before state → Keeps t'.mode frames before state
+pub keeps-as : {frames : ℕ → Frame} {before : History} {state : State} {t t' : Terms} → t ≡ t' → Keeps t.mode frames before state →
+    Keeps t'.mode frames before state
 keeps-as {frames} {before} {state} e k = subst (λ (t : Terms). Keeps t.mode frames before state) e k
 
-pub goes-as : {S : Type 0} {took : S → List Call → Type 0} {failures : S → ℕ} {frames : ℕ → Frame} {old : Standing History} {split : Splitting} {state : State} {piece left : List ℕ} {s s' : S} {t t' : Terms} → t ≡ t' → GoesOn t (frame_span took failures frames s s') (stretch old (standing split state) piece left) → GoesOn t' (frame_span took failures frames s s') (stretch old (standing split state) piece left)
-goes-as {took} {failures} {frames} {old} {split} {state} {piece} {left} {s} {s'} e f = subst (λ t. GoesOn t (frame_span took failures frames s s') (stretch old (standing split state) piece left)) e f
+pub goes-as : {S : Type 0} {took : S → List Call → Type 0} {failures : S → ℕ} {frames : ℕ → Frame} {old : Standing History} {split : Splitting}
+    {state : State} {piece left : List ℕ} {s s' : S} {t t' : Terms} → t ≡ t' →
+    GoesOn t (frame_span took failures frames s s') (stretch old (standing split state) piece left) →
+    GoesOn t' (frame_span took failures frames s s') (stretch old (standing split state) piece left)
+goes-as {took} {failures} {frames} {old} {split} {state} {piece} {left} {s} {s'} e f =
+    subst (λ t. GoesOn t (frame_span took failures frames s s') (stretch old (standing split state) piece left)) e f
 
-pub stops-as : {S : Type 0} {took : S → List Call → Type 0} {failures : S → ℕ} {frames : ℕ → Frame} {old : Standing History} {piece : List ℕ} {s s' : S} {stop : Stop} {t t' : Terms} → t ≡ t' → StopsOn t (frame_span took failures frames s s') old piece stop → StopsOn t' (frame_span took failures frames s s') old piece stop
+pub stops-as : {S : Type 0} {took : S → List Call → Type 0} {failures : S → ℕ} {frames : ℕ → Frame} {old : Standing History} {piece : List ℕ} {s s' : S}
+    {stop : Stop} {t t' : Terms} → t ≡ t' → StopsOn t (frame_span took failures frames s s') old piece stop →
+    StopsOn t' (frame_span took failures frames s s') old piece stop
 stops-as {took} {failures} {frames} {old} {piece} {s} {s'} {stop} e f = subst (λ t. StopsOn t (frame_span took failures frames s s') old piece stop) e f
 
-pub finishes-as : {S : Type 0} {took : S → List Call → Type 0} {failures : S → ℕ} {frames : ℕ → Frame} {old : Standing History} {s s' : S} {r : Result Summary Stop} {t t' : Terms} → t ≡ t' → FinishesOn t (frame_span took failures frames s s') old r → FinishesOn t' (frame_span took failures frames s s') old r
+pub finishes-as : {S : Type 0} {took : S → List Call → Type 0} {failures : S → ℕ} {frames : ℕ → Frame} {old : Standing History} {s s' : S}
+    {r : Result Summary Stop} {t t' : Terms} → t ≡ t' → FinishesOn t (frame_span took failures frames s s') old r →
+    FinishesOn t' (frame_span took failures frames s s') old r
 finishes-as {took} {failures} {frames} {old} {s} {s'} {r} e f = subst (λ t. FinishesOn t (frame_span took failures frames s s') old r) e f
 
 -- a piece more
-fed-piece : {S : Type 0} (terms : Terms) (took : S → List Call → Type 0) (failures : S → ℕ) (old new : Progress) (bytes piece : List ℕ) (frames : ℕ → Frame) (told : List Told) (s s' : S) (w : WasFed terms old bytes frames told) → new.terms ≡ old.terms → new.stop ≡ None → IsUndecided new.split.rest → GoesOn terms (frame_span took failures frames s s') (stretch (standing_after old.split w.before) (standing new.split new.state) piece []) → failures s' ≡ failures s → IsFed terms (span took failures s s') new (bytes ++ piece) frames told
+fed-piece : {S : Type 0} (terms : Terms) (took : S → List Call → Type 0) (failures : S → ℕ) (old new : Progress) (bytes piece : List ℕ) (frames : ℕ → Frame)
+    (told : List Told) (s s' : S) (w : WasFed terms old bytes frames told) → new.terms ≡ old.terms → new.stop ≡ None → IsUndecided new.split.rest →
+    GoesOn terms (frame_span took failures frames s s') (stretch (standing_after old.split w.before) (standing new.split new.state) piece []) →
+    failures s' ≡ failures s → IsFed terms (span took failures s s') new (bytes ++ piece) frames told
 fed-piece terms took failures old new bytes piece frames told s s' w m runs u on k =
     let g = on.goes in
     let legal = leads-legal terms on.after w.before g.way.units g.calls told g.way.led w.legal in
@@ -360,61 +462,90 @@ fed-piece terms took failures old new bytes piece frames told s s' w m runs u on
       kept = k;
     }
   where
-    shown-on : (units : List NalUnit) → ShowsUnits 0 bytes (in_order w.before []) old.split.at old.split.rest → ShowsUnits old.split.at (old.split.rest ++ piece) units new.split.at (new.split.rest ++ []) → ShowsUnits 0 (bytes ++ piece) (in_order w.before units) new.split.at new.split.rest
+    shown-on : (units : List NalUnit) → ShowsUnits 0 bytes (in_order w.before []) old.split.at old.split.rest →
+        ShowsUnits old.split.at (old.split.rest ++ piece) units new.split.at (new.split.rest ++ []) →
+        ShowsUnits 0 (bytes ++ piece) (in_order w.before units) new.split.at new.split.rest
     shown-on units a b =
         subst (λ us. ShowsUnits 0 (bytes ++ piece) us new.split.at new.split.rest) (sym (in-order w.before units))
-        (shows-both 0 (bytes ++ piece) (in_order w.before []) units old.split.at new.split.at (old.split.rest ++ piece) new.split.rest (shows-more 0 bytes (in_order w.before []) old.split.at old.split.rest piece a) (shows-as old.split.at new.split.at units _ _ _ _ refl (append-nil new.split.rest) b))
+        (shows-both 0 (bytes ++ piece) (in_order w.before []) units old.split.at new.split.at (old.split.rest ++ piece) new.split.rest
+        (shows-more 0 bytes (in_order w.before []) old.split.at old.split.rest piece a)
+        (shows-as old.split.at new.split.at units _ _ _ _ refl (append-nil new.split.rest) b))
 
 -- a stop, however the input goes on
-fed-stop : {S : Type 0} (terms : Terms) (took : S → List Call → Type 0) (failures : S → ℕ) (old : Progress) (bytes piece : List ℕ) (frames : ℕ → Frame) (told : List Told) (s s' : S) (stop : Stop) (w : WasFed terms old bytes frames told) → StopsOn terms (frame_span took failures frames s s') (standing_after old.split w.before) piece stop → (later : List ℕ) → Judged terms (span took failures s s') ((bytes ++ piece) ++ later) frames told (Err stop)
+fed-stop : {S : Type 0} (terms : Terms) (took : S → List Call → Type 0) (failures : S → ℕ) (old : Progress) (bytes piece : List ℕ) (frames : ℕ → Frame)
+    (told : List Told) (s s' : S) (stop : Stop) (w : WasFed terms old bytes frames told) →
+    StopsOn terms (frame_span took failures frames s s') (standing_after old.split w.before) piece stop →
+    (later : List ℕ) → Judged terms (span took failures s s') ((bytes ++ piece) ++ later) frames told (Err stop)
 fed-stop terms took failures old bytes piece frames told s s' stop w p later =
     let o = some-outcome (judging terms) [] (bytes ++ (piece ++ later)) in
     let f = fed-later w (piece ++ later) o.0 o.1 in
-    let cut = λ (all : List NalUnit) (tail : Tail) (sp : Splits 0 (bytes ++ (piece ++ later)) all tail). splits-shown 0 bytes (in_order w.before []) old.split.at old.split.rest (piece ++ later) all tail w.shown sp in
+    let cut = λ (all : List NalUnit) (tail : Tail) (sp : Splits 0 (bytes ++ (piece ++ later)) all tail). splits-shown 0 bytes (in_order w.before [])
+    old.split.at old.split.rest (piece ++ later) all tail w.shown sp in
     subst (λ l. Judged terms (span took failures s s') l frames told (Err stop)) (sym (append_assoc bytes piece later))
     (record {
       made = p.made;
       same = told-agree (ended_in w.before) frames p.made told p.same w.of;
-      judged = judged-by terms (took_with p.made took) failures (bytes ++ (piece ++ later)) told f.0 s s' f.2 (Err stop) (stops-plays (judging terms) (took_with p.made took) failures (standing_after old.split w.before) piece later s s' stop f.0 p.stops.stops f.1)
-          (λ e. wanting terms (took_with p.made took) failures (bytes ++ (piece ++ later)) w.before told old.split.at (old.split.rest ++ (piece ++ later)) s s' w.legal cut (stops-lacks (judging terms) (took_with p.made took) failures (standing_after old.split w.before) piece later s s' stop p.stops.stops (same-stop stop Memory e)));
+      judged = judged-by terms (took_with p.made took) failures (bytes ++ (piece ++ later)) told f.0 s s' f.2 (Err stop)
+          (stops-plays (judging terms) (took_with p.made took) failures (standing_after old.split w.before) piece later s s' stop f.0 p.stops.stops f.1)
+          (λ e. wanting terms (took_with p.made took) failures (bytes ++ (piece ++ later)) w.before told old.split.at (old.split.rest ++ (piece ++ later)) s
+          s' w.legal cut (stops-lacks (judging terms) (took_with p.made took) failures (standing_after old.split w.before) piece later s s' stop
+          p.stops.stops (same-stop stop Memory e)));
     })
 
 -- the end of the input
-pub fed-end : {S : Type 0} (terms : Terms) (took : S → List Call → Type 0) (failures : S → ℕ) (session : Progress) (bytes : List ℕ) (frames : ℕ → Frame) (told : List Told) (s s' : S) (r : Result Summary Stop) (w : WasFed terms session bytes frames told) → FinishesOn session.terms (frame_span took failures frames s s') (standing_after session.split w.before) r → Judged terms (span took failures s s') bytes frames told r
+pub fed-end : {S : Type 0} (terms : Terms) (took : S → List Call → Type 0) (failures : S → ℕ) (session : Progress) (bytes : List ℕ) (frames : ℕ → Frame)
+    (told : List Told) (s s' : S) (r : Result Summary Stop) (w : WasFed terms session bytes frames told) →
+    FinishesOn session.terms (frame_span took failures frames s s') (standing_after session.split w.before) r →
+    Judged terms (span took failures s s') bytes frames told r
 fed-end terms took failures session bytes frames told s s' r w q =
     let p = finishes-as w.terms_is q in
     let o = some-outcome (judging terms) [] (bytes ++ []) in
     let f = fed-later w [] o.0 o.1 in
-    let cut = λ (all : List NalUnit) (tail : Tail) (sp : Splits 0 (bytes ++ []) all tail). splits-shown 0 bytes (in_order w.before []) session.split.at session.split.rest [] all tail w.shown sp in
+    let cut = λ (all : List NalUnit) (tail : Tail) (sp : Splits 0 (bytes ++ []) all tail). splits-shown 0 bytes (in_order w.before []) session.split.at
+    session.split.rest [] all tail w.shown sp in
     subst (λ l. Judged terms (span took failures s s') l frames told r) (append-nil bytes)
     (record {
       made = p.made;
       same = told-agree (ended_in w.before) frames p.made told p.same w.of;
-      judged = judged-by terms (took_with p.made took) failures (bytes ++ []) told f.0 s s' f.2 r (plays-rans (took_with p.made took) failures f.0 s s' r (p.finishes.finishes f.0 f.1))
-          (λ e. wanting terms (took_with p.made took) failures (bytes ++ []) w.before told session.split.at (session.split.rest ++ []) s s' w.legal cut (p.finishes.lacks e));
+      judged = judged-by terms (took_with p.made took) failures (bytes ++ []) told f.0 s s' f.2 r
+          (plays-rans (took_with p.made took) failures f.0 s s' r (p.finishes.finishes f.0 f.1))
+          (λ e. wanting terms (took_with p.made took) failures (bytes ++ []) w.before told session.split.at (session.split.rest ++ []) s s' w.legal cut
+          (p.finishes.lacks e));
     })
 
 -- as the answer of a call
-pub fed-ok : {S : Type 0} (terms : Terms) (took : S → List Call → Type 0) (failures : S → ℕ) (old new : Progress) (bytes piece : List ℕ) (frames : ℕ → Frame) (told : List Told) (s s' : S) (r : Result (Unit {0}) Stop) (w : WasFed terms old bytes frames told) → new.terms ≡ old.terms → OnOk r (new.stop ≡ None) → OnOk r (IsUndecided old.split.rest → IsUndecided new.split.rest) → OnOk r (GoesOn old.terms (frame_span took failures frames s s') (stretch (standing_after old.split w.before) (standing new.split new.state) piece [])) → OnOk r (failures s' ≡ failures s) → OnOk r (IsFed terms (span took failures s s') new (bytes ++ piece) frames told)
-fed-ok terms took failures old new bytes piece frames told s s' (Ok x) w m runs u g k = fed-piece terms took failures old new bytes piece frames told s s' w m runs (u w.undecided) (goes-as w.terms_is g) k
+pub fed-ok : {S : Type 0} (terms : Terms) (took : S → List Call → Type 0) (failures : S → ℕ) (old new : Progress) (bytes piece : List ℕ) (frames : ℕ → Frame)
+    (told : List Told) (s s' : S) (r : Result (Unit {0}) Stop) (w : WasFed terms old bytes frames told) → new.terms ≡ old.terms → OnOk r (new.stop ≡ None) →
+    OnOk r (IsUndecided old.split.rest → IsUndecided new.split.rest) →
+    OnOk r (GoesOn old.terms (frame_span took failures frames s s') (stretch (standing_after old.split w.before) (standing new.split new.state) piece [])) →
+    OnOk r (failures s' ≡ failures s) → OnOk r (IsFed terms (span took failures s s') new (bytes ++ piece) frames told)
+fed-ok terms took failures old new bytes piece frames told s s' (Ok x) w m runs u g k =
+    fed-piece terms took failures old new bytes piece frames told s s' w m runs (u w.undecided) (goes-as w.terms_is g) k
 fed-ok terms took failures old new bytes piece frames told s s' (Err e) w m runs u g k = tt
 
-pub fed-err : {S : Type 0} (terms : Terms) (took : S → List Call → Type 0) (failures : S → ℕ) (old : Progress) (bytes piece : List ℕ) (frames : ℕ → Frame) (told : List Told) (s s' : S) (r : Result (Unit {0}) Stop) (w : WasFed terms old bytes frames told) → IfErr r (StopsOn old.terms (frame_span took failures frames s s') (standing_after old.split w.before) piece) → IfErr r (λ stop. (later : List ℕ) → Judged terms (span took failures s s') ((bytes ++ piece) ++ later) frames told (Err stop))
+pub fed-err : {S : Type 0} (terms : Terms) (took : S → List Call → Type 0) (failures : S → ℕ) (old : Progress) (bytes piece : List ℕ) (frames : ℕ → Frame)
+    (told : List Told) (s s' : S) (r : Result (Unit {0}) Stop) (w : WasFed terms old bytes frames told) →
+    IfErr r (StopsOn old.terms (frame_span took failures frames s s') (standing_after old.split w.before) piece) →
+    IfErr r (λ stop. (later : List ℕ) → Judged terms (span took failures s s') ((bytes ++ piece) ++ later) frames told (Err stop))
 fed-err terms took failures old bytes piece frames told s s' (Ok x) w p = tt
-fed-err terms took failures old bytes piece frames told s s' (Err stop) w p = fed-stop terms took failures old bytes piece frames told s s' stop w (stops-as w.terms_is p)
+fed-err terms took failures old bytes piece frames told s s' (Err stop) w p =
+    fed-stop terms took failures old bytes piece frames told s s' stop w (stops-as w.terms_is p)
 
 -- ---- a source
 
 -- before its first read
-none-yet : {S : Type 0} (terms : Terms) (took : S → List Told → Type 0) {failures : S → ℕ} (split : Splitting) (s : S) → split ≡ at_start → Goes (judging terms) (span took failures s s) (stretch (standing_after at_start []) (standing_after split []) [] [])
+none-yet : {S : Type 0} (terms : Terms) (took : S → List Told → Type 0) {failures : S → ℕ} (split : Splitting) (s : S) → split ≡ at_start →
+    Goes (judging terms) (span took failures s s) (stretch (standing_after at_start []) (standing_after split []) [] [])
 none-yet terms took split s e = record {
   calls = [];
   tells = tells-none took s;
-  way = subst (λ (w : Splitting). Way (judging terms) (stretch (standing_after at_start []) (standing_after w []) [] []) []) (sym e) (way-none (judging terms) (standing_after at_start []) []);
+  way = subst (λ (w : Splitting). Way (judging terms) (stretch (standing_after at_start []) (standing_after w []) [] []) []) (sym e)
+      (way-none (judging terms) (standing_after at_start []) []);
   after = λ more o c. (o, subst (λ (w : Splitting). ToCome (judging terms) (standing_after w []) more o) (sym e) c, refl);
 }
 
-pub fed-first : {S : Type 0} (terms : Terms) (took : S → List Call → Type 0) {failures : S → ℕ} (known : Option (List ℕ)) (bytes : List ℕ) (session : Progress) (frames : ℕ → Frame) (s : S) → IsFresh session terms → known ≡ Some bytes → FedOn terms (span took failures s s) known bytes session
+pub fed-first : {S : Type 0} (terms : Terms) (took : S → List Call → Type 0) {failures : S → ℕ} (known : Option (List ℕ)) (bytes : List ℕ)
+    (session : Progress) (frames : ℕ → Frame) (s : S) → IsFresh session terms → known ≡ Some bytes → FedOn terms (span took failures s s) known bytes session
 unfolding none-yet
 fed-first terms took known bytes session frames s f h = record {
   terms_is = f.terms_is;
@@ -426,7 +557,9 @@ fed-first terms took known bytes session frames s f h = record {
 }
 
 -- an interrupted read took no byte
-pub fed-again : {S : Type 0} {terms : Terms} {took : S → List Call → Type 0} {failures : S → ℕ} {known : Option (List ℕ)} {bytes : List ℕ} {session : Progress} {s s' : S} (known' : Option (List ℕ)) → ((left : List ℕ) → known ≡ Some left → known' ≡ Some left) → FedOn terms (span took failures s s') known bytes session → FedOn terms (span took failures s s') known' bytes session
+pub fed-again : {S : Type 0} {terms : Terms} {took : S → List Call → Type 0} {failures : S → ℕ} {known : Option (List ℕ)} {bytes : List ℕ}
+    {session : Progress} {s s' : S} (known' : Option (List ℕ)) → ((left : List ℕ) → known ≡ Some left → known' ≡ Some left) →
+    FedOn terms (span took failures s s') known bytes session → FedOn terms (span took failures s s') known' bytes session
 unfolding fed-same
 fed-again {terms} {took} {known} {bytes} {session} {s} {s'} known' r f = record {
   terms_is = f.terms_is;
@@ -438,7 +571,12 @@ fed-again {terms} {took} {known} {bytes} {session} {s} {s'} known' r f = record 
 }
 
 -- a piece more
-pub fed-more : {S : Type 0} {terms : Terms} {took : S → List Call → Type 0} {failures : S → ℕ} {known : Option (List ℕ)} {bytes : List ℕ} {old new : Progress} {s0 s1 s2 : S} (known' : Option (List ℕ)) (piece : List ℕ) (n : ℕ) → new.terms ≡ old.terms → ((left : List ℕ) → known ≡ Some left → (left ≡ take n piece ++ drop n left) × (known' ≡ Some (drop n left))) → (f : FedOn terms (span took failures s0 s1) known bytes old) → GoesOn old.terms (frame_span took failures f.frames s1 s2) (stretch (standing_after old.split f.after) (standing new.split new.state) (take n piece) []) → FedOn terms (span took failures s0 s2) known' bytes new
+pub fed-more : {S : Type 0} {terms : Terms} {took : S → List Call → Type 0} {failures : S → ℕ} {known : Option (List ℕ)} {bytes : List ℕ} {old new : Progress}
+    {s0 s1 s2 : S} (known' : Option (List ℕ)) (piece : List ℕ) (n : ℕ) → new.terms ≡ old.terms →
+    ((left : List ℕ) → known ≡ Some left → (left ≡ take n piece ++ drop n left) × (known' ≡ Some (drop n left))) →
+    (f : FedOn terms (span took failures s0 s1) known bytes old) →
+    GoesOn old.terms (frame_span took failures f.frames s1 s2) (stretch (standing_after old.split f.after) (standing new.split new.state) (take n piece) []) →
+    FedOn terms (span took failures s0 s2) known' bytes new
 unfolding fed-on fed-agree goes-agree goes-then goes-both goes-more
 fed-more {terms} {took} {known} {bytes} {old} {new} {s0} {s1} {s2} known' piece n m r f q =
     let g = goes-as f.terms_is q in
@@ -447,65 +585,105 @@ fed-more {terms} {took} {known} {bytes} {old} {new} {s0} {s1} {s2} known' piece 
       frames = g.made;
       after = g.after;
       keeps = keeps-as (sym (m ∙ f.terms_is)) g.keeps;
-      fed = fed-on (judging terms) (took_with g.made took) known known' bytes piece n (standing_after at_start []) (standing_after old.split f.after) (standing_after new.split g.after) s0 s1 s2 r (fed-agree took (ended_in f.after) f.frames g.made g.same f.fed f.of) g.goes;
+      fed = fed-on (judging terms) (took_with g.made took) known known' bytes piece n (standing_after at_start []) (standing_after old.split f.after)
+          (standing_after new.split g.after) s0 s1 s2 r (fed-agree took (ended_in f.after) f.frames g.made g.same f.fed f.of) g.goes;
       of = of-both (ended_in g.after) f.fed.goes.calls g.goes.calls (of-more (ended_in f.after) (ended_in g.after) f.fed.goes.calls g.grows f.of) g.of;
     }
 
 -- a stop at a piece
-pub fed-halts : {S : Type 0} {terms : Terms} {took : S → List Call → Type 0} {failures : S → ℕ} {known : Option (List ℕ)} {bytes : List ℕ} {old : Progress} {s0 s1 s2 : S} {stop : Stop} (known' : Option (List ℕ)) (piece : List ℕ) (n : ℕ) → ((left : List ℕ) → known ≡ Some left → (left ≡ take n piece ++ drop n left) × (known' ≡ Some (drop n left))) → (f : FedOn terms (span took failures s0 s1) known bytes old) → failures s1 ≡ failures s0 → StopsOn old.terms (frame_span took failures f.frames s1 s2) (standing_after old.split f.after) (take n piece) stop → JudgesWith terms (span took failures s0 s2) bytes (Err stop)
+pub fed-halts : {S : Type 0} {terms : Terms} {took : S → List Call → Type 0} {failures : S → ℕ} {known : Option (List ℕ)} {bytes : List ℕ} {old : Progress}
+    {s0 s1 s2 : S} {stop : Stop} (known' : Option (List ℕ)) (piece : List ℕ) (n : ℕ) →
+    ((left : List ℕ) → known ≡ Some left → (left ≡ take n piece ++ drop n left) × (known' ≡ Some (drop n left))) →
+    (f : FedOn terms (span took failures s0 s1) known bytes old) → failures s1 ≡ failures s0 →
+    StopsOn old.terms (frame_span took failures f.frames s1 s2) (standing_after old.split f.after) (take n piece) stop →
+    JudgesWith terms (span took failures s0 s2) bytes (Err stop)
 fed-halts {terms} {took} {failures} {known} {bytes} {old} {s0} {s1} {s2} {stop} known' piece n r f k q =
     let p = stops-as f.terms_is q in
     record {
       frames = p.made;
-      judges = fed-stops (judging terms) [] (took_with p.made took) failures known known' bytes piece n (standing_after old.split f.after) s0 s1 s2 stop r (fed-agree took (ended_in f.after) f.frames p.made p.same f.fed f.of) k p.stops;
+      judges = fed-stops (judging terms) [] (took_with p.made took) failures known known' bytes piece n (standing_after old.split f.after) s0 s1 s2 stop r
+          (fed-agree took (ended_in f.after) f.frames p.made p.same f.fed f.of) k p.stops;
     }
 
 -- the source failed
-pub fed-fails : {S : Type 0} {terms : Terms} {took : S → List Call → Type 0} {failures : S → ℕ} {known : Option (List ℕ)} {bytes : List ℕ} {session : Progress} {s s' : S} → FedOn terms (span took failures s s') known bytes session → failures s' ≡ failures s → JudgesWith terms (span took failures s s') bytes (Err Read)
-fed-fails {terms} {took} {failures} {known} {bytes} {session} {s} {s'} f k = record { frames = f.frames; judges = fed-read (judging terms) [] (took_with f.frames took) failures known bytes (standing_after session.split f.after) s s' f.fed k }
+pub fed-fails : {S : Type 0} {terms : Terms} {took : S → List Call → Type 0} {failures : S → ℕ} {known : Option (List ℕ)} {bytes : List ℕ}
+    {session : Progress} {s s' : S} → FedOn terms (span took failures s s') known bytes session → failures s' ≡ failures s →
+    JudgesWith terms (span took failures s s') bytes (Err Read)
+fed-fails {terms} {took} {failures} {known} {bytes} {session} {s} {s'} f k =
+    record {
+      frames = f.frames;
+      judges = fed-read (judging terms) [] (took_with f.frames took) failures known bytes (standing_after session.split f.after) s
+          s' f.fed k;
+    }
 
 -- it has no more bytes
-pub fed-last : {S : Type 0} (terms : Terms) (took : S → List Call → Type 0) (failures : S → ℕ) (known : Option (List ℕ)) (bytes : List ℕ) (old new : Progress) (s0 s1 s1' s2 : S) (r : Result Summary Stop) → new ≡ old → s1' ≡ s1 → ((left : List ℕ) → known ≡ Some left → left ≡ []) → FedOn terms (span took failures s0 s1) known bytes old → failures s1 ≡ failures s0 → ((frames : ℕ → Frame) (before : History) → Keeps new.terms.mode frames before new.state → FinishesOn new.terms (frame_span took failures frames s1' s2) (standing_after new.split before) r) → JudgesWith terms (span took failures s0 s2) bytes r
+pub fed-last : {S : Type 0} (terms : Terms) (took : S → List Call → Type 0) (failures : S → ℕ) (known : Option (List ℕ)) (bytes : List ℕ) (old new : Progress)
+    (s0 s1 s1' s2 : S) (r : Result Summary Stop) → new ≡ old → s1' ≡ s1 → ((left : List ℕ) → known ≡ Some left → left ≡ []) →
+    FedOn terms (span took failures s0 s1) known bytes old → failures s1 ≡ failures s0 →
+    ((frames : ℕ → Frame) (before : History) → Keeps new.terms.mode frames before new.state →
+    FinishesOn new.terms (frame_span took failures frames s1' s2) (standing_after new.split before) r) → JudgesWith terms (span took failures s0 s2) bytes r
 fed-last terms took failures known bytes old new s0 s1 s1' s2 r e d none f k p =
     let keeps = subst (λ (w : Progress). Keeps w.terms.mode f.frames f.after w.state) (sym e) f.keeps in
     let m : new.terms ≡ terms = ap (λ (w : Progress). w.terms) e ∙ f.terms_is in
     let q = finishes-as m (p f.frames f.after keeps) in
     record {
       frames = q.made;
-      judges = fed-ends (judging terms) [] (took_with q.made took) failures known bytes (standing_after old.split f.after) (standing_after new.split f.after) s0 s1 s1' s2 r (ap (λ (w : Progress). standing_after w.split f.after) e) d none (fed-agree took (ended_in f.after) f.frames q.made q.same f.fed f.of) k q.finishes;
+      judges = fed-ends (judging terms) [] (took_with q.made took) failures known bytes (standing_after old.split f.after) (standing_after new.split f.after)
+          s0 s1 s1' s2 r (ap (λ (w : Progress). standing_after w.split f.after) e) d none
+          (fed-agree took (ended_in f.after) f.frames q.made q.same f.fed f.of) k q.finishes;
     }
 
 -- nothing was fed: memory was refused at once
-pub none-judged : {S : Type 0} (terms : Terms) (took : S → List Call → Type 0) (failures : S → ℕ) (bytes : List ℕ) (frames : ℕ → Frame) (s : S) → JudgesWith terms (span took failures s s) bytes (Err Memory)
+pub none-judged : {S : Type 0} (terms : Terms) (took : S → List Call → Type 0) (failures : S → ℕ) (bytes : List ℕ) (frames : ℕ → Frame) (s : S) →
+    JudgesWith terms (span took failures s s) bytes (Err Memory)
 none-judged terms took failures bytes frames s = record { frames = frames; judges = judges-memory (judging terms) [] (took_with frames took) failures bytes s }
 
 -- ---- pieces
 
 -- no piece yet
-pub pieces-first : {S : Type 0} (terms : Terms) (took : S → List Call → Type 0) {failures : S → ℕ} (session : Progress) (frames : ℕ → Frame) (s : S) → IsFresh session terms → GoesOn terms (frame_span took failures frames s s) (stretch (standing_after at_start []) (standing session.split session.state) [] [])
+pub pieces-first : {S : Type 0} (terms : Terms) (took : S → List Call → Type 0) {failures : S → ℕ} (session : Progress) (frames : ℕ → Frame) (s : S) →
+    IsFresh session terms → GoesOn terms (frame_span took failures frames s s)
+    (stretch (standing_after at_start []) (standing session.split session.state) [] [])
 pieces-first terms took {failures} session frames s f =
-    subst (λ (split : Splitting). GoesOn terms (frame_span took failures frames s s) (stretch (standing_after at_start []) (standing split session.state) [] [])) (sym f.split)
+    subst (λ (split : Splitting). GoesOn terms (frame_span took failures frames s s)
+    (stretch (standing_after at_start []) (standing split session.state) [] [])) (sym f.split)
     (on-none terms took frames at_start [] session.state [] s (keeps-as f.terms_is (f.keeps frames)))
 
 -- one more
-pub pieces-on : {S X : Type 0} {terms : Terms} {took : S → List Call → Type 0} {failures : S → ℕ} {frames : ℕ → Frame} {mid split : Splitting} {first state : State} {s0 s1 s2 : S} (f : X → List ℕ) (xs : List X) (i : ℕ) (x : X) (piece : List ℕ) → i < length xs → x ≡ get_or xs i x → piece ≡ f x → (a : GoesOn terms (frame_span took failures frames s0 s1) (stretch (standing_after at_start []) (standing mid first) (flat_map f (take i xs)) [])) → GoesOn terms (frame_span took failures a.made s1 s2) (stretch (standing_after mid a.after) (standing split state) piece []) → GoesOn terms (frame_span took failures frames s0 s2) (stretch (standing_after at_start []) (standing split state) (flat_map f (take (i + 1) xs)) [])
+pub pieces-on : {S X : Type 0} {terms : Terms} {took : S → List Call → Type 0} {failures : S → ℕ} {frames : ℕ → Frame} {mid split : Splitting}
+    {first state : State} {s0 s1 s2 : S} (f : X → List ℕ) (xs : List X) (i : ℕ) (x : X) (piece : List ℕ) → i < length xs → x ≡ get_or xs i x → piece ≡ f x →
+    (a : GoesOn terms (frame_span took failures frames s0 s1) (stretch (standing_after at_start []) (standing mid first) (flat_map f (take i xs)) [])) →
+    GoesOn terms (frame_span took failures a.made s1 s2) (stretch (standing_after mid a.after) (standing split state) piece []) →
+    GoesOn terms (frame_span took failures frames s0 s2) (stretch (standing_after at_start []) (standing split state) (flat_map f (take (i + 1) xs)) [])
 pieces-on {terms} {took} {failures} {frames} {mid} {split} {first} {state} {s0} {s2} f xs i x piece h e p a b =
-    subst (λ (l : List ℕ). GoesOn terms (frame_span took failures frames s0 s2) (stretch (standing_after at_start []) (standing split state) l [])) (piece-more f xs i x piece h e p) (on-then a b)
+    subst (λ (l : List ℕ). GoesOn terms (frame_span took failures frames s0 s2) (stretch (standing_after at_start []) (standing split state) l []))
+    (piece-more f xs i x piece h e p) (on-then a b)
 
 -- a stop at one
-pub pieces-halt : {S : Type 0} {terms : Terms} {took : S → List Call → Type 0} {failures : S → ℕ} {frames : ℕ → Frame} {mid : Splitting} {first : State} {s0 s1 s2 : S} {stop : Stop} (bytes before piece later : List ℕ) → bytes ≡ before ++ (piece ++ later) → (a : GoesOn terms (frame_span took failures frames s0 s1) (stretch (standing_after at_start []) (standing mid first) before [])) → failures s1 ≡ failures s0 → StopsOn terms (frame_span took failures a.made s1 s2) (standing_after mid a.after) piece stop → JudgesWith terms (span took failures s0 s2) bytes (Err stop)
+pub pieces-halt : {S : Type 0} {terms : Terms} {took : S → List Call → Type 0} {failures : S → ℕ} {frames : ℕ → Frame} {mid : Splitting} {first : State}
+    {s0 s1 s2 : S} {stop : Stop} (bytes before piece later : List ℕ) → bytes ≡ before ++ (piece ++ later) →
+    (a : GoesOn terms (frame_span took failures frames s0 s1) (stretch (standing_after at_start []) (standing mid first) before [])) →
+    failures s1 ≡ failures s0 → StopsOn terms (frame_span took failures a.made s1 s2) (standing_after mid a.after) piece stop →
+    JudgesWith terms (span took failures s0 s2) bytes (Err stop)
 pieces-halt {terms} {took} {failures} {frames} {mid} {s0} {s1} {s2} {stop} bytes before piece later e a k p = record {
   frames = p.made;
-  judges = pieces-stop (judging terms) [] (took_with p.made took) failures bytes before piece later (standing_after mid a.after) s0 s1 s2 stop e (goes-agree took (ended_in a.after) a.made p.made p.same a.goes a.of) k p.stops;
+  judges = pieces-stop (judging terms) [] (took_with p.made took) failures bytes before piece later (standing_after mid a.after) s0 s1 s2 stop e
+      (goes-agree took (ended_in a.after) a.made p.made p.same a.goes a.of) k p.stops;
 }
 
 -- all of them
-pub pieces-end : {S X : Type 0} {terms : Terms} {took : S → List Call → Type 0} {failures : S → ℕ} {frames : ℕ → Frame} {mid : Splitting} {first : State} {s0 s1 s2 : S} {r : Result Summary Stop} (f : X → List ℕ) (xs : List X) (n : ℕ) → n ≡ length xs → (a : GoesOn terms (frame_span took failures frames s0 s1) (stretch (standing_after at_start []) (standing mid first) (flat_map f (take n xs)) [])) → failures s1 ≡ failures s0 → FinishesOn terms (frame_span took failures a.made s1 s2) (standing_after mid a.after) r → JudgesWith terms (span took failures s0 s2) (flat_map f xs) r
+pub pieces-end : {S X : Type 0} {terms : Terms} {took : S → List Call → Type 0} {failures : S → ℕ} {frames : ℕ → Frame} {mid : Splitting} {first : State}
+    {s0 s1 s2 : S} {r : Result Summary Stop} (f : X → List ℕ) (xs : List X) (n : ℕ) → n ≡ length xs →
+    (a : GoesOn terms (frame_span took failures frames s0 s1) (stretch (standing_after at_start []) (standing mid first) (flat_map f (take n xs)) [])) →
+    failures s1 ≡ failures s0 → FinishesOn terms (frame_span took failures a.made s1 s2) (standing_after mid a.after) r →
+    JudgesWith terms (span took failures s0 s2) (flat_map f xs) r
 pieces-end {terms} {took} {failures} {frames} {mid} {s0} {s1} {s2} {r} f xs n e a k p = record {
   frames = p.made;
-  judges = pieces-finish (judging terms) [] (took_with p.made took) failures (flat_map f xs) (standing_after mid a.after) s0 s1 s2 r (goes-all f xs n e (goes-agree took (ended_in a.after) a.made p.made p.same a.goes a.of)) k p.finishes;
+  judges = pieces-finish (judging terms) [] (took_with p.made took) failures (flat_map f xs) (standing_after mid a.after) s0 s1 s2 r
+      (goes-all f xs n e (goes-agree took (ended_in a.after) a.made p.made p.same a.goes a.of)) k p.finishes;
 }
 
 -- the same terms
-pub fed-as : {S : Type 0} {took : S → List Call → Type 0} {failures : S → ℕ} {known : Option (List ℕ)} {bytes : List ℕ} {session : Progress} {s s' : S} {t t' : Terms} → t ≡ t' → FedOn t (span took failures s s') known bytes session → FedOn t' (span took failures s s') known bytes session
+pub fed-as : {S : Type 0} {took : S → List Call → Type 0} {failures : S → ℕ} {known : Option (List ℕ)} {bytes : List ℕ} {session : Progress} {s s' : S}
+    {t t' : Terms} → t ≡ t' → FedOn t (span took failures s s') known bytes session → FedOn t' (span took failures s s') known bytes session
 fed-as {took} {failures} {known} {bytes} {session} {s} {s'} e f = subst (λ t. FedOn t (span took failures s s') known bytes session) e f

@@ -1,5 +1,6 @@
 -- The buffer stays within its places.
-use Rattle.std.proofs.Common.{◌≡◌, ℕ, ◌+◌, ◌-◌, ◌<◌, ◌≤◌, ◌||◌, not, Bool, true, false, List, [], ◌∷◌, ◌++◌, length, length-append, Option, Some, None, refl, ap, sym, ◌∙◌, subst, arith, if◌then◌else◌}
+use Rattle.std.proofs.Common.{◌≡◌, ℕ, ◌+◌, ◌-◌, ◌<◌, ◌≤◌, ◌||◌, not, Bool, true, false, List, [], ◌∷◌, ◌++◌, length, length-append, Option, Some, None, refl}
+use Rattle.std.proofs.Common.{ap, sym, ◌∙◌, subst, arith, if◌then◌else◌}
 use Rattle.std.proofs.lemmas.List.{append-nil, length-map}
 use Rattle.std.specs.Option.{is_some}
 use Rattle.h264_base.proofs.Chains.{then-some}
@@ -18,7 +19,8 @@ use Rattle.h264_dpb.specs.Ending.{ended_of}
 use Rattle.h264_dpb.specs.Bumping.{is_held, missing_in, made_room, marked, stored_reference, stored_other, flushed}
 use Rattle.h264_dpb.specs.Buffered.{Buffered, StaysWithin}
 use Rattle.h264_dpb.specs.Numbered.{AreRising}
-use Rattle.h264_dpb.specs.Turns.{Shown, Turn, turn_then, stays, names, still, missing_turn, flush_turn, reference_turn, other_turn, empties, entry_of, way_turn, store_turn}
+use Rattle.h264_dpb.specs.Turns.{Shown, Turn, turn_then, stays, names, still, missing_turn, flush_turn, reference_turn, other_turn, empties, entry_of}
+use Rattle.h264_dpb.specs.Turns.{way_turn, store_turn}
 use Rattle.h264_dpb.proofs.Room.{short-placed}
 use Rattle.h264_dpb.proofs.Bounded.{used-marked, made_room-frees}
 use Rattle.h264_dpb.proofs.Rising.{marked-counted, few, few-other, rising-made_room, rising-marked, rising-reference, rising-other}
@@ -42,7 +44,8 @@ names-count refs = length-map refs.frames (λ f. f.picture)
 
 -- ---- one step
 
-missing-sits : (n size : ℕ) (refs : References) (b : Buffered Shown) → 0 < missing_in (names refs) → length refs.frames ≤ size → Sits n size b → Sits n size (missing_turn refs b).buffer
+missing-sits : (n size : ℕ) (refs : References) (b : Buffered Shown) → 0 < missing_in (names refs) → length refs.frames ≤ size → Sits n size b →
+    Sits n size (missing_turn refs b).buffer
 unfolding missing_turn
 missing-sits n size refs b some most s =
     let left = marked (still refs) b.entries in
@@ -50,14 +53,17 @@ missing-sits n size refs b some most s =
     let count = marked-counted number_of (still refs) b.entries in
     let total = names-count refs in
     let sized = s.sized in
-    let free = made_room-frees (b.size - (missing_in (names refs) - 1)) left (used-marked (still refs) b.entries) (omega (arith, all, count, total, most, some, sized)) in
+    let free = made_room-frees (b.size - (missing_in (names refs) - 1)) left (used-marked (still refs) b.entries)
+    (omega (arith, all, count, total, most, some, sized)) in
     record {
-      rising = rising-made_room number_of 0 n (length left) (b.size - (missing_in (names refs) - 1)) left (rising-marked number_of 0 n (still refs) b.entries s.rising);
+      rising = rising-made_room number_of 0 n (length left) (b.size - (missing_in (names refs) - 1)) left
+          (rising-marked number_of 0 n (still refs) b.entries s.rising);
       within = omega (arith, free, some, all, total, most, sized);
       sized = sized;
     }
 
-reference-sits : (size : ℕ) (e : Entry Shown) (refs : References) (b : Buffered Shown) → is_held (names refs) e.of.picture ≡ true → length refs.frames ≤ size → Sits e.of.picture size b → Sits (e.of.picture + 1) size (reference_turn e refs b).buffer
+reference-sits : (size : ℕ) (e : Entry Shown) (refs : References) (b : Buffered Shown) → is_held (names refs) e.of.picture ≡ true →
+    length refs.frames ≤ size → Sits e.of.picture size b → Sits (e.of.picture + 1) size (reference_turn e refs b).buffer
 unfolding reference_turn stored_reference
 reference-sits size e refs b held most s =
     let left = marked (still refs) b.entries in
@@ -97,7 +103,8 @@ way-sits n size e b z s = by (empties e) refl
     by true t = subst (λ (k : ℕ). Sits n k (flush_turn (not e.drops) e.size b).buffer) z (flush-sits n e.size (not e.drops) b)
     by false t = s t
 
-store-sits : (size : ℕ) (e : Ended) (refs : References) (b : Buffered Shown) → (e.reference ≡ true → is_held (names refs) e.picture ≡ true) → length refs.frames ≤ size → Sits e.picture size b → Sits (e.picture + 1) size (store_turn e refs b).buffer
+store-sits : (size : ℕ) (e : Ended) (refs : References) (b : Buffered Shown) → (e.reference ≡ true → is_held (names refs) e.picture ≡ true) →
+    length refs.frames ≤ size → Sits e.picture size b → Sits (e.picture + 1) size (store_turn e refs b).buffer
 unfolding store_turn
 store-sits size e refs b held most s = by e.reference refl
   where
@@ -107,15 +114,20 @@ store-sits size e refs b held most s = by e.reference refl
 
 -- ---- missing numbers, or the first of them
 
-gaps-sits : (k size : ℕ) (n : Numbering) (numbers others : List ℕ) (refs next : References) (b : Buffered Shown) → all_filled n (numbers ++ others) refs ≡ Some next → length refs.frames ≤ frame_places n.max_num_ref_frames → frame_places n.max_num_ref_frames ≤ size → Sits k size b → Sits k size (gaps_turn n numbers refs b).buffer
+gaps-sits : (k size : ℕ) (n : Numbering) (numbers others : List ℕ) (refs next : References) (b : Buffered Shown) → all_filled n (numbers ++ others) refs ≡
+    Some next → length refs.frames ≤ frame_places n.max_num_ref_frames → frame_places n.max_num_ref_frames ≤ size → Sits k size b →
+    Sits k size (gaps_turn n numbers refs b).buffer
 gaps-sits k size n [] others refs next b e few' fit s = s
 gaps-sits k size n (number ∷ numbers) others refs next b e few' fit s =
     let one = then-some (all_filled n (numbers ++ others)) (filled (record n { frame_num = number }) refs) next e in
     let room = filled-room (record n { frame_num = number }) refs one.0 one.1 few' in
     subst (λ (o : Option References). Sits k size (gap_on o (λ held. turn_then (missing_turn held b) (gaps_turn n numbers held)) b).buffer) (sym one.1)
-    (gaps-sits k size n numbers others one.0 next (missing_turn one.0 b).buffer one.2 room fit (missing-sits k size one.0 b (some-missing (record n { frame_num = number }) refs one.0 one.1) (omega (arith, room, fit)) s))
+    (gaps-sits k size n numbers others one.0 next (missing_turn one.0 b).buffer one.2 room fit
+    (missing-sits k size one.0 b (some-missing (record n { frame_num = number }) refs one.0 one.1) (omega (arith, room, fit)) s))
 
-some-sits : (k size : ℕ) (n : Numbering) (numbers others : List ℕ) (refs : References) (b : Buffered Shown) (o : Option References) → all_filled n (numbers ++ others) refs ≡ o → is_some o ≡ true → length refs.frames ≤ frame_places n.max_num_ref_frames → frame_places n.max_num_ref_frames ≤ size → Sits k size b → Sits k size (gaps_turn n numbers refs b).buffer
+some-sits : (k size : ℕ) (n : Numbering) (numbers others : List ℕ) (refs : References) (b : Buffered Shown) (o : Option References) →
+    all_filled n (numbers ++ others) refs ≡ o → is_some o ≡ true → length refs.frames ≤ frame_places n.max_num_ref_frames →
+    frame_places n.max_num_ref_frames ≤ size → Sits k size b → Sits k size (gaps_turn n numbers refs b).buffer
 some-sits k size n numbers others refs b None e t few' fit s = cc
 some-sits k size n numbers others refs b (Some next) e t few' fit s = gaps-sits k size n numbers others refs next b e few' fit s
 
@@ -138,7 +150,8 @@ set-places sps [] h = absurd h
 set-places sps (p ∷ ps) h = ap (λ (x : Sps). buffer_size x) h
 
 -- while missing numbers are filled before a picture
-filling : (p : CodedPicture) (ps : List CodedPicture) (numbers others : List ℕ) → missing_before p ps ≡ numbers ++ others → Follows p ps → AreSound true ps → Sits (length ps) (places_after ps) (after_all ps).buffer →
+filling : (p : CodedPicture) (ps : List CodedPicture) (numbers others : List ℕ) → missing_before p ps ≡ numbers ++ others → Follows p ps → AreSound true ps →
+    Sits (length ps) (places_after ps) (after_all ps).buffer →
     Sits (length ps) (places_after ps) (gaps_turn (numbering_of p.first.sps p.first.header) numbers (held_after ps) (after_all ps).buffer).buffer
 filling p ps numbers others m f a s = by (is_idr p.first.header) refl
   where
@@ -153,9 +166,11 @@ filling p ps numbers others m f a s = by (is_idr p.first.header) refl
         let set = f.set i in
         let fit = places-fit p.first.sps f.usable in
         let places = set-places p.first.sps ps set in
-        some-sits (length ps) (places_after ps) n numbers others (held_after ps) (after_all ps).buffer _ (ap (λ (l : List ℕ). all_filled n l (held_after ps)) (sym m)) f.filled (set-few p.first.sps ps set a) (omega (arith, fit, places)) s
+        some-sits (length ps) (places_after ps) n numbers others (held_after ps) (after_all ps).buffer _
+        (ap (λ (l : List ℕ). all_filled n l (held_after ps)) (sym m)) f.filled (set-few p.first.sps ps set a) (omega (arith, fit, places)) s
 
-within-sits : (p : CodedPicture) (ps : List CodedPicture) → Follows p ps → AreSound true ps → Sits (length ps) (places_after ps) (after_all ps).buffer → Sits (length ps) (places_after ps) (within_newest (p ∷ ps)).buffer
+within-sits : (p : CodedPicture) (ps : List CodedPicture) → Follows p ps → AreSound true ps → Sits (length ps) (places_after ps) (after_all ps).buffer →
+    Sits (length ps) (places_after ps) (within_newest (p ∷ ps)).buffer
 within-sits p ps f a s = filling p ps (missing_before p ps) [] (sym (append-nil (missing_before p ps))) f a s
 
 -- ---- the end of a picture
@@ -175,7 +190,8 @@ or-false : (a b : Bool) → (a || b) ≡ false → a ≡ false
 or-false true b e = e
 or-false false b e = refl
 
-ended-sits : (p : CodedPicture) (ps : List CodedPicture) (e : Ended) (b : Buffered Shown) → IsTold p ps e → AreSound true (p ∷ ps) → Sits (length ps) (places_after ps) b →
+ended-sits : (p : CodedPicture) (ps : List CodedPicture) (e : Ended) (b : Buffered Shown) → IsTold p ps e → AreSound true (p ∷ ps) →
+    Sits (length ps) (places_after ps) b →
     Sits (length ps + 1) (buffer_size p.first.sps) (turn_then (way_turn e b) (store_turn e (held_after (p ∷ ps)))).buffer
 ended-sits p ps e b o s h =
     let before : empties e ≡ false → Sits e.picture (buffer_size p.first.sps) b = λ t.
@@ -186,7 +202,8 @@ ended-sits p ps e b o s h =
     subst (λ (k : ℕ). is_held (names (held_after (p ∷ ps))) k ≡ true) (sym o.number) (after-among p ps s (sym o.reference ∙ r))
     in
     subst (λ (k : ℕ). Sits (k + 1) (buffer_size p.first.sps) (turn_then (way_turn e b) (store_turn e (held_after (p ∷ ps)))).buffer) o.number
-    (store-sits (buffer_size p.first.sps) e (held_after (p ∷ ps)) (way_turn e b).buffer held (after-few p ps s) (way-sits e.picture (buffer_size p.first.sps) e b o.size before))
+    (store-sits (buffer_size p.first.sps) e (held_after (p ∷ ps)) (way_turn e b).buffer held (after-few p ps s)
+    (way-sits e.picture (buffer_size p.first.sps) e b o.size before))
 
 -- ---- all pictures
 
@@ -197,8 +214,11 @@ after-sits (p ∷ ps) s =
     (ended-sits p ps (ended_picture p ps) (within_newest (p ∷ ps)).buffer (is-told p ps) s (within-sits p ps s.0 s.2 (after-sits ps s.2)))
 
 -- while missing numbers are filled before the newest, and while it is decoded
-pub filling-sits : (ended : Bool) (p : CodedPicture) (ps : List CodedPicture) (numbers others : List ℕ) → AreSound ended (p ∷ ps) → missing_before p ps ≡ numbers ++ others → Sits (length ps) (places_after ps) (gaps_turn (numbering_of p.first.sps p.first.header) numbers (held_after ps) (after_all ps).buffer).buffer
+pub filling-sits : (ended : Bool) (p : CodedPicture) (ps : List CodedPicture) (numbers others : List ℕ) → AreSound ended (p ∷ ps) →
+    missing_before p ps ≡ numbers ++ others →
+    Sits (length ps) (places_after ps) (gaps_turn (numbering_of p.first.sps p.first.header) numbers (held_after ps) (after_all ps).buffer).buffer
 filling-sits ended p ps numbers others s m = filling p ps numbers others m s.0 s.2 (after-sits ps s.2)
 
-pub newest-sits : (ended : Bool) (p : CodedPicture) (ps : List CodedPicture) → AreSound ended (p ∷ ps) → Sits (length ps) (places_after ps) (within_newest (p ∷ ps)).buffer
+pub newest-sits : (ended : Bool) (p : CodedPicture) (ps : List CodedPicture) → AreSound ended (p ∷ ps) →
+    Sits (length ps) (places_after ps) (within_newest (p ∷ ps)).buffer
 newest-sits ended p ps s = within-sits p ps s.0 s.2 (after-sits ps s.2)

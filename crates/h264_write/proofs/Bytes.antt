@@ -1,5 +1,6 @@
 -- Bits in bytes stand there.
-use Rattle.std.proofs.Common.{◌≡◌, ℕ, zero, suc, ◌+◌, ◌-◌, ◌*◌, ◌/◌, ◌%◌, ◌^◌, ◌<◌, ◌≤◌, ◌==◌, Bool, true, false, [], ◌∷◌, ◌++◌, length, get_or, take, drop, Some, slice_get, refl, ap, sym, ◌∙◌, arith}
+use Rattle.std.proofs.Common.{◌≡◌, ℕ, zero, suc, ◌+◌, ◌-◌, ◌*◌, ◌/◌, ◌%◌, ◌^◌, ◌<◌, ◌≤◌, ◌==◌, Bool, true, false, [], ◌∷◌, ◌++◌, length, get_or, take, drop}
+use Rattle.std.proofs.Common.{Some, slice_get, refl, ap, sym, ◌∙◌, arith}
 use Rattle.std.proofs.lemmas.List.{get_or-drop, length-drop}
 use Rattle.std.proofs.Math.Seq.{take-length}
 use Rattle.std.proofs.lemmas.List.FromFn.{length-map-range_with_len, get_or-map-range_with_len, map-range_with_len_more}
@@ -18,14 +19,19 @@ digit-test false = refl
 
 -- the bits of a byte are the digits
 abbrev EightDigits : Word → ℕ → Type 0
-EightDigits w x = (x / 2 ^ 7 % 2 ≡ digit_at w 0) × (x / 2 ^ 6 % 2 ≡ digit_at w 1) × (x / 2 ^ 5 % 2 ≡ digit_at w 2) × (x / 2 ^ 4 % 2 ≡ digit_at w 3) × (x / 2 ^ 3 % 2 ≡ digit_at w 4) × (x / 2 ^ 2 % 2 ≡ digit_at w 5) × (x / 2 ^ 1 % 2 ≡ digit_at w 6) × (x / 2 ^ 0 % 2 ≡ digit_at w 7)
+EightDigits w x = (x / 2 ^ 7 % 2 ≡ digit_at w 0) × (x / 2 ^ 6 % 2 ≡ digit_at w 1) × (x / 2 ^ 5 % 2 ≡ digit_at w 2) × (x / 2 ^ 4 % 2 ≡ digit_at w 3) ×
+    (x / 2 ^ 3 % 2 ≡ digit_at w 4) × (x / 2 ^ 2 % 2 ≡ digit_at w 5) × (x / 2 ^ 1 % 2 ≡ digit_at w 6) × (x / 2 ^ 0 % 2 ≡ digit_at w 7)
 
-one-digit : (a b c d e f g h x : ℕ) → a < 2 → b < 2 → c < 2 → d < 2 → e < 2 → f < 2 → g < 2 → h < 2 → x ≡ 128 * a + 64 * b + 32 * c + 16 * d + 8 * e + 4 * f + 2 * g + h → (x / 2 ^ 7 % 2 ≡ a) × (x / 2 ^ 6 % 2 ≡ b) × (x / 2 ^ 5 % 2 ≡ c) × (x / 2 ^ 4 % 2 ≡ d) × (x / 2 ^ 3 % 2 ≡ e) × (x / 2 ^ 2 % 2 ≡ f) × (x / 2 ^ 1 % 2 ≡ g) × (x / 2 ^ 0 % 2 ≡ h)
-one-digit a b c d e f g h x ha hb hc hd he hf hg hh is = (omega arith, omega arith, omega arith, omega arith, omega arith, omega arith, omega arith, omega arith)
+one-digit : (a b c d e f g h x : ℕ) → a < 2 → b < 2 → c < 2 → d < 2 → e < 2 → f < 2 → g < 2 → h < 2 →
+    x ≡ 128 * a + 64 * b + 32 * c + 16 * d + 8 * e + 4 * f + 2 * g + h → (x / 2 ^ 7 % 2 ≡ a) × (x / 2 ^ 6 % 2 ≡ b) × (x / 2 ^ 5 % 2 ≡ c) ×
+    (x / 2 ^ 4 % 2 ≡ d) × (x / 2 ^ 3 % 2 ≡ e) × (x / 2 ^ 2 % 2 ≡ f) × (x / 2 ^ 1 % 2 ≡ g) × (x / 2 ^ 0 % 2 ≡ h)
+one-digit a b c d e f g h x ha hb hc hd he hf hg hh is =
+    (omega arith, omega arith, omega arith, omega arith, omega arith, omega arith, omega arith, omega arith)
 
 eight-digits : (bits : Word) → EightDigits bits (first_byte bits)
 unfolding first_byte
-eight-digits bits = one-digit (digit_at bits 0) (digit_at bits 1) (digit_at bits 2) (digit_at bits 3) (digit_at bits 4) (digit_at bits 5) (digit_at bits 6) (digit_at bits 7) _ (small 0) (small 1) (small 2) (small 3) (small 4) (small 5) (small 6) (small 7) refl
+eight-digits bits = one-digit (digit_at bits 0) (digit_at bits 1) (digit_at bits 2) (digit_at bits 3) (digit_at bits 4) (digit_at bits 5) (digit_at bits 6)
+    (digit_at bits 7) _ (small 0) (small 1) (small 2) (small 3) (small 4) (small 5) (small 6) (small 7) refl
   where
     small : (k : ℕ) → digit_at bits k < 2
     small k = digit-small (get_or bits k false)

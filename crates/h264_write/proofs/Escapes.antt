@@ -1,5 +1,6 @@
 -- Emulation prevention bytes: where they stand the bytes are those of a unit, and without them the bytes are the RBSP.
-use Rattle.std.proofs.Common.{◌≡◌, ℕ, suc, ◌+◌, ◌-◌, ◌<◌, ◌≤◌, ◌==◌, ◌&&◌, nat_le, Bool, true, false, List, [], ◌∷◌, ◌++◌, length, get_or, drop, refl, ap, sym, ◌∙◌, arith, append_assoc, if◌then◌else◌, eqb-true, drop-cons}
+use Rattle.std.proofs.Common.{◌≡◌, ℕ, suc, ◌+◌, ◌-◌, ◌<◌, ◌≤◌, ◌==◌, ◌&&◌, nat_le, Bool, true, false, List, [], ◌∷◌, ◌++◌, length, get_or, drop, refl, ap}
+use Rattle.std.proofs.Common.{sym, ◌∙◌, arith, append_assoc, if◌then◌else◌, eqb-true, drop-cons}
 use Rattle.std.proofs.lemmas.List.{append-nil}
 use Rattle.std.proofs.Math.Seq.{drop-length}
 use Rattle.std.proofs.lemmas.Bool.{leb-false}
@@ -25,10 +26,12 @@ unfolding escaped
 escaped-without z b rest e = choose-false (needs_prevention z b) _ _ e
 
 -- a byte more
-pub step-with : (old mid new : List ℕ) (z next b : ℕ) (rest : List ℕ) → needs_prevention z b ≡ true → mid ≡ old ++ 3 ∷ [] → new ≡ mid ++ b ∷ [] → next ≡ zeros_after 0 b → new ++ escaped next rest ≡ old ++ escaped z (b ∷ rest)
+pub step-with : (old mid new : List ℕ) (z next b : ℕ) (rest : List ℕ) → needs_prevention z b ≡ true → mid ≡ old ++ 3 ∷ [] → new ≡ mid ++ b ∷ [] →
+    next ≡ zeros_after 0 b → new ++ escaped next rest ≡ old ++ escaped z (b ∷ rest)
 step-with old mid new z next b rest e f g h = rw (g, f, h, escaped-with z b rest e) (simp append_assoc)
 
-pub step-without : (old new : List ℕ) (z next b : ℕ) (rest : List ℕ) → needs_prevention z b ≡ false → new ≡ old ++ b ∷ [] → next ≡ zeros_after z b → new ++ escaped next rest ≡ old ++ escaped z (b ∷ rest)
+pub step-without : (old new : List ℕ) (z next b : ℕ) (rest : List ℕ) → needs_prevention z b ≡ false → new ≡ old ++ b ∷ [] → next ≡ zeros_after z b →
+    new ++ escaped next rest ≡ old ++ escaped z (b ∷ rest)
 step-without old new z next b rest e g h = rw (g, h, escaped-without z b rest e) (simp append_assoc)
 
 pub few-after : (z b : ℕ) → z ≤ 2 → needs_prevention z b ≡ false → zeros_after z b ≤ 2
@@ -45,7 +48,9 @@ few-anew b = go (b == 0)
     go true = omega arith
     go false = omega arith
 
-pub escaped-next : (body after : List ℕ) (z next i : ℕ) (s whole : List ℕ) → i < length s → ((rest : List ℕ) → after ++ escaped next rest ≡ body ++ escaped z (get_or s i 0 ∷ rest)) → body ++ escaped z (drop i s) ≡ whole → after ++ escaped next (drop (i + 1) s) ≡ whole
+pub escaped-next : (body after : List ℕ) (z next i : ℕ) (s whole : List ℕ) → i < length s →
+    ((rest : List ℕ) → after ++ escaped next rest ≡ body ++ escaped z (get_or s i 0 ∷ rest)) → body ++ escaped z (drop i s) ≡ whole →
+    after ++ escaped next (drop (i + 1) s) ≡ whole
 escaped-next body after z next i s whole h step before =
     let k : i + 1 ≡ suc i = omega arith in
     let d = drop-cons s i 0 h in
@@ -110,7 +115,8 @@ after-two b s r true e = rw (escaped-with 2 b s e, prevention-left) (ap (λ t. 0
 after-two b s r false e =
     let n = large b 0 e (omega arith) in
     rw (escaped-without 2 b s e, after-other 2 b n)
-    (third-other 0 0 b (escaped 0 s) (large b 3 e (omega arith)) ∙ ap (λ t. 0 ∷ t) (second-other 0 b (escaped 0 s) n ∙ ap (λ t. 0 ∷ t) (head-other b (escaped 0 s) n ∙ ap (λ t. b ∷ t) r.0)))
+    (third-other 0 0 b (escaped 0 s) (large b 3 e (omega arith)) ∙
+    ap (λ t. 0 ∷ t) (second-other 0 b (escaped 0 s) n ∙ ap (λ t. 0 ∷ t) (head-other b (escaped 0 s) n ∙ ap (λ t. b ∷ t) r.0)))
 
 unescapes-none : Unescapes []
 unfolding escaped rbsp_bytes
@@ -164,7 +170,10 @@ inner-one b s i z false e = let n = is-other b e in rw (after-other 1 b e) (next
 inner-two : (b : ℕ) (s : List ℕ) → IsInner (escaped 0 s) → Zeros b s → (c : Bool) → nat_le b 3 ≡ c → IsInner (0 ∷ 0 ∷ escaped 2 (b ∷ s))
 inner-two b s i z true e = rw (escaped-with 2 b s e) (
   (λ f. absurd (let h = f.2 in omega arith)),
-  (next-other 0 3 (b ∷ escaped (zeros_after 0 b) s) (λ f. absurd (omega arith)), (first-other 3 (b ∷ escaped (zeros_after 0 b) s) (λ f. absurd (omega arith)), inner-plain b s i z (b == 0) refl)),
+  (
+    next-other 0 3 (b ∷ escaped (zeros_after 0 b) s) (λ f. absurd (omega arith)),
+    (first-other 3 (b ∷ escaped (zeros_after 0 b) s) (λ f. absurd (omega arith)), inner-plain b s i z (b == 0) refl),
+  ),
 )
 inner-two b s i z false e =
     let n = large b 0 e (omega arith) in

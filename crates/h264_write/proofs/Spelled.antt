@@ -1,5 +1,6 @@
 -- Numbers as bits.
-use Rattle.std.proofs.Common.{◌≡◌, ℕ, zero, suc, ◌+◌, ◌-◌, ◌*◌, ◌/◌, ◌%◌, ◌^◌, ◌<◌, ◌≤◌, ◌==◌, true, false, [], ◌∷◌, ◌++◌, length, replicate, pos, neg_ℤ, subst, refl, ap, sym, ◌∙◌, arith, append_assoc}
+use Rattle.std.proofs.Common.{◌≡◌, ℕ, zero, suc, ◌+◌, ◌-◌, ◌*◌, ◌/◌, ◌%◌, ◌^◌, ◌<◌, ◌≤◌, ◌==◌, true, false, [], ◌∷◌, ◌++◌, length, replicate, pos, neg_ℤ}
+use Rattle.std.proofs.Common.{subst, refl, ap, sym, ◌∙◌, arith, append_assoc}
 use Rattle.std.proofs.lemmas.Nat.{pow_pos, mod-pow-add, shr_le, shr_split, le-div, div_below, leading_top}
 use Rattle.std.proofs.lemmas.List.{append-nil}
 use Rattle.std.proofs.Math.Nat.{pow-suc, mod-eq_of_lt}
@@ -37,7 +38,8 @@ spelled-zero (suc n) =
     rw (z, spelled-zero n) refl
 
 -- one more bit
-pub spelled-more : (n i v : ℕ) (now old : Word) → i < n → now ++ spelled (n - i) v ≡ old → (now ++ (v / 2 ^ (n - 1 - i) % 2 == 1) ∷ []) ++ spelled (n - (i + 1)) v ≡ old
+pub spelled-more : (n i v : ℕ) (now old : Word) → i < n → now ++ spelled (n - i) v ≡ old →
+    (now ++ (v / 2 ^ (n - 1 - i) % 2 == 1) ∷ []) ++ spelled (n - (i + 1)) v ≡ old
 unfolding spelled
 spelled-more n i v now old h e =
     let k : n - i ≡ suc (n - (i + 1)) = omega arith in
@@ -69,7 +71,8 @@ golomb-spelled k c value few low high is =
     (spelled k c, rw l few, rw (l, spelled-zero k, more, first) refl, rw (l, n) (let t = rw one at s in omega arith))
 
 -- the word of ue(v) has as many zeros as its number has bits after the first
-pub golomb-leading : (value zeros : ℕ) → zeros ≡ 31 - count_leading_zeros 32 (value + 1) → value + 1 < 2 ^ 32 → IsWord Unsigned (spelled zeros 0 ++ spelled (zeros + 1) (value + 1)) (pos value)
+pub golomb-leading : (value zeros : ℕ) → zeros ≡ 31 - count_leading_zeros 32 (value + 1) → value + 1 < 2 ^ 32 →
+    IsWord Unsigned (spelled zeros 0 ++ spelled (zeros + 1) (value + 1)) (pos value)
 golomb-leading value zeros is h =
     let t = leading_top 32 (value + 1) (omega arith) h in
     let l = t.1 in

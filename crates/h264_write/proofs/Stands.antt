@@ -1,5 +1,6 @@
 -- Words one after another.
-use Rattle.std.proofs.Common.{◌≡◌, ℕ, suc, ◌+◌, ◌-◌, ◌%◌, ◌<◌, true, false, List, [], ◌∷◌, ◌++◌, length, replicate, get_or, Some, ℤ, pos, ap, ◌∙◌, subst, arith, length-append, append_assoc}
+use Rattle.std.proofs.Common.{◌≡◌, ℕ, suc, ◌+◌, ◌-◌, ◌%◌, ◌<◌, true, false, List, [], ◌∷◌, ◌++◌, length, replicate, get_or, Some, ℤ, pos, ap, ◌∙◌, subst}
+use Rattle.std.proofs.Common.{arith, length-append, append_assoc}
 use Rattle.std.proofs.lemmas.List.{length-replicate}
 use Rattle.h264_base.specs.Word.{Code, Unsigned, Signed, Word, signed, IsWord, StandsAt, Reads, bit_of}
 use Rattle.h264_bits.proofs.Readings.{signed-reads}
@@ -29,7 +30,8 @@ pub closed : (old mid new : Word) (n zeros : ℕ) → n ≡ length old → zeros
 unfolding spelled
 closed old mid new n zeros is z e f =
     let word : Word = true ∷ replicate zeros false in
-    let whole : new ≡ old ++ word = f ∙ ap (λ (m : Word). m ++ spelled zeros 0) e ∙ append_assoc old (true ∷ []) (spelled zeros 0) ∙ ap (λ (w : Word). old ++ true ∷ w) (spelled-zero zeros) in
+    let whole : new ≡ old ++ word = f ∙ ap (λ (m : Word). m ++ spelled zeros 0) e ∙ append_assoc old (true ∷ []) (spelled zeros 0) ∙
+    ap (λ (w : Word). old ++ true ∷ w) (spelled-zero zeros) in
     let l : length new ≡ length old + (zeros + 1) = rw whole (length-append old word ∙ (let r = length-replicate zeros false in omega arith)) in
     record {
       word = word;

@@ -1,12 +1,20 @@
 -- The rows of the tables: few, and each with bits that fit its length.
-use Rattle.std.proofs.Common.{◌≡◌, ℕ, zero, suc, ◌+◌, ◌<◌, ◌≤◌, ◌^◌, Bool, true, false, List, [], ◌∷◌, Option, Some, None, length, slice_get, ◌&&◌, nat_lt, nat_le, refl, ap, sym, ◌∙◌, arith, inl, inr}
+use Rattle.std.proofs.Common.{◌≡◌, ℕ, zero, suc, ◌+◌, ◌<◌, ◌≤◌, ◌^◌, Bool, true, false, List, [], ◌∷◌, Option, Some, None, length, slice_get, ◌&&◌, nat_lt}
+use Rattle.std.proofs.Common.{nat_le, refl, ap, sym, ◌∙◌, arith, inl, inr}
 use Rattle.std.proofs.lemmas.Bool.{and_parts, leb-true, ltb-true}
 use Rattle.h264_base.specs.Table.{Row, row, IsRow}
 use Rattle.h264_base.specs.Word.{Words, Unsigned, IsWord}
 use Rattle.h264_tables.specs.declared.table.Table.{Table}
-use Rattle.h264_tables.specs.declared.table.Table.TheVariants.{CoeffTokenNc0, CoeffTokenNc2, CoeffTokenNc4, CoeffTokenNc8, CoeffTokenChromaDc, TotalZeros1, TotalZeros2, TotalZeros3, TotalZeros4, TotalZeros5, TotalZeros6, TotalZeros7, TotalZeros8, TotalZeros9, TotalZeros10, TotalZeros11, TotalZeros12, TotalZeros13, TotalZeros14, TotalZeros15, TotalZerosChromaDc1, TotalZerosChromaDc2, TotalZerosChromaDc3, RunBefore1, RunBefore2, RunBefore3, RunBefore4, RunBefore5, RunBefore6, RunBefore7, CodedBlockPatternIntra, CodedBlockPatternInter, InvertedBit, LevelPrefix}
+use Rattle.h264_tables.specs.declared.table.Table.TheVariants.{CoeffTokenNc0, CoeffTokenNc2, CoeffTokenNc4, CoeffTokenNc8, CoeffTokenChromaDc, TotalZeros1}
+use Rattle.h264_tables.specs.declared.table.Table.TheVariants.{TotalZeros2, TotalZeros3, TotalZeros4, TotalZeros5, TotalZeros6, TotalZeros7, TotalZeros8}
+use Rattle.h264_tables.specs.declared.table.Table.TheVariants.{TotalZeros9, TotalZeros10, TotalZeros11, TotalZeros12, TotalZeros13, TotalZeros14}
+use Rattle.h264_tables.specs.declared.table.Table.TheVariants.{TotalZeros15, TotalZerosChromaDc1, TotalZerosChromaDc2, TotalZerosChromaDc3, RunBefore1}
+use Rattle.h264_tables.specs.declared.table.Table.TheVariants.{RunBefore2, RunBefore3, RunBefore4, RunBefore5, RunBefore6, RunBefore7, CodedBlockPatternIntra}
+use Rattle.h264_tables.specs.declared.table.Table.TheVariants.{CodedBlockPatternInter, InvertedBit, LevelPrefix}
 use Rattle.h264_tables.specs.CoeffToken.{coeff_token_nc0, coeff_token_nc2, coeff_token_nc4, coeff_token_nc8, coeff_token_chroma_dc}
-use Rattle.h264_tables.specs.TotalZeros.{total_zeros_1, total_zeros_2, total_zeros_3, total_zeros_4, total_zeros_5, total_zeros_6, total_zeros_7, total_zeros_8, total_zeros_9, total_zeros_10, total_zeros_11, total_zeros_12, total_zeros_13, total_zeros_14, total_zeros_15, total_zeros_chroma_dc_1, total_zeros_chroma_dc_2, total_zeros_chroma_dc_3}
+use Rattle.h264_tables.specs.TotalZeros.{total_zeros_1, total_zeros_2, total_zeros_3, total_zeros_4, total_zeros_5, total_zeros_6, total_zeros_7}
+use Rattle.h264_tables.specs.TotalZeros.{total_zeros_8, total_zeros_9, total_zeros_10, total_zeros_11, total_zeros_12, total_zeros_13, total_zeros_14}
+use Rattle.h264_tables.specs.TotalZeros.{total_zeros_15, total_zeros_chroma_dc_1, total_zeros_chroma_dc_2, total_zeros_chroma_dc_3}
 use Rattle.h264_tables.specs.RunBefore.{run_before_1, run_before_2, run_before_3, run_before_4, run_before_5, run_before_6, run_before_7}
 use Rattle.h264_tables.specs.CodedBlockPattern.{golomb_rows, coded_block_pattern_intra, coded_block_pattern_inter}
 use Rattle.h264_tables.specs.InvertedBit.{inverted_bit}
@@ -31,7 +39,10 @@ are_spelled (suc n) [] = true
 are_spelled (suc n) (r ∷ rows) = nat_lt r.bits (2 ^ r.length) && nat_le r.length 32 && are_spelled n rows
 
 rows_of-spelled : (table : Table) → are_spelled 64 (rows_of table) ≡ true
-unfolding are_spelled coeff_token_nc0 coeff_token_nc2 coeff_token_nc4 coeff_token_nc8 coeff_token_chroma_dc total_zeros_1 total_zeros_2 total_zeros_3 total_zeros_4 total_zeros_5 total_zeros_6 total_zeros_7 total_zeros_8 total_zeros_9 total_zeros_10 total_zeros_11 total_zeros_12 total_zeros_13 total_zeros_14 total_zeros_15 total_zeros_chroma_dc_1 total_zeros_chroma_dc_2 total_zeros_chroma_dc_3 run_before_1 run_before_2 run_before_3 run_before_4 run_before_5 run_before_6 run_before_7 coded_block_pattern_intra coded_block_pattern_inter inverted_bit level_prefix golomb_rows prefix_rows
+unfolding are_spelled coeff_token_nc0 coeff_token_nc2 coeff_token_nc4 coeff_token_nc8 coeff_token_chroma_dc total_zeros_1 total_zeros_2 total_zeros_3
+    total_zeros_4 total_zeros_5 total_zeros_6 total_zeros_7 total_zeros_8 total_zeros_9 total_zeros_10 total_zeros_11 total_zeros_12 total_zeros_13
+    total_zeros_14 total_zeros_15 total_zeros_chroma_dc_1 total_zeros_chroma_dc_2 total_zeros_chroma_dc_3 run_before_1 run_before_2 run_before_3 run_before_4
+    run_before_5 run_before_6 run_before_7 coded_block_pattern_intra coded_block_pattern_inter inverted_bit level_prefix golomb_rows prefix_rows
 rows_of-spelled CoeffTokenNc0 = refl
 rows_of-spelled CoeffTokenNc2 = refl
 rows_of-spelled CoeffTokenNc4 = refl
@@ -78,7 +89,8 @@ row-spelled : (n : ℕ) (rows : List Row) (r : Row) → are_spelled n rows ≡ t
 unfolding are_spelled
 row-spelled n [] r e m = absurd m
 row-spelled zero (q ∷ rows) r e m = absurd (cc)
-row-spelled (suc n) (q ∷ rows) r e (inl same) = let a = and_parts _ _ (and_parts _ _ e).0 in let P : Row → Type 0 = λ r. (r.bits < 2 ^ r.length) × (r.length ≤ 32) in subst P same (ltb-true _ _ a.0, leb-true _ _ a.1)
+row-spelled (suc n) (q ∷ rows) r e (inl same) = let a = and_parts _ _ (and_parts _ _ e).0 in let P : Row → Type 0 = λ r. (r.bits < 2 ^ r.length) ×
+    (r.length ≤ 32) in subst P same (ltb-true _ _ a.0, leb-true _ _ a.1)
 row-spelled (suc n) (q ∷ rows) r e (inr m) = row-spelled n rows r (and_parts _ _ e).1 m
 
 pub rows_of-few : (table : Table) → length (rows_of table) ≤ 64
@@ -102,7 +114,8 @@ row-number (q ∷ rows) r (inr m) = let k = row-number rows r m in (suc k.0, (le
 abbrev pub LacksTo : ℕ → List Row → ℕ → Type 0
 LacksTo i rows value = (k : ℕ) (r : Row) → k < i → slice_get rows k ≡ Some r → r.value ≡ value → ⊥
 
-pub lacks-more : (i : ℕ) (rows : List Row) (r : Row) (value : ℕ) → slice_get rows i ≡ Some r → (r.value ≡ value → ⊥) → LacksTo i rows value → LacksTo (i + 1) rows value
+pub lacks-more : (i : ℕ) (rows : List Row) (r : Row) (value : ℕ) → slice_get rows i ≡ Some r → (r.value ≡ value → ⊥) → LacksTo i rows value →
+    LacksTo (i + 1) rows value
 lacks-more i rows r value e other before k q h f g = elim (cases_lt k i) [
   | inl early ↦ before k q early f g
   | inr late ↦
@@ -129,7 +142,8 @@ rows-past table i e = past (rows_of table) i (none (slice_get (rows_of table) i)
     none (Some r) e = absurd (cc)
 
 -- a word's row
-pub word-row : (table : Table) (i : ℕ) (w : CodeWord) → Some w ≡ option_map word_of (slice_get (rows_of table) i) → (r : Row) × (slice_get (rows_of table) i ≡ Some r) × (word_of r ≡ w)
+pub word-row : (table : Table) (i : ℕ) (w : CodeWord) → Some w ≡ option_map word_of (slice_get (rows_of table) i) → (r : Row) ×
+    (slice_get (rows_of table) i ≡ Some r) × (word_of r ≡ w)
 word-row table i w e = map-some word_of (slice_get (rows_of table) i) w (sym e)
 
 -- the bits of a word are a word of its value

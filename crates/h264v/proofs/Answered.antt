@@ -20,7 +20,8 @@ use Rattle.h264v.specs.More.{IsAnswer, IsAnswerOf}
 use Rattle.h264v.specs.Words.{mode_of}
 use Rattle.h264v.specs.declared.command_line.Task.{Task}
 
-of-judged : {S : Type 0} {took : S → List Call → Type 0} {failures : S → ℕ} {terms : Terms} {bytes : List ℕ} {frames : ℕ → Frame} {s s' : S} (answer : Result Summary Stop) →
+of-judged : {S : Type 0} {took : S → List Call → Type 0} {failures : S → ℕ} {terms : Terms} {bytes : List ℕ} {frames : ℕ → Frame} {s s' : S}
+    (answer : Result Summary Stop) →
     Judged terms (span took failures s s') bytes frames [] answer → IsAnswer terms bytes answer
 of-judged (Ok summary) j = (j.judged.0.more, j.judged.0.verdict)
 of-judged (Err (No bit rule)) j = (j.judged.0.more, j.judged.0.verdict)
@@ -30,31 +31,43 @@ of-judged (Err Read) j = tt
 of-judged (Err Write) j = tt
 
 -- a judgement of what a source gives, whether it tells it or not, as far as a task judges
-pub answered : {S : Type 0} {took : S → List Call → Type 0} {failures : S → ℕ} {s s' : S} (task : Task) (target : Target) (mode : Mode) (left : Option (List ℕ)) (answer : Result Summary Stop) →
-    mode ≡ mode_of task → ((bytes : List ℕ) → left ≡ Some bytes → (frames : ℕ → Frame) → Judged (terms_of mode target) (span took failures s s') bytes frames [] answer) →
-    (some : List ℕ) → ((frames : ℕ → Frame) → Judged (terms_of mode target) (span took failures s s') some frames [] answer) → IsAnswerOf task target left answer
+pub answered : {S : Type 0} {took : S → List Call → Type 0} {failures : S → ℕ} {s s' : S} (task : Task) (target : Target) (mode : Mode)
+    (left : Option (List ℕ)) (answer : Result Summary Stop) →
+    mode ≡ mode_of task → ((bytes : List ℕ) → left ≡ Some bytes →
+    (frames : ℕ → Frame) → Judged (terms_of mode target) (span took failures s s') bytes frames [] answer) →
+    (some : List ℕ) → ((frames : ℕ → Frame) → Judged (terms_of mode target) (span took failures s s') some frames [] answer) →
+    IsAnswerOf task target left answer
 answered task target mode left answer is known some judged =
     subst (λ m. OfBytes left (λ bytes. IsAnswer (terms_of m target) bytes answer)) is
-    (of-bytes left (λ bytes. IsAnswer (terms_of mode target) bytes answer) (λ bytes h. of-judged answer (known bytes h (λ k. no_frame))) (some, of-judged answer (judged (λ k. no_frame))))
+    (of-bytes left (λ bytes. IsAnswer (terms_of mode target) bytes answer) (λ bytes h. of-judged answer (known bytes h (λ k. no_frame)))
+    (some, of-judged answer (judged (λ k. no_frame))))
 
 -- the calls that a sink took of what a source gives
-pub took-calls : {S : Type 0} {took : S → List Call → Type 0} {failures : S → ℕ} {s s' : S} (task : Task) (target : Target) (mode : Mode) (left : Option (List ℕ)) (answer : Result Summary Stop) →
-    mode ≡ mode_of task → ((bytes : List ℕ) → left ≡ Some bytes → (frames : ℕ → Frame) → Judged (terms_of mode target) (span took failures s s') bytes frames [] answer) →
+pub took-calls : {S : Type 0} {took : S → List Call → Type 0} {failures : S → ℕ} {s s' : S} (task : Task) (target : Target) (mode : Mode)
+    (left : Option (List ℕ)) (answer : Result Summary Stop) →
+    mode ≡ mode_of task → ((bytes : List ℕ) → left ≡ Some bytes →
+    (frames : ℕ → Frame) → Judged (terms_of mode target) (span took failures s s') bytes frames [] answer) →
     (some : List ℕ) → ((frames : ℕ → Frame) → Judged (terms_of mode target) (span took failures s s') some frames [] answer) → took s [] →
     OfBytes left (λ bytes. (a : Account (terms_of (mode_of task) target) bytes answer) × took s' (calls_in a))
 took-calls {took = took} {s' = s'} task target mode left answer is known some judged none =
     subst (λ m. OfBytes left (λ bytes. (a : Account (terms_of m target) bytes answer) × took s' (calls_in a))) is
-    (of-bytes left (λ bytes. (a : Account (terms_of mode target) bytes answer) × took s' (calls_in a)) (λ bytes h. accounts (known bytes h (λ k. no_frame)) none) (some, accounts (judged (λ k. no_frame)) none))
+    (of-bytes left (λ bytes. (a : Account (terms_of mode target) bytes answer) × took s' (calls_in a))
+    (λ bytes h. accounts (known bytes h (λ k. no_frame)) none) (some, accounts (judged (λ k. no_frame)) none))
 
 -- and those of which a choice leaves something
-pub chosen-calls : {S : Type 0} (took : S → List Call → Type 0) (terms : Terms) (answer : Result Summary Stop) (left : Option (List ℕ)) (choice k : Choice) (broke_off : Bool) (reading : Reading) (pending : Option Call) (sink : S) →
-    OfBytes left (λ bytes. (a : Account terms bytes answer) × ((choice ≡ k) × TookChosen took choice broke_off (record { reading = reading; pending = pending }) sink (calls_in a))) →
+pub chosen-calls : {S : Type 0} (took : S → List Call → Type 0) (terms : Terms) (answer : Result Summary Stop) (left : Option (List ℕ)) (choice k : Choice)
+    (broke_off : Bool) (reading : Reading) (pending : Option Call) (sink : S) →
+    OfBytes left (λ bytes. (a : Account terms bytes answer) ×
+    ((choice ≡ k) × TookChosen took choice broke_off (record { reading = reading; pending = pending }) sink (calls_in a))) →
     OfBytes left (λ bytes. (a : Account terms bytes answer) × TookChosen took k broke_off (record { reading = reading; pending = pending }) sink (calls_in a))
 chosen-calls took terms answer left choice k broke_off reading pending sink h =
-    of-map left (λ bytes. (a : Account terms bytes answer) × ((choice ≡ k) × TookChosen took choice broke_off (record { reading = reading; pending = pending }) sink (calls_in a))) (λ bytes. (a : Account terms bytes answer) × TookChosen took k broke_off (record { reading = reading; pending = pending }) sink (calls_in a))
+    of-map left (λ bytes. (a : Account terms bytes answer) ×
+    ((choice ≡ k) × TookChosen took choice broke_off (record { reading = reading; pending = pending }) sink (calls_in a)))
+    (λ bytes. (a : Account terms bytes answer) × TookChosen took k broke_off (record { reading = reading; pending = pending }) sink (calls_in a))
     (λ bytes t. (t.0, subst (λ c. TookChosen took c broke_off (record { reading = reading; pending = pending }) sink (calls_in t.0)) t.1.0 t.1.1)) h
 
-told-one : (terms : Terms) (bytes : List ℕ) (broke_off : Bool) (answer : Result Summary Stop) → IsAnswer terms bytes answer → IsAnswer terms bytes (told_of broke_off answer)
+told-one : (terms : Terms) (bytes : List ℕ) (broke_off : Bool) (answer : Result Summary Stop) → IsAnswer terms bytes answer →
+    IsAnswer terms bytes (told_of broke_off answer)
 told-one terms bytes true answer h = tt
 told-one terms bytes false (Ok summary) h = h
 told-one terms bytes false (Err (No bit rule)) h = h
@@ -67,7 +80,9 @@ told-one terms bytes false (Err Write) h = tt
 pub told : (task : Task) (target : Target) (left : Option (List ℕ)) (broke_off : Bool) (answer said : Result Summary Stop) → said ≡ told_of broke_off answer →
     IsAnswerOf task target left answer → IsAnswerOf task target left said
 told task target left broke_off answer said is h =
-    subst (IsAnswerOf task target left) (sym is) (of-map left (λ bytes. IsAnswer (terms_of (mode_of task) target) bytes answer) (λ bytes. IsAnswer (terms_of (mode_of task) target) bytes (told_of broke_off answer))
+    subst (IsAnswerOf task target left) (sym is)
+    (of-map left (λ bytes. IsAnswer (terms_of (mode_of task) target) bytes answer)
+    (λ bytes. IsAnswer (terms_of (mode_of task) target) bytes (told_of broke_off answer))
     (λ bytes. told-one (terms_of (mode_of task) target) bytes broke_off answer) h)
 
 pub of-memory : (task : Task) (target : Target) (left : Option (List ℕ)) → IsAnswerOf task target left (Err Memory)

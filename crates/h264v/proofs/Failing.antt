@@ -37,5 +37,6 @@ opened (Ok x) P e h = h
 opened (Err x) P e h = absurd (true≢false e)
 
 -- a read that failed after the opening
-pub read-since : {f f' f'' : ℕ} {was was' : ℕ → Type 0} (was'' : ℕ → Type 0) → f' ≡ f → ((n : ℕ) → was n → was' n) → HasFailedToRead f' f'' was' was'' → HasFailedToRead f f'' was was''
+pub read-since : {f f' f'' : ℕ} {was was' : ℕ → Type 0} (was'' : ℕ → Type 0) → f' ≡ f → ((n : ℕ) → was n → was' n) → HasFailedToRead f' f'' was' was'' →
+    HasFailedToRead f f'' was was''
 read-since was'' kept reads h = ⊎_elim (λ e. inl (e ∙ ap (λ n. n + 1) kept)) (λ m. inr (λ n r. m n (reads n r))) h

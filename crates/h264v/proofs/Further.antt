@@ -1,5 +1,6 @@
 -- The further rules of a file, and what is told of them.
-use Rattle.std.proofs.Common.{◌≡◌, ℕ, ◌+◌, ◌<◌, Bool, true, false, ◌⊎◌, inl, inr, ⊎_elim, List, [], length, take, get_or, Option, Some, None, Result, Ok, Err, OnOk, sym, ap, ◌∙◌, subst, arith}
+use Rattle.std.proofs.Common.{◌≡◌, ℕ, ◌+◌, ◌<◌, Bool, true, false, ◌⊎◌, inl, inr, ⊎_elim, List, [], length, take, get_or, Option, Some, None, Result, Ok, Err}
+use Rattle.std.proofs.Common.{OnOk, sym, ap, ◌∙◌, subst, arith}
 use Rattle.std.specs.List.{All}
 use Rattle.std.proofs.lemmas.List.{take_more}
 use Rattle.std.proofs.lemmas.List.Elements.{All-push}
@@ -73,16 +74,21 @@ each P all rules.MinCompression = all 41 rules.MinCompression (omega arith)
 each P all rules.RemovalRate = all 42 rules.RemovalRate (omega arith)
 
 -- what holds of the first of some rules, with one more
-pub one-rule-more : (P : StrictRule → Type 0) (rules : List StrictRule) (i : ℕ) (d : StrictRule) → i < length rules → All P (take i rules) → P (get_or rules i d) → All P (take (i + 1) rules)
+pub one-rule-more : (P : StrictRule → Type 0) (rules : List StrictRule) (i : ℕ) (d : StrictRule) → i < length rules → All P (take i rules) →
+    P (get_or rules i d) → All P (take (i + 1) rules)
 one-rule-more P rules i d inside all one = subst (All P) (sym (take_more rules i d inside)) (All-push P (take i rules) (get_or rules i d) all one)
 
 -- a judgement with the further rules
-pub judged : {S : Type 0} {took : S → List Call → Type 0} {failures : S → ℕ} {s s' : S} (mode whole : Mode) (target : Target) (left : Option (List ℕ)) (answer : Result Summary Stop) (further : FurtherRules) →
-    mode ≡ whole → (bytes : List ℕ) (ended : Bool) → AreFirst left bytes ended → OnOk answer (ended ≡ true) → JudgedOf (terms_of mode target) (span took failures s s') bytes (λ k. no_frame) [] answer → took s [] →
-    ((calls : List Call) → took s' calls → TookStrict further.strict calls) → TellsOfBytes further.units.extent ended further.units.found further.units.lack bytes → AreJudged (terms_of whole target) left answer further
+pub judged : {S : Type 0} {took : S → List Call → Type 0} {failures : S → ℕ} {s s' : S} (mode whole : Mode) (target : Target) (left : Option (List ℕ))
+    (answer : Result Summary Stop) (further : FurtherRules) →
+    mode ≡ whole → (bytes : List ℕ) (ended : Bool) → AreFirst left bytes ended → OnOk answer (ended ≡ true) →
+    JudgedOf (terms_of mode target) (span took failures s s') bytes (λ k. no_frame) [] answer → took s [] →
+    ((calls : List Call) → took s' calls → TookStrict further.strict calls) →
+    TellsOfBytes further.units.extent ended further.units.found further.units.lack bytes → AreJudged (terms_of whole target) left answer further
 judged mode whole target left answer further is bytes ended first all j none strict units =
     let a = accounts j none in
-    subst (λ m. AreJudged (terms_of m target) left answer further) is (record { bytes = bytes; ended = ended; first = first; all = all; account = a.0; calls = strict _ a.1; units = units })
+    subst (λ m. AreJudged (terms_of m target) left answer further) is
+    (record { bytes = bytes; ended = ended; first = first; all = all; account = a.0; calls = strict _ a.1; units = units })
 
 -- what is told of an answer, where a device has failed or not
 pub told-as : (failed : Bool) (raw said : Result Summary Stop) → said ≡ told_of failed raw → IsToldOf raw said
@@ -103,8 +109,10 @@ no-verdict true said is = inr (inr is)
 no-verdict false said is = inl is
 
 -- what is told of the further rules of a file that was judged
-pub broken-told : (found : Option FurtherRules) (is_asked : Bool) (terms : Terms) (left : Option (List ℕ)) (failed : Bool) (raw said : Result Summary Stop) (done : Done) → IsFound is_asked terms left raw found →
-    said ≡ told_of failed raw → (done.ending.answer ≡ said) ⊎ (done.ending.answer ≡ Err Memory) → (done.is_broken ≡ true → BreakOne found) → (done.is_broken ≡ false → BreakOne found → ⊥) →
+pub broken-told : (found : Option FurtherRules) (is_asked : Bool) (terms : Terms) (left : Option (List ℕ)) (failed : Bool) (raw said : Result Summary Stop)
+    (done : Done) → IsFound is_asked terms left raw found →
+    said ≡ told_of failed raw → (done.ending.answer ≡ said) ⊎ (done.ending.answer ≡ Err Memory) → (done.is_broken ≡ true → BreakOne found) →
+    (done.is_broken ≡ false → BreakOne found → ⊥) →
     TellsBroken is_asked terms left done
 broken-told found is_asked terms left failed raw said done h told is broken unbroken =
     Judged raw found (told-answer failed raw said done.ending.answer told is) h broken unbroken
@@ -114,13 +122,27 @@ known-kept None left k known e = absurd (let d = e in cc)
 known-kept (Some bytes) None k known e = absurd k
 known-kept (Some bytes) (Some others) k known e = ap Some k ∙ e
 
-found-kept : (is_asked : Bool) (terms : Terms) (held left : Option (List ℕ)) (answer : Result Summary Stop) (found : Option FurtherRules) → Keeps held left → IsFound is_asked terms left answer found → IsFound is_asked terms held answer found
+found-kept : (is_asked : Bool) (terms : Terms) (held left : Option (List ℕ)) (answer : Result Summary Stop) (found : Option FurtherRules) → Keeps held left →
+    IsFound is_asked terms left answer found → IsFound is_asked terms held answer found
 found-kept false terms held left answer found k h = h
 found-kept true terms held left answer found k h =
-    let j = h.2 in
-    (h.0, h.1, record { bytes = j.bytes; ended = j.ended; first = λ known e. j.first known (known-kept held left k known e); all = j.all; account = j.account; calls = j.calls; units = j.units })
+    let j = h.2 in (
+      h.0,
+      h.1,
+      record {
+        bytes = j.bytes;
+        ended = j.ended;
+        first = λ known e. j.first known (known-kept held left k known e);
+        all = j.all;
+        account = j.account;
+        calls = j.calls;
+        units = j.units;
+      },
+    )
 
 -- what is told of an open file is told of what the file of its name holds
-pub broken-kept : (is_asked : Bool) (terms : Terms) (held left : Option (List ℕ)) (done : Done) → Keeps held left → TellsBroken is_asked terms left done → TellsBroken is_asked terms held done
-broken-kept is_asked terms held left done k (Judged answer found said h told untold) = Judged answer found said (found-kept is_asked terms held left answer found k h) told untold
+pub broken-kept : (is_asked : Bool) (terms : Terms) (held left : Option (List ℕ)) (done : Done) → Keeps held left → TellsBroken is_asked terms left done →
+    TellsBroken is_asked terms held done
+broken-kept is_asked terms held left done k (Judged answer found said h told untold) =
+    Judged answer found said (found-kept is_asked terms held left answer found k h) told untold
 broken-kept is_asked terms held left done k (Unjudged none unbroken) = Unjudged none unbroken

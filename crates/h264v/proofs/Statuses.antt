@@ -11,7 +11,8 @@ pub worst-more : (files : List FileDone) (f : FileDone) → worst (files ++ f �
 worst-more [] f = let here : max (done_status f.done) 0 ≡ max 0 (done_status f.done) = omega arith in here
 worst-more (e ∷ files) f =
     let next = worst-more files f in
-    let over : max (done_status e.done) (max (worst files) (done_status f.done)) ≡ max (max (done_status e.done) (worst files)) (done_status f.done) = omega arith in
+    let over : max (done_status e.done) (max (worst files) (done_status f.done)) ≡ max (max (done_status e.done) (worst files)) (done_status f.done) =
+    omega arith in
     ap (max (done_status e.done)) next ∙ over
 
 -- the one element of a list
@@ -29,7 +30,10 @@ pub count-map : {X : Type 0} (p : Text → Bool) (of : X → Text) (xs : List X)
 count-map p of xs = let none : ℕ = 0 in fold-map (λ n y. n + cond (p y) 1 0) of none xs
 
 -- what comes of a task, with the same rows and devices
-pub moved : {task : Task} {given given' : Given} {files : FilesSpan} {status : ℕ} {was was' out err err' now : Output} → given ≡ given' → was ≡ was' → err ≡ err' →
+pub moved : {task : Task} {given given' : Given} {files : FilesSpan} {status : ℕ} {was was' out err err' now : Output} → given ≡ given' → was ≡ was' →
+    err ≡ err' →
     IsStatus task given files status (from_to was out) (from_to err now) → IsStatus task given' files status (from_to was' out) (from_to err' now)
 moved {task} {given} {given'} {files} {status} {was} {was'} {out} {err} {err'} {now} g o e s =
-    subst (λ x. IsStatus task given' files status (from_to was' out) (from_to x now)) e (subst (λ x. IsStatus task given' files status (from_to x out) (from_to err now)) o (subst (λ x. IsStatus task x files status (from_to was out) (from_to err now)) g s))
+    subst (λ x. IsStatus task given' files status (from_to was' out) (from_to x now)) e
+    (subst (λ x. IsStatus task given' files status (from_to x out) (from_to err now)) o
+    (subst (λ x. IsStatus task x files status (from_to was out) (from_to err now)) g s))

@@ -5,7 +5,8 @@ use Rattle.h264_base.specs.declared.stop.Stop.TheVariants.{Memory}
 use Rattle.h264_report.specs.Sent.{Sends, Takes}
 use Rattle.h264_report.specs.Written.{status_of}
 
-pub taken : (written : Bool) {old new : Option (List ℕ)} {text : List ℕ} (failed : Bool) → Takes written old new text → (written ≡ false → failed ≡ true) → failed ≡ false → Sends old new text
+pub taken : (written : Bool) {old new : Option (List ℕ)} {text : List ℕ} (failed : Bool) → Takes written old new text → (written ≡ false → failed ≡ true) →
+    failed ≡ false → Sends old new text
 taken true failed t f none = t
 taken false failed t f none = absurd (false≢true (sym none ∙ f refl))
 

@@ -1,5 +1,6 @@
 -- What is told of failed reads.
-use Rattle.std.proofs.Common.{◌≡◌, ℕ, ◌+◌, ◌-◌, ◌<◌, ◌≤◌, ◌^◌, zero, suc, min, ◌⊎◌, inl, inr, ⊎_elim, Bool, true, false, cond, List, [], ◌∷◌, ◌++◌, fold, Result, Ok, Err, IsErrOf, refl, sym, ap, ◌∙◌, subst, arith}
+use Rattle.std.proofs.Common.{◌≡◌, ℕ, ◌+◌, ◌-◌, ◌<◌, ◌≤◌, ◌^◌, zero, suc, min, ◌⊎◌, inl, inr, ⊎_elim, Bool, true, false, cond, List, [], ◌∷◌, ◌++◌, fold}
+use Rattle.std.proofs.Common.{Result, Ok, Err, IsErrOf, refl, sym, ap, ◌∙◌, subst, arith}
 use Rattle.std.specs.Prelude.{nat_lt}
 use Rattle.std.specs.List.{count_by}
 use Rattle.std.proofs.lemmas.Bool.{lt-ltb}
@@ -40,7 +41,8 @@ failed-once : (reads' failures' : ℕ) → IsUnread 0 0 failures' reads' → 0 <
 failed-once reads' failures' (inl e) = omega (arith, e)
 failed-once reads' failures' (inr h) = ⊎_elim (λ n. absurd (omega (arith, n.1))) (λ f. f) (h 0 (inl (omega arith, omega arith)))
 
-tells-both : (unread failures reads : ℕ) (files : List FileDone) (f : FileDone) (m : ℕ) → (cond (says_read f.done.ending.answer) 1 0 ≤ m) → m ≤ cond (says_failure f.done.ending.answer) 1 0 → TellUnread unread files →
+tells-both : (unread failures reads : ℕ) (files : List FileDone) (f : FileDone) (m : ℕ) → (cond (says_read f.done.ending.answer) 1 0 ≤ m) →
+    m ≤ cond (says_failure f.done.ending.answer) 1 0 → TellUnread unread files →
     TellUnread (unread + m) (files ++ f ∷ [])
 tells-both unread failures reads files f m low high t =
     let R : FileDone → Bool = λ g. says_read g.done.ending.answer in
@@ -52,10 +54,12 @@ tells-both unread failures reads files f m low high t =
     record { read = omega (arith, reads, low, before); told = omega (arith, all, high, after) }
 
 -- one file more was closed
-pub tells-more : (unread failures reads : ℕ) (files : List FileDone) (f : FileDone) → TellUnread unread files → (IsErrOf f.done.ending.answer Read → IsUnread 0 0 failures reads) → TellsFailure 0 failures f.done.ending.answer →
+pub tells-more : (unread failures reads : ℕ) (files : List FileDone) (f : FileDone) → TellUnread unread files →
+    (IsErrOf f.done.ending.answer Read → IsUnread 0 0 failures reads) → TellsFailure 0 failures f.done.ending.answer →
     unread < 2 ^ 64 - 1 → TellUnread (one_more (nat_lt 0 failures) unread) (files ++ f ∷ [])
 tells-more unread zero reads files f t read told below =
-    let none : says_read f.done.ending.answer ≡ false = says-no-read f.done.ending.answer (λ e. let h : 0 < 0 = failed-once reads 0 (read e) in omega (arith, h)) in
+    let none : says_read f.done.ending.answer ≡ false =
+    says-no-read f.done.ending.answer (λ e. let h : 0 < 0 = failed-once reads 0 (read e) in omega (arith, h)) in
     let low : cond (says_read f.done.ending.answer) 1 0 ≤ 0 = rw none (omega arith) in
     let same : unread + 0 ≡ unread = omega arith in
     subst (λ n. TellUnread n (files ++ f ∷ [])) same (tells-both unread 0 reads files f 0 low (omega arith) t)
@@ -71,11 +75,14 @@ pub tells-none : TellUnread 0 []
 tells-none = record { read = omega arith; told = omega arith }
 
 -- one file more was closed, with the counts as a loop has them
-pub tells-next : {unread failures reads failures' reads' unread' : ℕ} (files : List FileDone) (f : FileDone) → TellUnread unread files → (IsErrOf f.done.ending.answer Read → IsUnread failures reads failures' reads') →
-    TellsFailure failures failures' f.done.ending.answer → failures ≡ 0 → reads ≡ 0 → unread' ≡ one_more (nat_lt 0 failures') unread → unread < 2 ^ 64 - 1 → TellUnread unread' (files ++ f ∷ [])
+pub tells-next : {unread failures reads failures' reads' unread' : ℕ} (files : List FileDone) (f : FileDone) → TellUnread unread files →
+    (IsErrOf f.done.ending.answer Read → IsUnread failures reads failures' reads') →
+    TellsFailure failures failures' f.done.ending.answer → failures ≡ 0 → reads ≡ 0 → unread' ≡ one_more (nat_lt 0 failures') unread → unread < 2 ^ 64 - 1 →
+    TellUnread unread' (files ++ f ∷ [])
 tells-next {unread} {failures} {reads} {failures'} {reads'} {unread'} files f t read told none unseen is below =
     subst (λ n. TellUnread n (files ++ f ∷ [])) (sym is) (tells-more unread failures' reads' files f t
-    (λ e. subst (λ r. IsUnread 0 r failures' reads') unseen (subst (λ n. IsUnread n reads failures' reads') none (read e))) (subst (λ n. TellsFailure n failures' f.done.ending.answer) none told) below)
+    (λ e. subst (λ r. IsUnread 0 r failures' reads') unseen (subst (λ n. IsUnread n reads failures' reads') none (read e)))
+    (subst (λ n. TellsFailure n failures' f.done.ending.answer) none told) below)
 
 -- the count of those that were closed grows by one at most
 pub grows-by-one : {unread unread' i : ℕ} (more : Bool) → unread' ≡ one_more more unread → unread ≤ i → unread' ≤ i + 1
@@ -85,12 +92,14 @@ grows-by-one false is below = omega (arith, is, below)
 -- ---- what is told of one file
 
 -- a read that failed is told of the answer that is told, or that a write failed
-pub told-kept : (broke_off : Bool) {raw said final : Result Summary Stop} {failures failures' : ℕ} → said ≡ told_of broke_off raw → (said ≡ Err Read → final ≡ Err Read) → (said ≡ Err Write → final ≡ Err Write) →
+pub told-kept : (broke_off : Bool) {raw said final : Result Summary Stop} {failures failures' : ℕ} → said ≡ told_of broke_off raw →
+    (said ≡ Err Read → final ≡ Err Read) → (said ≡ Err Write → final ≡ Err Write) →
     TellsUnread failures failures' raw → TellsFailure failures failures' final
 told-kept broke_off told read write (inl quiet) = inl quiet
 told-kept true told read write (inr e) = inr (inr (write told))
 told-kept false told read write (inr e) = inr (inl (read (told ∙ ap (told_of false) e)))
 
 -- it is told since the opening
-pub told-since : {failures failures' failures'' : ℕ} {answer : Result Summary Stop} → failures' ≡ failures → TellsFailure failures' failures'' answer → TellsFailure failures failures'' answer
+pub told-since : {failures failures' failures'' : ℕ} {answer : Result Summary Stop} → failures' ≡ failures → TellsFailure failures' failures'' answer →
+    TellsFailure failures failures'' answer
 told-since kept h = ⊎_elim (λ quiet. inl (quiet ∙ kept)) (λ e. inr e) h

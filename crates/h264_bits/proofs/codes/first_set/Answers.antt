@@ -12,9 +12,11 @@ pub returns-then-zeros-count-clause-set : goal.returns-then-zeros-count-clause-s
 returns-then-zeros-count-clause-set c =
     let z = count_leading_zeros 64 c.window.result - 7 in
     let t = c.if-zeros-count.true in
-    sym (set-found z c.args.bytes.now c.args.i (omega arith) (omega arith) (window-leads c.window.result c.args.bytes.now c.args.i c.window.ensures (omega arith)))
+    sym (set-found z c.args.bytes.now c.args.i (omega arith) (omega arith)
+    (window-leads c.window.result c.args.bytes.now c.args.i c.window.ensures (omega arith)))
 
 pub returns-else-zeros-count-clause-set : goal.returns-else-zeros-count-clause-set
 returns-else-zeros-count-clause-set c =
     let t = c.if-zeros-count.false in
-    sym (set-none c.args.bytes.now c.args.i (omega arith) (zeros-lead (padding c.args.i) c.window.result c.args.bytes.now c.args.i c.window.ensures (omega arith) (omega arith)))
+    sym (set-none c.args.bytes.now c.args.i (omega arith)
+    (zeros-lead (padding c.args.i) c.window.result c.args.bytes.now c.args.i c.window.ensures (omega arith) (omega arith)))

@@ -13,7 +13,8 @@ pub returns-then-next-bytes-clause-value : goal.returns-then-next-bytes-clause-v
 returns-then-next-bytes-clause-value c =
     let z = count_leading_zeros 64 c.window.result - 7 in
     let t = c.if-zeros-gt31.false in let u = c.if-next-bytes.true in
-    (golomb-outside z c.args.bytes.now c.args.i (omega arith) (window-leads c.window.result c.args.bytes.now c.args.i c.window.ensures (omega arith)) (omega arith))
+    (golomb-outside z c.args.bytes.now c.args.i (omega arith) (window-leads c.window.result c.args.bytes.now c.args.i c.window.ensures (omega arith))
+    (omega arith))
 
 pub overflow_add-result : goal.overflow_add-result
 overflow_add-result c =
@@ -38,7 +39,8 @@ returns-clause-value c =
     let z = count_leading_zeros 64 c.window.result - 7 in
     let t = c.if-zeros-gt31.false in let u = c.if-next-bytes.false in
     let e = top-of c.window-2.result z c.args.bytes.now (c.args.i + z + 1) c.window-2.ensures (omega arith) in
-    rw (power-is z (omega arith), e) (golomb-inside z c.args.bytes.now c.args.i (omega arith) (window-leads c.window.result c.args.bytes.now c.args.i c.window.ensures (omega arith)) (omega arith))
+    rw (power-is z (omega arith), e) (golomb-inside z c.args.bytes.now c.args.i (omega arith)
+    (window-leads c.window.result c.args.bytes.now c.args.i c.window.ensures (omega arith)) (omega arith))
 
 pub returns-clause-small : goal.returns-clause-small
 returns-clause-small c =

@@ -7,7 +7,8 @@ use Rattle.h264_bits.proofs.Elements.{word-read, word-missing}
 use Rattle.h264_bits.proofs.element.read_fixed.Goals as goal
 
 pub returns-in_default-clause-meets : goal.returns-in_default-clause-meets
-returns-in_default-clause-meets g c = word-missing _ _ _ _ _ (Fixed c.args.n) _ _ _ _ c.stream_bit-bit.ensures c.in_default.ensures.none c.in_default.ensures.kept
+returns-in_default-clause-meets g c = word-missing _ _ _ _ _ (Fixed c.args.n) _ _ _ _ c.stream_bit-bit.ensures c.in_default.ensures.none
+    c.in_default.ensures.kept
 
 pub returns-in-Ok-element-clause-meets : goal.returns-in-Ok-element-clause-meets
 returns-in-Ok-element-clause-meets g c =

@@ -6,7 +6,8 @@ use Rattle.h264_bits.proofs.forms.u_value.Goals as goal
 
 pub returns-in_err-number-clause-meets : goal.returns-in_err-number-clause-meets
 unfolding bits_form
-returns-in_err-number-clause-meets g c = let p = err_from_is_err_and c.from_residual.result c.from_residual.ensures.1 in rw (p.1, p.2) (stop _ c.in_err-number.ensures.meets)
+returns-in_err-number-clause-meets g c = let p = err_from_is_err_and c.from_residual.result c.from_residual.ensures.1 in
+    rw (p.1, p.2) (stop _ c.in_err-number.ensures.meets)
 
 pub returns-clause-meets : goal.returns-clause-meets
 unfolding bits_form

@@ -5,7 +5,8 @@ use Rattle.h264_bits.proofs.forms.u_values.Given as goal
 
 abbrev pub invariant-loop-i : goal.invariant-loop-i
 invariant-loop-i g l = record {
-  rest : Leads g.S.Elements.took g.S.Elements.failures (each (λ name. bits_form name g.row.N) [] l.names) (each (λ name. bits_form name g.row.N) (take l.i l.values) (drop l.i l.names)) l.fn.bits l.bits l.fn.sink l.sink;
+  rest : Leads g.S.Elements.took g.S.Elements.failures (each (λ name. bits_form name g.row.N) [] l.names)
+      (each (λ name. bits_form name g.row.N) (take l.i l.values) (drop l.i l.names)) l.fn.bits l.bits l.fn.sink l.sink;
   sized : length l.values ≡ length l.names;
   room : g.S.Elements.failures l.sink < 2 ^ 64 - 1;
 }

@@ -38,7 +38,9 @@ returns-in_err-tell_level_suffix g c =
     let suffix = rw c.in-Some.ensures.kept at c.in_err-tell_level_suffix.ensures in
     let value = c.in_ok-tell_ahead.ensures.value in
     let few = e.short in
-    rw (p.1, p.2, c.in-Some.ensures.kept) (stopped-at r refl (short-stop c.args.suffix_length c.args.never_one c.in-Some-short_level.parts.suffix _ (omega arith) (prefix (e.prefix r.body.bytes r.at c.in-Some.ensures.value inside)) (suffix (e.suffix r.body.bytes r.at c.in-Some.ensures.value inside))))
+    rw (p.1, p.2, c.in-Some.ensures.kept) (stopped-at r refl
+    (short-stop c.args.suffix_length c.args.never_one c.in-Some-short_level.parts.suffix _ (omega arith)
+    (prefix (e.prefix r.body.bytes r.at c.in-Some.ensures.value inside)) (suffix (e.suffix r.body.bytes r.at c.in-Some.ensures.value inside))))
 
 pub returns-in-Some-short_level : goal.returns-in-Some-short_level
 returns-in-Some-short_level g c =
@@ -53,4 +55,6 @@ returns-in-Some-short_level g c =
     let few = e.short in
     let end : r.at + (parts.length + c.args.suffix_length) ≡ r.at + parts.length + c.args.suffix_length = omega arith in
     let fits : SFits w16 c.level_value.result = search rules in
-    rw (c.pass_by.ensures, c.in-Some.ensures.kept, end, to_z-of_z w16 c.level_value.result fits) (short-read c.args.suffix_length c.args.never_one parts.suffix (omega arith) (rw (c.level_value.ensures, c.level_code-code.ensures.code, value) refl) (prefix (e.prefix r.body.bytes r.at c.in-Some.ensures.value inside)) (suffix (e.suffix r.body.bytes r.at c.in-Some.ensures.value inside)))
+    rw (c.pass_by.ensures, c.in-Some.ensures.kept, end, to_z-of_z w16 c.level_value.result fits)
+    (short-read c.args.suffix_length c.args.never_one parts.suffix (omega arith) (rw (c.level_value.ensures, c.level_code-code.ensures.code, value) refl)
+    (prefix (e.prefix r.body.bytes r.at c.in-Some.ensures.value inside)) (suffix (e.suffix r.body.bytes r.at c.in-Some.ensures.value inside)))

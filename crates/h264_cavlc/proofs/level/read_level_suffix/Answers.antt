@@ -10,7 +10,8 @@ unfolding level_suffix
 returns-then-size-eq0-clause-meets g c = rw c.if-size-eq0.true (done _ _ _ _ _ _ _ refl)
 
 pub returns-in_err-suffix-clause-meets : goal.returns-in_err-suffix-clause-meets
-returns-in_err-suffix-clause-meets g c = let p = err_from_is_err_and c.from_residual.result c.from_residual.ensures.1 in rw (p.1, p.2, suffix-some c.args.size c.if-size-eq0.false) (stop _ c.in_err-suffix.ensures.meets)
+returns-in_err-suffix-clause-meets g c = let p = err_from_is_err_and c.from_residual.result c.from_residual.ensures.1 in
+    rw (p.1, p.2, suffix-some c.args.size c.if-size-eq0.false) (stop _ c.in_err-suffix.ensures.meets)
 
 pub returns-clause-meets : goal.returns-clause-meets
 returns-clause-meets g c = rw (suffix-some c.args.size c.if-size-eq0.false) (bind _ c.in_ok-suffix.ensures.meets (done _ _ _ _ _ _ _ refl))

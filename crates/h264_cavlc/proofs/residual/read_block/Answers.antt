@@ -9,11 +9,13 @@ use Rattle.h264_cavlc.proofs.residual.read_block.Goals as goal
 
 pub returns-in_err-token-clause-meets : goal.returns-in_err-token-clause-meets
 unfolding residual_block
-returns-in_err-token-clause-meets g c = let p = err_from_is_err_and c.from_residual.result c.from_residual.ensures.1 in rw (p.1, p.2) (stop _ c.in_err-token.ensures.meets)
+returns-in_err-token-clause-meets g c = let p = err_from_is_err_and c.from_residual.result c.from_residual.ensures.1 in
+    rw (p.1, p.2) (stop _ c.in_err-token.ensures.meets)
 
 pub returns-then-token-eq0-clause-meets : goal.returns-then-token-eq0-clause-meets
 unfolding residual_block
-returns-then-token-eq0-clause-meets g c = let e = eq-eqb c.in_ok-token.token.total 0 c.if-token-eq0.true in bind _ c.in_ok-token.ensures.meets (rw e (done _ _ _ _ _ _ _ refl))
+returns-then-token-eq0-clause-meets g c = let e = eq-eqb c.in_ok-token.token.total 0 c.if-token-eq0.true in
+    bind _ c.in_ok-token.ensures.meets (rw e (done _ _ _ _ _ _ _ refl))
 
 pub returns-in_err-read_coefficients-clause-meets : goal.returns-in_err-read_coefficients-clause-meets
 unfolding residual_block

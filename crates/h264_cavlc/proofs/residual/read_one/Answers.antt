@@ -15,11 +15,13 @@ use Rattle.h264_cavlc.proofs.residual.read_one.Goals as goal
 
 pub returns-in_err-level-clause-meets : goal.returns-in_err-level-clause-meets
 unfolding coefficients
-returns-in_err-level-clause-meets g c = let p = err_from_is_err_and c.from_residual.result c.from_residual.ensures.1 in rw (p.1, p.2) (stop _ c.in_err-level.ensures)
+returns-in_err-level-clause-meets g c = let p = err_from_is_err_and c.from_residual.result c.from_residual.ensures.1 in
+    rw (p.1, p.2) (stop _ c.in_err-level.ensures)
 
 pub returns-in_err-zeros-clause-meets : goal.returns-in_err-zeros-clause-meets
 unfolding coefficients
-returns-in_err-zeros-clause-meets g c = let p = err_from_is_err_and c.from_residual-in_err-zeros.result c.from_residual-in_err-zeros.ensures.1 in rw (p.1, p.2) (bind_as _ c.in_ok-level.ensures (λ v e. stop _ c.in_err-zeros.ensures.meets))
+returns-in_err-zeros-clause-meets g c = let p = err_from_is_err_and c.from_residual-in_err-zeros.result c.from_residual-in_err-zeros.ensures.1 in
+    rw (p.1, p.2) (bind_as _ c.in_ok-level.ensures (λ v e. stop _ c.in_err-zeros.ensures.meets))
 
 pub returns-clause-meets : goal.returns-clause-meets
 unfolding coefficients runs_before
@@ -30,7 +32,9 @@ returns-clause-meets g c =
     let room = c.in_ok-zeros.ensures.fits in
     let none : c.args.token.total - 1 ≡ 0 = omega arith in
     let placed = only-placed g.row.N c.in_ok-zeros.zeros c.from.result c.in_ok-level.level (omega arith) c.from.ensures in
-    bind_as _ c.in_ok-level.ensures (λ v e. bind _ c.in_ok-zeros.ensures.meets (rw none (bind {view = λ (u : Unit {0}). []} _ (done _ _ (Is (λ (u : Unit {0}). [])) [] _ _ tt refl) (done _ _ _ _ _ _ _ (rw (e, same, placed) refl)))))
+    bind_as _ c.in_ok-level.ensures (λ v e. bind _ c.in_ok-zeros.ensures.meets
+    (rw none (bind {view = λ (u : Unit {0}). []} _ (done _ _ (Is (λ (u : Unit {0}). [])) [] _ _ tt refl)
+    (done _ _ _ _ _ _ _ (rw (e, same, placed) refl)))))
 
 pub returns-clause-nonzero : goal.returns-clause-nonzero
 returns-clause-nonzero g c = gives-met HasCount (gives-count g.row.N c.args.token c.requires.fits c.requires.within) (returns-clause-meets g c)

@@ -13,7 +13,9 @@ pub loop-k-init : goal.loop-k-init
 loop-k-init g c = record { rest = repeated-starts trailing_one c.args.ones _ _ _ refl; sized = search rules; room = c.requires.room }
 
 pub returns-in_err-one : goal.returns-in_err-one
-returns-in_err-one g c = let p = err_from_is_err_and c.from_residual.result c.from_residual.ensures.1 in rw (p.1, p.2) (repeated-stop trailing_one c.args.ones c.loop-k.k (take c.loop-k.k c.loop-k.levels) c.loop-k-test.true c.loop-k.invariant.rest c.in_err-one.ensures)
+returns-in_err-one g c = let p = err_from_is_err_and c.from_residual.result c.from_residual.ensures.1 in
+    rw (p.1, p.2) (repeated-stop trailing_one c.args.ones c.loop-k.k (take c.loop-k.k c.loop-k.levels) c.loop-k-test.true c.loop-k.invariant.rest
+    c.in_err-one.ensures)
 
 pub loop-k-preserved : goal.loop-k-preserved
 loop-k-preserved g c =
@@ -22,7 +24,9 @@ loop-k-preserved g c =
     let t = c.loop-k-test.true in
     let few = c.requires.few in
     record {
-      rest = repeated-next trailing_one c.args.ones c.loop-k.k (take c.loop-k.k c.loop-k.levels) _ t (rw (to_z-of_z w16 c.in_ok-one.one) (take_more_set c.loop-k.levels c.loop-k.k c.in_ok-one.one (omega arith))) c.loop-k.invariant.rest c.in_ok-one.ensures;
+      rest = repeated-next trailing_one c.args.ones c.loop-k.k (take c.loop-k.k c.loop-k.levels) _ t
+          (rw (to_z-of_z w16 c.in_ok-one.one) (take_more_set c.loop-k.levels c.loop-k.k c.in_ok-one.one (omega arith))) c.loop-k.invariant.rest
+          c.in_ok-one.ensures;
       sized = length-set c.loop-k.levels c.loop-k.k _ ∙ n;
       room = let k = kept c.in_ok-one.ensures in let r = c.loop-k.invariant.room in rw k r;
     }
@@ -30,4 +34,5 @@ loop-k-preserved g c =
 pub returns : goal.returns
 returns g c =
     let at : c.loop-k.k ≡ c.args.ones = (let t = c.loop-k-test.false in omega arith) in
-    repeated-over trailing_one c.args.ones c.loop-k.k (take c.loop-k.k c.loop-k.levels) _ c.loop-k-test.false (ap (λ n. take n c.loop-k.levels) at) c.loop-k.invariant.rest
+    repeated-over trailing_one c.args.ones c.loop-k.k (take c.loop-k.k c.loop-k.levels) _ c.loop-k-test.false (ap (λ n. take n c.loop-k.levels) at)
+    c.loop-k.invariant.rest

@@ -6,7 +6,8 @@ use Rattle.h264_cavlc.proofs.token.read_each_one.Given as goal
 
 abbrev pub invariant-loop-k : goal.invariant-loop-k
 invariant-loop-k g l = record {
-  rest : Leads g.S.Elements.took g.S.Elements.failures (repeated trailing_one [] l.ones) (repeated trailing_one (take l.k l.levels) (l.ones - l.k)) l.fn.bits l.bits l.fn.sink l.sink;
+  rest : Leads g.S.Elements.took g.S.Elements.failures (repeated trailing_one [] l.ones) (repeated trailing_one (take l.k l.levels) (l.ones - l.k)) l.fn.bits
+      l.bits l.fn.sink l.sink;
   sized : length l.levels ≡ 16;
   room : g.S.Elements.failures l.sink < 2 ^ 64 - 1;
 }

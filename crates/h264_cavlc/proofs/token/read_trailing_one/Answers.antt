@@ -12,7 +12,8 @@ returns-in_err-tell_one g c =
     let r = c.args.bits.now in
     let none : r.at + 0 ≡ r.at = omega arith in
     let m = rw (c.in-Some.ensures.kept, none) at c.in_err-tell_one.ensures.meets in
-    rw (p.1, p.2, c.in-Some.ensures.kept) (stopped-as r refl (m (held-fixed 1 r.body.bytes r.at c.in-Some.front c.in-Some.ensures.value c.in-Some.ensures.together.inside)))
+    rw (p.1, p.2, c.in-Some.ensures.kept) (stopped-as r refl
+    (m (held-fixed 1 r.body.bytes r.at c.in-Some.front c.in-Some.ensures.value c.in-Some.ensures.together.inside)))
 
 pub returns-in-Some : goal.returns-in-Some
 returns-in-Some g c =
@@ -20,4 +21,5 @@ returns-in-Some g c =
     let none : r.at + 0 ≡ r.at = omega arith in
     let m = rw (c.in-Some.ensures.kept, none) at c.in_ok-tell_one.ensures.meets in
     let fits : SFits w16 c.one_of.result = search rules in
-    rw (c.pass_by.ensures, c.in-Some.ensures.kept, to_z-of_z w16 c.one_of.result fits, c.one_of.ensures) (given (m (held-fixed 1 r.body.bytes r.at c.in-Some.front c.in-Some.ensures.value c.in-Some.ensures.together.inside)))
+    rw (c.pass_by.ensures, c.in-Some.ensures.kept, to_z-of_z w16 c.one_of.result fits, c.one_of.ensures)
+    (given (m (held-fixed 1 r.body.bytes r.at c.in-Some.front c.in-Some.ensures.value c.in-Some.ensures.together.inside)))

@@ -11,7 +11,9 @@ use Rattle.h264_cavlc.proofs.zeros.read_any_run_before.Goals as goal
 pub read_entry_if-requires-clause-known : goal.read_entry_if-requires-clause-known
 read_entry_if-requires-clause-known g c coded =
     let some = ltb-true 0 c.args.zeros_left coded in
-    rw (c.run_before_table-table.ensures some) (found-within (run_before_table c.args.zeros_left) c.next_16.result c.short_run_word-length.result (c.short_run_word-length.ensures.word some c.if-length-eq-LONG.false).1)
+    rw (c.run_before_table-table.ensures some)
+    (found-within (run_before_table c.args.zeros_left) c.next_16.result c.short_run_word-length.result
+    (c.short_run_word-length.ensures.word some c.if-length-eq-LONG.false).1)
 
 pub returns-in_err-found-clause-meets : goal.returns-in_err-found-clause-meets
 unfolding run_before coded_run_before ◌>>=◌

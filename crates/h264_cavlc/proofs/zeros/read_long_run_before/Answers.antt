@@ -24,4 +24,5 @@ pub returns-clause-meets : goal.returns-clause-meets
 unfolding run_before coded_run_before
 returns-clause-meets g c =
     let e = unequal c.args.zeros_left 0 (omega arith) in
-    rw (e, last-table c.args.zeros_left c.requires.many) (bind _ c.in_ok-found.ensures.meets (bind _ (checked _ _ _ _ c.in_ok-check.ensures) (done _ _ _ _ _ _ _ refl)))
+    rw (e, last-table c.args.zeros_left c.requires.many)
+    (bind _ c.in_ok-found.ensures.meets (bind _ (checked _ _ _ _ c.in_ok-check.ensures) (done _ _ _ _ _ _ _ refl)))

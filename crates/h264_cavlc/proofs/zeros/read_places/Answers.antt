@@ -24,14 +24,16 @@ loop-k-init g c = let a = c.from-last.ensures in let b = c.from.ensures in recor
 }
 
 pub bounds-by_place-place : goal.bounds-by_place-place
-bounds-by_place-place g c = let i = c.loop-k.invariant in let t = c.loop-k-test.true in let a = i.last in let b = i.place in let l = i.left in let f = c.requires.fits in omega arith
+bounds-by_place-place g c = let i = c.loop-k.invariant in let t = c.loop-k-test.true in let a = i.last in let b = i.place in let l = i.left in
+    let f = c.requires.fits in omega arith
 
 pub returns-in_err-run : goal.returns-in_err-run
 returns-in_err-run g c =
     let p = err_from_is_err_and c.from_residual.result c.from_residual.ensures.1 in
     let a = c.loop-k.invariant.last in
     let t = c.loop-k-test.true in
-    rw (p.1, p.2) (runs-stop (c.args.total - 1) c.loop-k.k c.loop-k.left c.loop-k.invariant.runs (omega arith) c.loop-k.invariant.rest c.in_err-run.ensures.meets)
+    rw (p.1, p.2) (runs-stop (c.args.total - 1) c.loop-k.k c.loop-k.left c.loop-k.invariant.runs (omega arith) c.loop-k.invariant.rest
+    c.in_err-run.ensures.meets)
 
 pub loop-k-preserved : goal.loop-k-preserved
 loop-k-preserved g c =
@@ -55,7 +57,8 @@ loop-k-preserved g c =
       place = let w = c.in_ok-run.ensures.within in omega arith;
       rest = runs-next (c.args.total - 1) c.loop-k.k c.loop-k.left _ i.runs (omega arith) refl i.rest c.in_ok-run.ensures.meets;
       placed = placed-run (c.loop-k.k + 1) c.args.total c.args.zeros c.in_ok-run.run' _ i.runs _ (omega arith)
-          (placed-more c.loop-k.k (c.loop-k.k + 1) c.args.total c.args.zeros _ (take c.args.total c.args.levels.now) i.runs c.loop-k.by_place _ (omega arith) refl (let m = i.sized in omega arith)
+          (placed-more c.loop-k.k (c.loop-k.k + 1) c.args.total c.args.zeros _ (take c.args.total c.args.levels.now) i.runs c.loop-k.by_place _ (omega arith)
+          refl (let m = i.sized in omega arith)
           (let e = place-next c.args.total c.args.zeros i.runs c.loop-k.k i.count in omega arith)
           (to_z-of_z w16 level fits ∙ sym (get_or-take c.args.total c.args.levels.now c.loop-k.k (pos 0) (omega arith)))
           i.placed);
@@ -80,9 +83,12 @@ returns g c =
     let e = place-next c.args.total c.args.zeros i.runs c.loop-k.k m in
     let sixteen = c.told-levels in
     runs-over (c.args.total - 1) c.loop-k.k c.loop-k.left i.runs _ (omega arith)
-    (all-placed c.args.total c.args.zeros g.row.N (take c.args.total c.args.levels.now) i.runs _ (length-set c.loop-k.by_place c.loop-k.place _ ∙ n) (length-take-le c.args.total c.args.levels.now (omega arith))
-    (placed-more c.loop-k.k c.args.total c.args.total c.args.zeros _ (take c.args.total c.args.levels.now) i.runs c.loop-k.by_place _ (omega arith) (omega arith) (omega arith)
+    (all-placed c.args.total c.args.zeros g.row.N (take c.args.total c.args.levels.now) i.runs _ (length-set c.loop-k.by_place c.loop-k.place _ ∙ n)
+    (length-take-le c.args.total c.args.levels.now (omega arith))
+    (placed-more c.loop-k.k c.args.total c.args.total c.args.zeros _ (take c.args.total c.args.levels.now) i.runs c.loop-k.by_place _ (omega arith)
+    (omega arith) (omega arith)
     (omega arith)
-    (to_z-of_z w16 level fits ∙ ap (λ n. get_or c.args.levels.now n (pos 0)) at ∙ sym (get_or-take c.args.total c.args.levels.now c.loop-k.k (pos 0) (omega arith)))
+    (to_z-of_z w16 level fits ∙ ap (λ n. get_or c.args.levels.now n (pos 0)) at ∙
+    sym (get_or-take c.args.total c.args.levels.now c.loop-k.k (pos 0) (omega arith)))
     i.placed))
     i.rest

@@ -13,6 +13,7 @@ invariant-loop-k g l = record {
   left : l.left ≡ l.zeros - sum_by (λ run. run) runs;
   last : l.last ≡ l.total - 1;
   place : l.place ≡ l.total - 1 - l.k + l.left;
-  rest : Leads g.S.Elements.took g.S.Elements.failures (runs_before [] l.zeros (l.total - 1)) (runs_before runs l.left (l.total - 1 - l.k)) l.fn.bits l.bits l.fn.sink l.sink;
+  rest : Leads g.S.Elements.took g.S.Elements.failures (runs_before [] l.zeros (l.total - 1)) (runs_before runs l.left (l.total - 1 - l.k)) l.fn.bits l.bits
+      l.fn.sink l.sink;
   placed : PlacedTo l.k l.total l.zeros (take l.total l.levels) runs l.by_place;
 }

@@ -26,5 +26,7 @@ returns-then-from-size-2-clause-meets g c =
     let m = rw (c.total_zeros_table-table.ensures, c.in-Some.ensures.kept) at c.in_ok-read_held_entry.ensures.meets in
     let value = c.in_ok-read_held_entry.ensures.value in
     let f = c.in_ok-read_held_entry.field-0 in
-    let few : c.args.total + f.value ≤ c.args.size = (let t = c.if-from-size-2.true in let u = c.from-in-Some-total_zeros_word.ensures in let w = c.from-in-Some-total_zeros_word-2.ensures in rw value (omega arith)) in
+    let few : c.args.total + f.value ≤ c.args.size =
+    (let t = c.if-from-size-2.true in let u = c.from-in-Some-total_zeros_word.ensures in let w = c.from-in-Some-total_zeros_word-2.ensures in
+    rw value (omega arith)) in
     rw e (bind _ (m ResidualWord) (bind _ (checked _ _ _ _ (record { checks = le-leb _ _ few })) (done _ _ _ _ _ _ _ (rw value refl))))

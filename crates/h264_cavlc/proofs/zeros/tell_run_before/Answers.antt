@@ -21,7 +21,8 @@ returns-in_err-tell_ahead g c =
     let short = c.requires.short in
     let none : r.at + 0 ≡ r.at = omega arith in
     let m = rw (none, c.from-length.ensures, c.from-value.ensures) at c.in_err-tell_ahead.ensures.meets in
-    rw (p.1, p.2, e) (stop _ (m ResidualWord (Words (code_table (run_before_table c.args.zeros_left))) (held-word (run_before_table c.args.zeros_left) r.body.bytes r.at c.args.word (c.requires.word some) (omega arith))))
+    rw (p.1, p.2, e) (stop _ (m ResidualWord (Words (code_table (run_before_table c.args.zeros_left)))
+    (held-word (run_before_table c.args.zeros_left) r.body.bytes r.at c.args.word (c.requires.word some) (omega arith))))
 
 pub returns-in_ok-tell_ahead : goal.returns-in_ok-tell_ahead
 unfolding run_before coded_run_before
@@ -36,7 +37,8 @@ returns-in_ok-tell_ahead g c =
     let f = c.in_ok-tell_ahead.field-0 in
     let value : f.value ≡ c.args.word.value = (let v = c.in_ok-tell_ahead.ensures.value in let w = c.from-value.ensures in omega arith) in
     let few : f.value ≤ c.args.zeros_left = (let w = c.requires.few in omega arith) in
-    rw e (bind _ (m ResidualWord (Words (code_table (run_before_table c.args.zeros_left))) (held-word (run_before_table c.args.zeros_left) r.body.bytes r.at c.args.word (c.requires.word some) (omega arith)))
+    rw e (bind _ (m ResidualWord (Words (code_table (run_before_table c.args.zeros_left)))
+    (held-word (run_before_table c.args.zeros_left) r.body.bytes r.at c.args.word (c.requires.word some) (omega arith)))
     (bind _ (checked _ _ _ _ (record { checks = le-leb _ _ few })) (done _ _ _ _ _ _ _ value)))
 
 pub returns-else-zeros_left-gt0 : goal.returns-else-zeros_left-gt0

@@ -42,9 +42,11 @@ returns-clause-y c =
     eight_edges (luma_by qp f a.marks.now) a.column a.row a.frame.now.y left left left left above above above above _ _ _ _ _ _ _ _
     c.requires.y.0 c.requires.y.1 (luma-inside a.marks.now a.column a.row qp f c.requires.marks)
     refl refl refl refl refl refl refl refl
-    c.luma_border.ensures (still-edge true false left qp f a.marks.now.inner.vertical 0 y (x + 4) v (omega arith) (omega arith)) (still-edge true false left qp f a.marks.now.inner.vertical 1 y (x + 8) v (omega arith) (omega arith))
+    c.luma_border.ensures (still-edge true false left qp f a.marks.now.inner.vertical 0 y (x + 4) v (omega arith) (omega arith))
+    (still-edge true false left qp f a.marks.now.inner.vertical 1 y (x + 8) v (omega arith) (omega arith))
     (still-edge true false left qp f a.marks.now.inner.vertical 2 y (x + 12) v (omega arith) (omega arith))
-    c.luma_border-2.ensures (still-edge false false above qp f a.marks.now.inner.horizontal 0 x (y + 4) h (omega arith) (omega arith)) (still-edge false false above qp f a.marks.now.inner.horizontal 1 x (y + 8) h (omega arith) (omega arith))
+    c.luma_border-2.ensures (still-edge false false above qp f a.marks.now.inner.horizontal 0 x (y + 4) h (omega arith) (omega arith))
+    (still-edge false false above qp f a.marks.now.inner.horizontal 1 x (y + 8) h (omega arith) (omega arith))
     (still-edge false false above qp f a.marks.now.inner.horizontal 2 x (y + 12) h (omega arith) (omega arith))
 
 pub returns-clause-cb : goal.returns-clause-cb
@@ -57,8 +59,10 @@ returns-clause-cb c =
     four_edges (chroma_by qp f a.marks.now) a.column a.row a.frame.now.cb left left above above _ _ _ _
     c.requires.cb.0 c.requires.cb.1 (chroma-inside a.marks.now a.column a.row qp f c.requires.marks)
     refl refl refl refl
-    c.pair_border.ensures.cb (still-edge true true left qp f a.marks.now.inner.vertical 1 (8 * a.row) (8 * a.column + 4) c.requires.still.vertical (omega arith) (omega arith))
-    c.pair_border-2.ensures.cb (still-edge false true above qp f a.marks.now.inner.horizontal 1 (8 * a.column) (8 * a.row + 4) c.requires.still.horizontal (omega arith) (omega arith))
+    c.pair_border.ensures.cb (still-edge true true left qp f a.marks.now.inner.vertical 1 (8 * a.row) (8 * a.column + 4) c.requires.still.vertical
+    (omega arith) (omega arith))
+    c.pair_border-2.ensures.cb (still-edge false true above qp f a.marks.now.inner.horizontal 1 (8 * a.column) (8 * a.row + 4) c.requires.still.horizontal
+    (omega arith) (omega arith))
 
 pub returns-clause-cr : goal.returns-clause-cr
 returns-clause-cr c =
@@ -70,5 +74,7 @@ returns-clause-cr c =
     four_edges (chroma_by qp f a.marks.now) a.column a.row a.frame.now.cr left left above above _ _ _ _
     c.requires.cr.0 c.requires.cr.1 (chroma-inside a.marks.now a.column a.row qp f c.requires.marks)
     refl refl refl refl
-    c.pair_border.ensures.cr (still-edge true true left qp f a.marks.now.inner.vertical 1 (8 * a.row) (8 * a.column + 4) c.requires.still.vertical (omega arith) (omega arith))
-    c.pair_border-2.ensures.cr (still-edge false true above qp f a.marks.now.inner.horizontal 1 (8 * a.column) (8 * a.row + 4) c.requires.still.horizontal (omega arith) (omega arith))
+    c.pair_border.ensures.cr (still-edge true true left qp f a.marks.now.inner.vertical 1 (8 * a.row) (8 * a.column + 4) c.requires.still.vertical
+    (omega arith) (omega arith))
+    c.pair_border-2.ensures.cr (still-edge false true above qp f a.marks.now.inner.horizontal 1 (8 * a.column) (8 * a.row + 4) c.requires.still.horizontal
+    (omega arith) (omega arith))

@@ -37,7 +37,8 @@ luma_inner-requires-6-clause-word c = word-at c.args.marks.now.inner.horizontal 
 pub returns-clause-y : goal.returns-clause-y
 returns-clause-y c =
     let a = c.args in
-    eight_edges (luma_by a.of_luma.now.qp a.of_luma.now.filter.now a.marks.now) a.column a.row a.frame.now.y c.luma_border.new.plane c.luma_inner.new.plane c.luma_inner-2.new.plane c.luma_inner-3.new.plane
+    eight_edges (luma_by a.of_luma.now.qp a.of_luma.now.filter.now a.marks.now) a.column a.row a.frame.now.y c.luma_border.new.plane c.luma_inner.new.plane
+    c.luma_inner-2.new.plane c.luma_inner-3.new.plane
     c.luma_border-2.new.plane c.luma_inner-4.new.plane c.luma_inner-5.new.plane c.luma_inner-6.new.plane _ _ _ _ _ _ _ _
     c.requires.y.0 c.requires.y.1 (luma-inside a.marks.now a.column a.row a.of_luma.now.qp a.of_luma.now.filter.now c.requires.marks)
     refl (edge-at a.of_luma.now.qp a.of_luma.now.filter.now a.marks.now.inner.vertical 0 _ (omega arith) (omega arith))
@@ -46,7 +47,8 @@ returns-clause-y c =
     refl (edge-at a.of_luma.now.qp a.of_luma.now.filter.now a.marks.now.inner.horizontal 0 _ (omega arith) (omega arith))
     (edge-at a.of_luma.now.qp a.of_luma.now.filter.now a.marks.now.inner.horizontal 1 _ (omega arith) (omega arith))
     (edge-at a.of_luma.now.qp a.of_luma.now.filter.now a.marks.now.inner.horizontal 2 _ (omega arith) (omega arith))
-    c.luma_border.ensures c.luma_inner.ensures c.luma_inner-2.ensures c.luma_inner-3.ensures c.luma_border-2.ensures c.luma_inner-4.ensures c.luma_inner-5.ensures c.luma_inner-6.ensures
+    c.luma_border.ensures c.luma_inner.ensures c.luma_inner-2.ensures c.luma_inner-3.ensures c.luma_border-2.ensures c.luma_inner-4.ensures
+    c.luma_inner-5.ensures c.luma_inner-6.ensures
 
 pub pair_border-requires-clause-before : goal.pair_border-requires-clause-before
 pair_border-requires-clause-before c h = let i = c.requires.marks.columns h in omega (arith, i)
@@ -69,7 +71,8 @@ pair_inner-requires-2-clause-word c = word-at c.args.marks.now.inner.horizontal 
 pub returns-clause-cb : goal.returns-clause-cb
 returns-clause-cb c =
     let a = c.args in
-    four_edges (chroma_by a.of_chroma.now.qp a.of_chroma.now.filter.now a.marks.now) a.column a.row a.frame.now.cb c.pair_border.new.cb c.pair_inner.new.cb c.pair_border-2.new.cb c.pair_inner-2.new.cb _ _ _ _
+    four_edges (chroma_by a.of_chroma.now.qp a.of_chroma.now.filter.now a.marks.now) a.column a.row a.frame.now.cb c.pair_border.new.cb c.pair_inner.new.cb
+    c.pair_border-2.new.cb c.pair_inner-2.new.cb _ _ _ _
     c.requires.cb.0 c.requires.cb.1 (chroma-inside a.marks.now a.column a.row a.of_chroma.now.qp a.of_chroma.now.filter.now c.requires.marks)
     refl (edge-at a.of_chroma.now.qp a.of_chroma.now.filter.now a.marks.now.inner.vertical 1 _ (omega arith) (omega arith))
     refl (edge-at a.of_chroma.now.qp a.of_chroma.now.filter.now a.marks.now.inner.horizontal 1 _ (omega arith) (omega arith))
@@ -78,7 +81,8 @@ returns-clause-cb c =
 pub returns-clause-cr : goal.returns-clause-cr
 returns-clause-cr c =
     let a = c.args in
-    four_edges (chroma_by a.of_chroma.now.qp a.of_chroma.now.filter.now a.marks.now) a.column a.row a.frame.now.cr c.pair_border.new.cr c.pair_inner.new.cr c.pair_border-2.new.cr c.pair_inner-2.new.cr _ _ _ _
+    four_edges (chroma_by a.of_chroma.now.qp a.of_chroma.now.filter.now a.marks.now) a.column a.row a.frame.now.cr c.pair_border.new.cr c.pair_inner.new.cr
+    c.pair_border-2.new.cr c.pair_inner-2.new.cr _ _ _ _
     c.requires.cr.0 c.requires.cr.1 (chroma-inside a.marks.now a.column a.row a.of_chroma.now.qp a.of_chroma.now.filter.now c.requires.marks)
     refl (edge-at a.of_chroma.now.qp a.of_chroma.now.filter.now a.marks.now.inner.vertical 1 _ (omega arith) (omega arith))
     refl (edge-at a.of_chroma.now.qp a.of_chroma.now.filter.now a.marks.now.inner.horizontal 1 _ (omega arith) (omega arith))

@@ -10,7 +10,8 @@ returns-in_default g c = rw c.in_default.is (or_none _ _ _ _ _)
 pub returns-then-is_zero : goal.returns-then-is_zero
 returns-then-is_zero g c =
     let before = c.requires.before (rw c.in-Some.is refl) in
-    rw c.in-Some.is (or_some _ _ _ _ _ _ _ (zero-edge _ _ c.args.plane.now _ c.args.along c.args.across c.in-Some.border.strengths before (c.is_zero.ensures c.if-is_zero.true) refl))
+    rw c.in-Some.is (or_some _ _ _ _ _ _ _ (zero-edge _ _ c.args.plane.now _ c.args.along c.args.across c.in-Some.border.strengths before
+    (c.is_zero.ensures c.if-is_zero.true) refl))
 
 pub luma_at_level-requires-clause-before : goal.luma_at_level-requires-clause-before
 luma_at_level-requires-clause-before g c = c.requires.before (rw c.in-Some.is refl)

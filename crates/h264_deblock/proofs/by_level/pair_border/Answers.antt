@@ -13,12 +13,14 @@ returns-in_default-clause-cr g c = rw c.in_default.is (or_none _ _ _ _ _)
 pub returns-then-is_zero-clause-cb : goal.returns-then-is_zero-clause-cb
 returns-then-is_zero-clause-cb g c =
     let before = c.requires.before (rw c.in-Some.is refl) in
-    rw c.in-Some.is (or_some _ _ _ _ _ _ _ (zero-edge _ _ c.args.cb.now _ c.args.along c.args.across c.in-Some.border.strengths before (c.is_zero.ensures c.if-is_zero.true) refl))
+    rw c.in-Some.is (or_some _ _ _ _ _ _ _ (zero-edge _ _ c.args.cb.now _ c.args.along c.args.across c.in-Some.border.strengths before
+    (c.is_zero.ensures c.if-is_zero.true) refl))
 
 pub returns-then-is_zero-clause-cr : goal.returns-then-is_zero-clause-cr
 returns-then-is_zero-clause-cr g c =
     let before = c.requires.before (rw c.in-Some.is refl) in
-    rw c.in-Some.is (or_some _ _ _ _ _ _ _ (zero-edge _ _ c.args.cr.now _ c.args.along c.args.across c.in-Some.border.strengths before (c.is_zero.ensures c.if-is_zero.true) refl))
+    rw c.in-Some.is (or_some _ _ _ _ _ _ _ (zero-edge _ _ c.args.cr.now _ c.args.along c.args.across c.in-Some.border.strengths before
+    (c.is_zero.ensures c.if-is_zero.true) refl))
 
 pub pair_at_level-requires-clause-before : goal.pair_at_level-requires-clause-before
 pair_at_level-requires-clause-before g c = c.requires.before (rw c.in-Some.is refl)
@@ -27,7 +29,9 @@ pub pair_at_level-requires-clause-word : goal.pair_at_level-requires-clause-word
 pair_at_level-requires-clause-word g c = c.requires.word _ c.in-Some.is
 
 pub returns-clause-cb : goal.returns-clause-cb
-returns-clause-cb g c = rw c.in-Some.is (or_some _ _ _ _ _ _ _ (c.pair_at_level.ensures.cb _ (c.level_beside-level.ensures.here (names c.in-Some.border.strengths)) refl))
+returns-clause-cb g c = rw c.in-Some.is (or_some _ _ _ _ _ _ _
+    (c.pair_at_level.ensures.cb _ (c.level_beside-level.ensures.here (names c.in-Some.border.strengths)) refl))
 
 pub returns-clause-cr : goal.returns-clause-cr
-returns-clause-cr g c = rw c.in-Some.is (or_some _ _ _ _ _ _ _ (c.pair_at_level.ensures.cr _ (c.level_beside-level.ensures.here (names c.in-Some.border.strengths)) refl))
+returns-clause-cr g c = rw c.in-Some.is (or_some _ _ _ _ _ _ _
+    (c.pair_at_level.ensures.cr _ (c.level_beside-level.ensures.here (names c.in-Some.border.strengths)) refl))

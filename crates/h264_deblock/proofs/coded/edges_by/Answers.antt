@@ -27,6 +27,12 @@ returns-clause-edges c slices w xs m s is o l a =
     let cb = qp-is slices Cb m true c.args.own.now.qp f.chroma_qp_index_offset refl s.qp (o m.slice) ∙ sym c.qp_in-qp.ensures in
     let cr = qp-is slices Cr m true c.args.own.now.qp f.chroma_qp_index_offset refl s.qp (o m.slice) ∙ sym c.qp_in-qp.ensures in
     by-plane (λ p. edges_of e p ≡ coded_edges slices w xs m p)
-    (pair-is slices w xs m Y _ _ (c.luma_along.ensures ∙ luma-list slices true (last_left w xs) m f c.args.own.now.qp left (all_names inner.vertical) is o l v y) (c.luma_along-2.ensures ∙ luma-list slices false (last_in w xs (length xs % w)) m f c.args.own.now.qp above (all_names inner.horizontal) is o a z y))
-    (pair-is slices w xs m Cb _ _ (c.chroma_along.ensures ∙ chroma-list slices true (last_left w xs) m f qp left (all_names inner.vertical) is o l v Cb refl cb) (c.chroma_along-2.ensures ∙ chroma-list slices false (last_in w xs (length xs % w)) m f qp above (all_names inner.horizontal) is o a z Cb refl cb))
-    (pair-is slices w xs m Cr _ _ (c.chroma_along.ensures ∙ chroma-list slices true (last_left w xs) m f qp left (all_names inner.vertical) is o l v Cr refl cr) (c.chroma_along-2.ensures ∙ chroma-list slices false (last_in w xs (length xs % w)) m f qp above (all_names inner.horizontal) is o a z Cr refl cr))
+    (pair-is slices w xs m Y _ _ (c.luma_along.ensures ∙
+    luma-list slices true (last_left w xs) m f c.args.own.now.qp left (all_names inner.vertical) is o l v y)
+    (c.luma_along-2.ensures ∙ luma-list slices false (last_in w xs (length xs % w)) m f c.args.own.now.qp above (all_names inner.horizontal) is o a z y))
+    (pair-is slices w xs m Cb _ _ (c.chroma_along.ensures ∙
+    chroma-list slices true (last_left w xs) m f qp left (all_names inner.vertical) is o l v Cb refl cb)
+    (c.chroma_along-2.ensures ∙ chroma-list slices false (last_in w xs (length xs % w)) m f qp above (all_names inner.horizontal) is o a z Cb refl cb))
+    (pair-is slices w xs m Cr _ _ (c.chroma_along.ensures ∙
+    chroma-list slices true (last_left w xs) m f qp left (all_names inner.vertical) is o l v Cr refl cr)
+    (c.chroma_along-2.ensures ∙ chroma-list slices false (last_in w xs (length xs % w)) m f qp above (all_names inner.horizontal) is o a z Cr refl cr))

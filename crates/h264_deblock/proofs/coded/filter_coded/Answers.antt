@@ -30,7 +30,9 @@ returns-then-is_still-2-clause-filtered c slices w xs q one k s size h is o p =
     still slices w xs q c.args.coded.now.filter.now (named_border c.border_of-left.result) (named_border c.border_of-above.result) is o
     (c.border_of-left.ensures.here even (last_left w xs) q (c.left_edge.ensures w xs k) s (left-none w xs c.args.column c.args.row size h))
     (c.border_of-above.ensures.here even (last_in w xs (length xs % w)) q (c.above_edge.ensures w xs k) s (above-none w xs c.args.column c.args.row size h))
-    own.vertical own.horizontal (c.is_still.ensures c.if-is_still.true) (c.is_still-then-is_still.ensures c.if-is_still-2.true) c.args.column c.args.row (λ h. c.border_of-left.ensures.inside (some-named c.border_of-left.result h)) (λ h. c.border_of-above.ensures.inside (some-named c.border_of-above.result h)) p (plane_of p f)
+    own.vertical own.horizontal (c.is_still.ensures c.if-is_still.true) (c.is_still-then-is_still.ensures c.if-is_still-2.true) c.args.column c.args.row
+    (λ h. c.border_of-left.ensures.inside (some-named c.border_of-left.result h))
+    (λ h. c.border_of-above.ensures.inside (some-named c.border_of-above.result h)) p (plane_of p f)
     (by-plane (λ z. side z * c.args.column + side z ≤ (plane_of z f).width) c.requires.y.0 c.requires.cb.0 c.requires.cr.0 p)
     (by-plane (λ z. side z * c.args.row + side z ≤ (plane_of z f).height) c.requires.y.1 c.requires.cb.1 c.requires.cr.1 p)
 
@@ -58,7 +60,8 @@ returns-clause-filtered c slices w xs q one k s size h is o p =
     let old : Frame = c.args.frame.now in
     let new : Frame = c.filter_by.new.frame in
     let left = c.border_of-left.ensures.here even (last_left w xs) q (c.left_edge.ensures w xs k) s (left-none w xs c.args.column c.args.row size h) in
-    let above = c.border_of-above.ensures.here even (last_in w xs (length xs % w)) q (c.above_edge.ensures w xs k) s (above-none w xs c.args.column c.args.row size h) in
+    let above = c.border_of-above.ensures.here even (last_in w xs (length xs % w)) q (c.above_edge.ensures w xs k) s
+    (above-none w xs c.args.column c.args.row size h) in
     let own = c.args.coded.now.own.now in
     let inner = c.inner_strengths.result in
     let a = named_border c.border_of-left.result in
@@ -69,14 +72,18 @@ returns-clause-filtered c slices w xs q one k s size h is o p =
     let y = qp-is slices Y q false own.qp f.chroma_qp_index_offset refl s.qp (o q.slice) in
     let cb = qp-is slices Cb q true own.qp f.chroma_qp_index_offset refl s.qp (o q.slice) in
     let cr = qp-is slices Cr q true own.qp f.chroma_qp_index_offset refl s.qp (o q.slice) in
-    by-plane (λ z. ShowsSamples (plane_of z old) (plane_of z new) (edges_done (side z) (is_chroma z) (coded_edges slices w xs q z) c.args.column c.args.row (at (plane_of z old))))
+    by-plane (λ z. ShowsSamples (plane_of z old) (plane_of z new)
+    (edges_done (side z) (is_chroma z) (coded_edges slices w xs q z) c.args.column c.args.row (at (plane_of z old))))
     (subst (λ (e : PlaneEdges). ShowsSamples old.y new.y (edges_done 16 false e c.args.column c.args.row (at old.y)))
-    (pair-is slices w xs q Y _ _ (luma-list slices true (last_left w xs) q f own.qp a (all_names inner.vertical) is o left v y) (luma-list slices false (last_in w xs (length xs % w)) q f own.qp b (all_names inner.horizontal) is o above z y))
+    (pair-is slices w xs q Y _ _ (luma-list slices true (last_left w xs) q f own.qp a (all_names inner.vertical) is o left v y)
+    (luma-list slices false (last_in w xs (length xs % w)) q f own.qp b (all_names inner.horizontal) is o above z y))
     c.filter_by.ensures.y)
     (subst (λ (e : PlaneEdges). ShowsSamples old.cb new.cb (edges_done 8 true e c.args.column c.args.row (at old.cb)))
-    (pair-is slices w xs q Cb _ _ (chroma-list slices true (last_left w xs) q f qp a (all_names inner.vertical) is o left v Cb refl cb) (chroma-list slices false (last_in w xs (length xs % w)) q f qp b (all_names inner.horizontal) is o above z Cb refl cb))
+    (pair-is slices w xs q Cb _ _ (chroma-list slices true (last_left w xs) q f qp a (all_names inner.vertical) is o left v Cb refl cb)
+    (chroma-list slices false (last_in w xs (length xs % w)) q f qp b (all_names inner.horizontal) is o above z Cb refl cb))
     c.filter_by.ensures.cb)
     (subst (λ (e : PlaneEdges). ShowsSamples old.cr new.cr (edges_done 8 true e c.args.column c.args.row (at old.cr)))
-    (pair-is slices w xs q Cr _ _ (chroma-list slices true (last_left w xs) q f qp a (all_names inner.vertical) is o left v Cr refl cr) (chroma-list slices false (last_in w xs (length xs % w)) q f qp b (all_names inner.horizontal) is o above z Cr refl cr))
+    (pair-is slices w xs q Cr _ _ (chroma-list slices true (last_left w xs) q f qp a (all_names inner.vertical) is o left v Cr refl cr)
+    (chroma-list slices false (last_in w xs (length xs % w)) q f qp b (all_names inner.horizontal) is o above z Cr refl cr))
     c.filter_by.ensures.cr)
     p

@@ -29,7 +29,8 @@ pub loop-v-preserved : goal.loop-v-preserved
 loop-v-preserved c =
     let a = c.args in
     let v = c.loop-v.v in
-    let here : (u : ℕ) → u < 16 → slice_index c.pair_in_turn-pair.result u ≡ in_turn (at a.a.now (a.x + u / 2) (a.y + v)) (at a.b.now (a.x + u / 2) (a.z + v)) u = (λ u s.
+    let here : (u : ℕ) → u < 16 → slice_index c.pair_in_turn-pair.result u ≡
+    in_turn (at a.a.now (a.x + u / 2) (a.y + v)) (at a.b.now (a.x + u / 2) (a.z + v)) u = (λ u s.
     let first : c.loop-v.i + u / 2 ≡ (a.y + v) * a.a.now.width + (a.x + u / 2) = (let e = c.loop-v.invariant.first in omega arith) in
     let second : c.loop-v.j + u / 2 ≡ (a.z + v) * a.b.now.width + (a.x + u / 2) = (let e = c.loop-v.invariant.second in omega arith) in
     rw (← first, ← second, ← c.samples-first.ensures.same, ← c.samples-second.ensures.same) (c.pair_in_turn-pair.ensures u s)) in

@@ -7,9 +7,11 @@ use Rattle.h264_deblock.proofs.edges.edge_pair.Goals as goal
 pub returns-clause-cb : goal.returns-clause-cb
 returns-clause-cb g c =
     edge_by_nearest _ c.args.cb.now c.write_nearest.new.plane c.args.e.now c.args.along c.args.across (limits_at c.limits_of-limits.result)
-    (inner_of c.read_inner-before.result) c.filtered_pair.result.0 c.read_inner-before.ensures.cb c.filtered_pair.ensures.cb (first_half _ _ c.limits_of-limits.ensures) c.write_nearest.ensures
+    (inner_of c.read_inner-before.result) c.filtered_pair.result.0 c.read_inner-before.ensures.cb c.filtered_pair.ensures.cb
+    (first_half _ _ c.limits_of-limits.ensures) c.write_nearest.ensures
 
 pub returns-clause-cr : goal.returns-clause-cr
 returns-clause-cr g c =
     edge_by_nearest _ c.args.cr.now c.write_nearest-2.new.plane c.args.e.now c.args.along c.args.across (λ n. limits_at c.limits_of-limits.result (8 + n))
-    (λ n. inner_of c.read_inner-before.result (8 + n)) c.filtered_pair.result.1 c.read_inner-before.ensures.cr c.filtered_pair.ensures.cr (second_half _ _ c.limits_of-limits.ensures) c.write_nearest-2.ensures
+    (λ n. inner_of c.read_inner-before.result (8 + n)) c.filtered_pair.result.1 c.read_inner-before.ensures.cr c.filtered_pair.ensures.cr
+    (second_half _ _ c.limits_of-limits.ensures) c.write_nearest-2.ensures

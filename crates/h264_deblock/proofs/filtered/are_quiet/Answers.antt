@@ -13,5 +13,6 @@ returns c = record {
       let same = within_inner k _ _ (c.inner.ensures n) in
       sym (quiet_line k (slice_index c.args.k.now.numbers n) (line_of c.args.r.now n) refl
       (⊎_elim (λ no. inl (sym same ∙ no)) (λ off. inr off)
-      (c.asking.ensures n i (is_within_limits k (inner_of c.inner.result n)) (c.within-within.ensures n i (any_filter (slice_index c.args.k.now.numbers n))) (c.are_zero.ensures h n i))));
+      (c.asking.ensures n i (is_within_limits k (inner_of c.inner.result n)) (c.within-within.ensures n i (any_filter (slice_index c.args.k.now.numbers n)))
+      (c.are_zero.ensures h n i))));
 }

@@ -17,7 +17,8 @@ shifts_by-s-requires c n i =
     let w = within k n (inner_of c.inner-inner.result n) in
     let on = c.below_four-on.ensures n i w (c.within.ensures n i (filter_by t)) in
     let s = c.chosen-t.ensures n i ∙ ap (λ z. cond (nat_lt 0 (get_or c.below_four-on.result n 0)) t z) (c.all.ensures n i) in
-    (reach_fits w _ _ t _ _ _ _ _ _ on s (c.flat-p.ensures n i (w && nat_le t 25) on) (c.flat-q.ensures n i (w && nat_le t 25) on) (c.plus.ensures n i) (c.plus-2.ensures n i)).1
+    (reach_fits w _ _ t _ _ _ _ _ _ on s (c.flat-p.ensures n i (w && nat_le t 25) on) (c.flat-q.ensures n i (w && nat_le t 25) on) (c.plus.ensures n i)
+    (c.plus-2.ensures n i)).1
 
 pub returns : goal.returns
 returns c n i =

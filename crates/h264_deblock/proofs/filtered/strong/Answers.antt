@@ -14,7 +14,8 @@ returns c n i =
     let w = is_within_limits k (inner_of c.inner.result n) in
     let on = c.within-on.ensures n i Strong in
     let turned_is = c.turned-turned.ensures n in
-    let p = both_lane w (is_flat k l) (nat_lt (abs_diff l.p0 l.q0) (k.alpha / 4 + 2)) _ _ _ (c.flat.ensures n i w on) (c.near-close.ensures n i) (c.least-smooth_p.ensures n i) in
+    let p = both_lane w (is_flat k l) (nat_lt (abs_diff l.p0 l.q0) (k.alpha / 4 + 2)) _ _ _ (c.flat.ensures n i w on) (c.near-close.ensures n i)
+    (c.least-smooth_p.ensures n i) in
     let other_way : abs_diff l.p0 l.q0 ≡ abs_diff l.q0 l.p0 = omega arith in
     let q = both_lane w (is_flat k (turned l)) (nat_lt (abs_diff l.q0 l.p0) (k.alpha / 4 + 2)) _ _ _
     (c.flat-2.ensures n i w on ∙ ap (λ (x : Line). sign (w && nat_lt (abs_diff x.p2 x.p0) k.beta)) turned_is)

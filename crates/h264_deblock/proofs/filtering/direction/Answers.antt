@@ -7,7 +7,11 @@ use Rattle.h264_deblock.proofs.filtering.direction.Goals as goal
 use Rattle.h264_deblock.proofs.filtering.direction.Goals.{in-Some, in-None}
 
 pub loop-k-init : goal.loop-k-init
-loop-k-init g c = record { width = refl; height = refl; held = λ p s held. after_none _ _ c.args.edges.now c.args.along c.args.across p c.args.plane.now s held }
+loop-k-init g c = record {
+  width = refl;
+  height = refl;
+  held = λ p s held. after_none _ _ c.args.edges.now c.args.along c.args.across p c.args.plane.now s held;
+}
 
 pub loop-k-preserved : goal.loop-k-preserved
 loop-k-preserved g c =
@@ -26,13 +30,15 @@ loop-k-preserved g c =
             held = λ p s held.
                 let sizes = size_held v p a.plane.now s held in
                 after_more k v chroma es a.along a.across p c.loop-k.plane w.edge.new.plane s w.in-Some.e is
-                (rw (← sizes.0) c.requires.along) before (rw (← sizes.1) (let all = c.requires.across in omega (arith, all))) (c.loop-k.invariant.held p s held) w.edge.ensures;
+                (rw (← sizes.0) c.requires.along) before (rw (← sizes.1) (let all = c.requires.across in omega (arith, all)))
+                (c.loop-k.invariant.held p s held) w.edge.ensures;
           })
       | in-None w ↦
           rw w.plane-is (record {
             width = c.loop-k.invariant.width;
             height = c.loop-k.invariant.height;
-            held = λ p s held. after_skip k v chroma es a.along a.across p c.loop-k.plane s (get_or_default es k None _ (omega arith) ∙ w.in-None.is) (c.loop-k.invariant.held p s held);
+            held = λ p s held. after_skip k v chroma es a.along a.across p c.loop-k.plane s (get_or_default es k None _ (omega arith) ∙ w.in-None.is)
+                (c.loop-k.invariant.held p s held);
           })
     ]
 

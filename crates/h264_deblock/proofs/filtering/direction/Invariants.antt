@@ -13,5 +13,6 @@ invariant-loop-k g l =
     record {
       width : l.plane.width ≡ l.fn.plane.width;
       height : l.plane.height ≡ l.fn.plane.height;
-      held : (p : Samples) (s : ℕ → ℕ → ℕ) → ShowsSamples p l.fn.plane s → ShowsSamples p l.plane (edges_after l.k v chroma l.edges (edge_at l.along l.across) s);
+      held : (p : Samples) (s : ℕ → ℕ → ℕ) → ShowsSamples p l.fn.plane s →
+          ShowsSamples p l.plane (edges_after l.k v chroma l.edges (edge_at l.along l.across) s);
     }

@@ -5,7 +5,8 @@ use Rattle.h264_plane.proofs.Lanes.{with_splat, each}
 use Rattle.h264_deblock.proofs.lanes.parity.Goals as goal
 
 pub nonzero_rem-result : goal.nonzero_rem-result
-nonzero_rem-result c = Each2-of (λ a. ⊤) (λ b. b ≡ 2) _ (λ a b u e. (rw e (omega arith))) _ (replicate 16 2) (Each1-all (λ a. ⊤) (λ a. tt) _) (Each1-replicate (λ b. b ≡ 2) 16 2 refl)
+nonzero_rem-result c = Each2-of (λ a. ⊤) (λ b. b ≡ 2) _ (λ a b u e. (rw e (omega arith))) _ (replicate 16 2) (Each1-all (λ a. ⊤) (λ a. tt) _)
+    (Each1-replicate (λ b. b ≡ 2) 16 2 refl)
 
 pub returns : goal.returns
 returns c n p =

@@ -11,4 +11,5 @@ returns-then-word-eq-FOUR-clause-all g c z n i = is_four _ (strong-at n i)
 
 pub returns-clause-here : goal.returns-clause-here
 returns-clause-here g c e is named-by n i =
-    below-level c.args.level.now e c.args.word.now _ _ n i is named-by (c.requires.word.below c.if-word-eq-FOUR.false _ (quarter-small _ n i)) (c.numbers_below.ensures n i)
+    below-level c.args.level.now e c.args.word.now _ _ n i is named-by (c.requires.word.below c.if-word-eq-FOUR.false _ (quarter-small _ n i))
+    (c.numbers_below.ensures n i)

@@ -20,7 +20,8 @@ pub returns-then-are_like-clause-word : goal.returns-then-are_like-clause-word
 returns-then-are_like-clause-word c = zero-word-is
 
 pub returns-clause-here : goal.returns-clause-here
-returns-clause-here c v p q i s = four v 0 p q _ _ _ _ (c.beside.ensures.here v p q i s) (c.beside-2.ensures.here v p q i s) (c.beside-3.ensures.here v p q i s) (c.beside-4.ensures.here v p q i s)
+returns-clause-here c v p q i s = four v 0 p q _ _ _ _ (c.beside.ensures.here v p q i s) (c.beside-2.ensures.here v p q i s)
+    (c.beside-3.ensures.here v p q i s) (c.beside-4.ensures.here v p q i s)
 
 pub returns-clause-word : goal.returns-clause-word
 returns-clause-word c = below-word _ _ _ _ c.beside.ensures.small c.beside-2.ensures.small c.beside-3.ensures.small c.beside-4.ensures.small

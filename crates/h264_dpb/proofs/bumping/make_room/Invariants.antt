@@ -6,7 +6,8 @@ use Rattle.h264_dpb.proofs.bumping.make_room.Given as goal
 
 abbrev pub invariant-loop-turn : goal.invariant-loop-turn
 invariant-loop-turn g l = record {
-  so_far : SoFar g.S.Elements.took g.S.Elements.failures (g.F.FrameStore.lent l.frames) (made_room (length l.fn.entries.items) l.places l.fn.entries.items) (made_room (length l.fn.entries.items - l._turn) l.places l.entries.items) l.fn.sink l.sink;
+  so_far : SoFar g.S.Elements.took g.S.Elements.failures (g.F.FrameStore.lent l.frames) (made_room (length l.fn.entries.items) l.places l.fn.entries.items)
+      (made_room (length l.fn.entries.items - l._turn) l.places l.entries.items) l.fn.sink l.sink;
   ready : AreReady (g.F.FrameStore.lent l.frames) l.entries.items;
   room : g.S.Elements.failures l.sink < 2 ^ 64 - 1;
 }

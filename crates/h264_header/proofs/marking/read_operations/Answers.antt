@@ -10,11 +10,14 @@ loop-turn-init g c = record { rest = listed-starts operation 37 c.new-operations
 
 pub returns-in_err-next : goal.returns-in_err-next
 unfolding operations
-returns-in_err-next g c = let p = err_from_is_err_and c.from_residual.result c.from_residual.ensures.1 in rw (p.1, p.2) (listed-stop operation 37 c.loop-turn._turn c.loop-turn.operations.items c.loop-turn-test.true c.loop-turn.invariant.rest c.in_err-next.ensures.meets)
+returns-in_err-next g c = let p = err_from_is_err_and c.from_residual.result c.from_residual.ensures.1 in
+    rw (p.1, p.2) (listed-stop operation 37 c.loop-turn._turn c.loop-turn.operations.items c.loop-turn-test.true c.loop-turn.invariant.rest
+    c.in_err-next.ensures.meets)
 
 pub returns-in-None : goal.returns-in-None
 unfolding operations
-returns-in-None g c = let m = rw c.in-None.is at c.in_ok-next.ensures.meets in listed-ends operation 37 c.loop-turn._turn c.loop-turn.operations.items c.loop-turn.operations c.loop-turn-test.true refl c.loop-turn.invariant.rest m
+returns-in-None g c = let m = rw c.in-None.is at c.in_ok-next.ensures.meets in
+    listed-ends operation 37 c.loop-turn._turn c.loop-turn.operations.items c.loop-turn.operations c.loop-turn-test.true refl c.loop-turn.invariant.rest m
 
 pub loop-turn-preserved : goal.loop-turn-preserved
 loop-turn-preserved g c =
@@ -26,4 +29,5 @@ loop-turn-preserved g c =
 
 pub returns : goal.returns
 unfolding operations
-returns g c = listed-over operation 37 c.loop-turn._turn c.loop-turn.operations.items c.loop-turn.operations c.loop-turn-test.false refl c.loop-turn.invariant.rest
+returns g c = listed-over operation 37 c.loop-turn._turn c.loop-turn.operations.items c.loop-turn.operations c.loop-turn-test.false refl
+    c.loop-turn.invariant.rest

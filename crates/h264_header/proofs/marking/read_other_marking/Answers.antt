@@ -10,11 +10,15 @@ use Rattle.h264_header.proofs.marking.read_other_marking.Goals as goal
 
 pub returns-in_err-adaptive : goal.returns-in_err-adaptive
 unfolding other_marking
-returns-in_err-adaptive g c = let p = err_from_is_err_and c.from_residual.result c.from_residual.ensures.1 in rw (p.1, p.2) (stop _ c.in_err-adaptive.ensures.meets)
+returns-in_err-adaptive g c = let p = err_from_is_err_and c.from_residual.result c.from_residual.ensures.1 in
+    rw (p.1, p.2) (stop _ c.in_err-adaptive.ensures.meets)
 
 pub returns-then-adaptive : goal.returns-then-adaptive
 unfolding other_marking
-returns-then-adaptive g c = bind _ c.in_ok-adaptive.ensures.meets (rw (digit-is c.in_ok-adaptive.adaptive.value, c.if-adaptive.true) (seen-last (λ (m : Marking). let f : Found Marking = record { bit = c.in_ok-adaptive.adaptive.bit; value = m } in f) _ (λ _ m e. e) c.read_adaptive.ensures))
+returns-then-adaptive g c = bind _ c.in_ok-adaptive.ensures.meets
+    (rw (digit-is c.in_ok-adaptive.adaptive.value, c.if-adaptive.true)
+    (seen-last (λ (m : Marking). let f : Found Marking = record { bit = c.in_ok-adaptive.adaptive.bit; value = m } in f) _ (λ _ m e. e)
+    c.read_adaptive.ensures))
 
 pub returns : goal.returns
 unfolding other_marking marking_mode ◌>>=◌

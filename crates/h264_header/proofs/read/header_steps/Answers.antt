@@ -10,11 +10,13 @@ returns-in_err-header g c = let p = err_from_is_err_and c.from_residual.result c
 
 pub returns-in_err-stated : goal.returns-in_err-stated
 unfolding header header_from_frame_num header_from_kind
-returns-in_err-stated g c = let p = err_from_is_err_and c.from_residual-in_err-stated.result c.from_residual-in_err-stated.ensures.1 in rw (p.1, p.2) (bind _ c.in_ok-header.ensures.meets (stop _ c.in_err-stated.ensures))
+returns-in_err-stated g c = let p = err_from_is_err_and c.from_residual-in_err-stated.result c.from_residual-in_err-stated.ensures.1 in
+    rw (p.1, p.2) (bind _ c.in_ok-header.ensures.meets (stop _ c.in_err-stated.ensures))
 
 pub returns-in_err-named : goal.returns-in_err-named
 unfolding header header_from_frame_num header_from_kind
-returns-in_err-named g c = let p = err_from_is_err_and c.from_residual-in_err-named.result c.from_residual-in_err-named.ensures.1 in rw (p.1, p.2) (bind _ c.in_ok-header.ensures.meets (bind _ c.in_ok-stated.ensures (stop _ c.in_err-named.ensures.meets)))
+returns-in_err-named g c = let p = err_from_is_err_and c.from_residual-in_err-named.result c.from_residual-in_err-named.ensures.1 in
+    rw (p.1, p.2) (bind _ c.in_ok-header.ensures.meets (bind _ c.in_ok-stated.ensures (stop _ c.in_err-named.ensures.meets)))
 
 pub returns : goal.returns
 unfolding header header_from_frame_num header_from_kind

@@ -13,7 +13,8 @@ returns-in_err-weight g c = let p = err_from_is_err_and c.from_residual.result c
 
 pub returns-in_err-offset : goal.returns-in_err-offset
 unfolding stated_weight
-returns-in_err-offset g c = let p = err_from_is_err_and c.from_residual-in_err-offset.result c.from_residual-in_err-offset.ensures.1 in rw (p.1, p.2) (bind _ c.in_ok-weight.ensures.meets (stop _ c.in_err-offset.ensures.meets))
+returns-in_err-offset g c = let p = err_from_is_err_and c.from_residual-in_err-offset.result c.from_residual-in_err-offset.ensures.1 in
+    rw (p.1, p.2) (bind _ c.in_ok-weight.ensures.meets (stop _ c.in_err-offset.ensures.meets))
 
 pub returns : goal.returns
 unfolding stated_weight

@@ -23,12 +23,14 @@ loop-v-preserved g c =
     let count : length new ≡ w = c.put_row.ensures.whole in
     record {
       above = row_more w v _ out new (λ a b. weighted k.a k.b k.c k.d (λ i j. at c.args.p (c.args.left + a + i) (c.args.top + b + j))) fits count
-          (λ x p. c.put_row.ensures.each x p ∙ c.row-row.ensures c.args.p c.args.left (c.args.top + v) c.loop-v.invariant.rows c.pairs-lower.ensures x (omega arith))
+          (λ x p. c.put_row.ensures.each x p ∙ c.row-row.ensures c.args.p c.args.left (c.args.top + v) c.loop-v.invariant.rows c.pairs-lower.ensures x
+          (omega arith))
           c.loop-v.invariant.above;
       rows = pairs_from w c.args.p c.args.left (c.args.top + v) (c.args.top + (v + 1)) 1 0 _ (omega arith) c.pairs-lower.ensures;
     }
 
 pub returns : goal.returns
-returns g c = weights_placed c.args.x c.args.y _ _ _ _ g.row.W g.row.H (λ u v i j. at c.args.p (c.args.left + u + i) (c.args.top + v + j)) c.loop-v.out c.weights_at-w.ensures.each (record {
-  each = λ u v p q. c.loop-v.invariant.above v (omega arith) u p;
-})
+returns g c = weights_placed c.args.x c.args.y _ _ _ _ g.row.W g.row.H (λ u v i j. at c.args.p (c.args.left + u + i) (c.args.top + v + j)) c.loop-v.out
+    c.weights_at-w.ensures.each (record {
+      each = λ u v p q. c.loop-v.invariant.above v (omega arith) u p;
+    })

@@ -54,7 +54,8 @@ returns-clause-each c k q =
     let first : length c.pair_sums-first.result ≡ 8 = search rules in
     let middle : length c.pair_sums-middle.result ≡ 8 = search rules in
     let last : length c.pair_sums-last.result ≡ 8 = search rules in
-    c.sum_rounded.ensures k q ∙ taps_of_pairs p z y (get_or c.load16.result (2 * k) 0) (get_or c.load16.result (2 * k + 1) 0) (get_or c.load16-2.result (2 * k) 0)
+    c.sum_rounded.ensures k q ∙ taps_of_pairs p z y (get_or c.load16.result (2 * k) 0) (get_or c.load16.result (2 * k + 1) 0)
+    (get_or c.load16-2.result (2 * k) 0)
     (get_or c.load16-2.result (2 * k + 1) 0) (get_or c.load16-3.result (2 * k) 0) (get_or c.load16-3.result (2 * k + 1) 0) _ _ _
     (small_handed c.pair_sums-first.result k 1530 first q (c.pair_sums-first.ensures.size k q) (omega arith) ∙ c.pair_sums-first.ensures.each k q)
     (small_handed c.pair_sums-middle.result k 10200 middle q (c.pair_sums-middle.ensures.size k q) (omega arith) ∙ c.pair_sums-middle.ensures.each k q)

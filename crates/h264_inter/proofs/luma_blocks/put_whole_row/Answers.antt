@@ -7,4 +7,5 @@ returns-then-this-eq8-clause-each g c u p =
     let same : length c.args.out.now ≡ length c.eight.result = omega arith in
     let inside : u < 8 = omega arith in
     let column : c.args.x + u < c.args.p.now.width = omega arith in
-    ap (λ (l : List ℕ). slice_index l u) (put_chunk_whole c.args.out.now c.eight.result same) ∙ c.eight.ensures u inside ∙ c.row-then-this-eq8.ensures.each (c.args.x + u) column
+    ap (λ (l : List ℕ). slice_index l u) (put_chunk_whole c.args.out.now c.eight.result same) ∙ c.eight.ensures u inside ∙
+    c.row-then-this-eq8.ensures.each (c.args.x + u) column

@@ -6,7 +6,9 @@ use Rattle.h264_inter.proofs.Moved.{both_moved}
 use Rattle.h264_inter.proofs.luma_blocks.side_line.Goals as goal
 
 pub returns-clause-windows : goal.returns-clause-windows
-returns-clause-windows g c = rw c.partner-c.ensures.value at (both_moved false g.row.W c.args.p.now c.args.corner.x c.partner-c.result (c.args.corner.y + c.args.v) (c.args.corner.y + (c.args.v + 1)) _ (omega arith) c.next_windows-windows.ensures)
+returns-clause-windows g c = rw c.partner-c.ensures.value at
+    (both_moved false g.row.W c.args.p.now c.args.corner.x c.partner-c.result (c.args.corner.y + c.args.v) (c.args.corner.y + (c.args.v + 1)) _ (omega arith)
+    c.next_windows-windows.ensures)
 
 pub returns-clause-rows : goal.returns-clause-rows
 returns-clause-rows g c =

@@ -10,7 +10,8 @@ overflow_cast-result c =
     let second : length r.second ≡ 8 = search rules in
     let low = λ (k : ℕ) (p : k < 8). (Each1-get_or _ r.a k 0 (omega (arith, p, c.fits-a.0)) c.fits-a.1).fits in
     let high = λ (k : ℕ) (p : k < 8). (Each1-get_or _ r.b k 0 (omega (arith, p, c.fits-b.0)) c.fits-b.1).fits in
-    let at = λ (k : ℕ) (p : k < 8). weighted_lane r.a r.b r.first r.second k c.fits-a.0 c.fits-b.0 first second p (low k p) (high k p) (c.requires.first k p) (c.requires.second k p) in
+    let at = λ (k : ℕ) (p : k < 8). weighted_lane r.a r.b r.first r.second k c.fits-a.0 c.fits-b.0 first second p (low k p) (high k p) (c.requires.first k p)
+    (c.requires.second k p) in
     all_fit w32 w16 (held_of (weighted_of r.a r.b r.first r.second)) (weighted_at r.a r.b r.first r.second) ((at 0 (omega arith)).long) at
     (λ k p. weighted_fits r.a r.b r.first r.second k (low k p) (high k p) (c.requires.first k p) (c.requires.second k p))
 

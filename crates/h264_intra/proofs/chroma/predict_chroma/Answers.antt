@@ -8,7 +8,8 @@ returns-in-Dc c = λ possible.
     let n = c.args.neighbours.now in
     let left = c.unwrap_or-left in
     let above = c.unwrap_or-above in
-    rw c.in-Dc.is (flat_chroma n left.result above.result c.fill.result c.mean_of_block.result c.mean_of_block-in-Dc.result c.mean_of_block-in-Dc-2.result c.mean_of_block-in-Dc-3.result (record { a = pos 0; b = pos 0; c = pos 0 })
+    rw c.in-Dc.is (flat_chroma n left.result above.result c.fill.result c.mean_of_block.result c.mean_of_block-in-Dc.result c.mean_of_block-in-Dc-2.result
+    c.mean_of_block-in-Dc-3.result (record { a = pos 0; b = pos 0; c = pos 0 })
     c.mean_of_block.ensures c.mean_of_block-in-Dc.ensures c.mean_of_block-in-Dc-2.ensures c.mean_of_block-in-Dc-3.ensures c.fill.ensures)
 
 pub returns-in-Horizontal : goal.returns-in-Horizontal
@@ -16,14 +17,16 @@ returns-in-Horizontal c = λ possible.
     let n = c.args.neighbours.now in
     let left = c.unwrap_or-left in
     let above = c.unwrap_or-above in
-    rw c.in-Horizontal.is (horizontal_chroma n left.result above.result _ c.fill-in-Horizontal.result [] (record { a = pos 0; b = pos 0; c = pos 0 }) (rw c.in-Horizontal.is at possible) left.ensures c.fill-in-Horizontal.ensures)
+    rw c.in-Horizontal.is (horizontal_chroma n left.result above.result _ c.fill-in-Horizontal.result [] (record { a = pos 0; b = pos 0; c = pos 0 })
+    (rw c.in-Horizontal.is at possible) left.ensures c.fill-in-Horizontal.ensures)
 
 pub returns-in-Vertical : goal.returns-in-Vertical
 returns-in-Vertical c = λ possible.
     let n = c.args.neighbours.now in
     let left = c.unwrap_or-left in
     let above = c.unwrap_or-above in
-    rw c.in-Vertical.is (vertical_chroma n left.result above.result _ c.fill-in-Vertical.result [] (record { a = pos 0; b = pos 0; c = pos 0 }) (rw c.in-Vertical.is at possible) above.ensures c.fill-in-Vertical.ensures)
+    rw c.in-Vertical.is (vertical_chroma n left.result above.result _ c.fill-in-Vertical.result [] (record { a = pos 0; b = pos 0; c = pos 0 })
+    (rw c.in-Vertical.is at possible) above.ensures c.fill-in-Vertical.ensures)
 
 pub returns-in-Plane : goal.returns-in-Plane
 returns-in-Plane c = λ possible.

@@ -3,7 +3,8 @@ use Rattle.h264_intra.proofs.luma16.mean_of_sides.Goals as goal
 
 pub returns-in-Some-Some : goal.returns-in-Some-Some
 returns-in-Some-Some c =
-    both16 c.args.n.now c.in-Some-Some.l c.in-Some-Some.a c.sum.result c.sum-in-Some-Some.result c.in-Some-Some.is-0 c.in-Some-Some.is-1 c.sum.ensures.sum c.sum-in-Some-Some.ensures.sum
+    both16 c.args.n.now c.in-Some-Some.l c.in-Some-Some.a c.sum.result c.sum-in-Some-Some.result c.in-Some-Some.is-0 c.in-Some-Some.is-1 c.sum.ensures.sum
+    c.sum-in-Some-Some.ensures.sum
 
 pub returns-in-Some-None : goal.returns-in-Some-None
 returns-in-Some-None c =

@@ -8,21 +8,24 @@ returns-in-Vertical c = λ possible.
     let n = c.args.neighbours.now in
     let left = c.unwrap_or-left in
     let above = c.unwrap_or-above in
-    rw c.in-Vertical.is (vertical16 n left.result above.result _ c.fill.result 0 (record { a = pos 0; b = pos 0; c = pos 0 }) (rw c.in-Vertical.is at possible) above.ensures c.fill.ensures)
+    rw c.in-Vertical.is (vertical16 n left.result above.result _ c.fill.result 0 (record { a = pos 0; b = pos 0; c = pos 0 })
+    (rw c.in-Vertical.is at possible) above.ensures c.fill.ensures)
 
 pub returns-in-Horizontal : goal.returns-in-Horizontal
 returns-in-Horizontal c = λ possible.
     let n = c.args.neighbours.now in
     let left = c.unwrap_or-left in
     let above = c.unwrap_or-above in
-    rw c.in-Horizontal.is (horizontal16 n left.result above.result _ c.fill-in-Horizontal.result 0 (record { a = pos 0; b = pos 0; c = pos 0 }) (rw c.in-Horizontal.is at possible) left.ensures c.fill-in-Horizontal.ensures)
+    rw c.in-Horizontal.is (horizontal16 n left.result above.result _ c.fill-in-Horizontal.result 0 (record { a = pos 0; b = pos 0; c = pos 0 })
+    (rw c.in-Horizontal.is at possible) left.ensures c.fill-in-Horizontal.ensures)
 
 pub returns-in-Dc : goal.returns-in-Dc
 returns-in-Dc c = λ possible.
     let n = c.args.neighbours.now in
     let left = c.unwrap_or-left in
     let above = c.unwrap_or-above in
-    rw c.in-Dc.is (flat16 n left.result above.result c.fill-in-Dc.result c.mean_of_sides.result (record { a = pos 0; b = pos 0; c = pos 0 }) c.mean_of_sides.ensures c.fill-in-Dc.ensures)
+    rw c.in-Dc.is (flat16 n left.result above.result c.fill-in-Dc.result c.mean_of_sides.result (record { a = pos 0; b = pos 0; c = pos 0 })
+    c.mean_of_sides.ensures c.fill-in-Dc.ensures)
 
 pub returns-in-Plane : goal.returns-in-Plane
 returns-in-Plane c = λ possible.

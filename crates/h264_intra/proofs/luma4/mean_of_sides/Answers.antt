@@ -3,7 +3,8 @@ use Rattle.h264_intra.proofs.luma4.mean_of_sides.Goals as goal
 
 pub returns-in-Some-Some : goal.returns-in-Some-Some
 returns-in-Some-Some c =
-    both4 c.args.n.now c.in-Some-Some.l c.in-Some-Some.a c.sum.result c.sum-in-Some-Some.result c.in-Some-Some.is-0 c.in-Some-Some.is-1 c.sum.ensures.sum c.sum-in-Some-Some.ensures.sum
+    both4 c.args.n.now c.in-Some-Some.l c.in-Some-Some.a c.sum.result c.sum-in-Some-Some.result c.in-Some-Some.is-0 c.in-Some-Some.is-1 c.sum.ensures.sum
+    c.sum-in-Some-Some.ensures.sum
 
 pub returns-in-None-Some : goal.returns-in-None-Some
 returns-in-None-Some c =

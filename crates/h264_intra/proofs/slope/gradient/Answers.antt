@@ -14,7 +14,8 @@ loop-k-preserved g c =
     let s = to_z w32 c.loop-k.sum-bits in
     let kept : to_z w32 (of_z w32 (s +ℤ to_z w32 (of_z w32 c.weighted-sum.result))) ≡ s +ℤ c.weighted-sum.result = omega (arith, ints) in
     record {
-      value = kept ∙ gradient_more g.row.HALF c.loop-k.k c.args.corner c.args.side.now s c.weighted-sum.result (omega arith) c.loop-k.invariant.value c.weighted-sum.ensures.value;
+      value = kept ∙ gradient_more g.row.HALF c.loop-k.k c.args.corner c.args.side.now s c.weighted-sum.result (omega arith) c.loop-k.invariant.value
+          c.weighted-sum.ensures.value;
       bound = record { low = omega (arith, ints); high = omega (arith, ints) };
     }
 

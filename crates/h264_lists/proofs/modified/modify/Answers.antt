@@ -21,14 +21,16 @@ returns-in_default c =
     let fits : SFits w64 c.pred_after-no_wrap.result = search rules in
     let sent = to_z-of_z w64 c.pred_after-no_wrap.result fits in
     let start = to_z_pos w64 c.args.current.now.frame_num (omega arith) in
-    ap list_answer (refused-at _ _ _ _ _ _ _ _ _ _ _ (omega arith) (rw start at c.loop-k.invariant.turns) c.pred_after-no_wrap.ensures.value sent c.in_default.ensures)
+    ap list_answer (refused-at _ _ _ _ _ _ _ _ _ _ _ (omega arith) (rw start at c.loop-k.invariant.turns) c.pred_after-no_wrap.ensures.value sent
+    c.in_default.ensures)
 
 pub loop-k-preserved : goal.loop-k-preserved
 loop-k-preserved c =
     let fits : SFits w64 c.pred_after-no_wrap.result = search rules in
     let sent = to_z-of_z w64 c.pred_after-no_wrap.result fits in
     record {
-      turns = goes-on-at _ _ _ _ _ _ _ _ _ _ _ _ _ (omega arith) c.loop-k.invariant.turns c.pred_after-no_wrap.ensures.value sent c.in-Some.ensures c.loop-k.invariant.places c.put_at.ensures.value;
+      turns = goes-on-at _ _ _ _ _ _ _ _ _ _ _ _ _ (omega arith) c.loop-k.invariant.turns c.pred_after-no_wrap.ensures.value sent c.in-Some.ensures
+          c.loop-k.invariant.places c.put_at.ensures.value;
       places = c.put_at.ensures.len ∙ c.loop-k.invariant.places;
       bound = rw to_z-of_z (c.pred_after-no_wrap.ensures.grows c.loop-k.k c.loop-k.invariant.bound);
     }

@@ -10,4 +10,5 @@ returns c = λ h.
     let full : length c.args.frames.now ≡ frame_places c.args.numbering.now.max_num_ref_frames = search rules in
     let within : c.number_before-before.result < c.args.numbering.now.max_frame_num = search rules in
     let last : c.args.last ≡ (c.number_before-before.result + c.count_shorts-shorts.result) % c.args.numbering.now.max_frame_num = search rules in
-    steady-is c.args.numbering.now c.args.last c.number_before-before.result c.count_shorts-shorts.result c.args.frames.now (sym c.is_window.ensures ∙ h) full some few within last
+    steady-is c.args.numbering.now c.args.last c.number_before-before.result c.count_shorts-shorts.result c.args.frames.now (sym c.is_window.ensures ∙ h) full
+    some few within last

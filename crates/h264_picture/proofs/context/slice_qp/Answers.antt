@@ -3,7 +3,8 @@ use Rattle.std.proofs.lemmas.Int.{ints}
 use Rattle.h264_picture.proofs.context.slice_qp.Goals as goal
 
 -- two numbers of 32 bits and 26 fit 64 bits
-summed : (a b : ℤ) → SFits w32 a → SFits w32 b → to_z w64 (of_z w64 (to_z w64 (of_z w64 (pos 26 +ℤ to_z w64 (of_z w64 a))) +ℤ to_z w64 (of_z w64 b))) ≡ (pos 26 +ℤ a) +ℤ b
+summed : (a b : ℤ) → SFits w32 a → SFits w32 b →
+    to_z w64 (of_z w64 (to_z w64 (of_z w64 (pos 26 +ℤ to_z w64 (of_z w64 a))) +ℤ to_z w64 (of_z w64 b))) ≡ (pos 26 +ℤ a) +ℤ b
 summed a b p q =
     let first : to_z w64 (of_z w64 a) ≡ a = omega (arith, ints) in
     let second : to_z w64 (of_z w64 b) ≡ b = omega (arith, ints) in

@@ -10,14 +10,16 @@ use Rattle.h264_poc.proofs.cycle.expected.Goals as goal
 pub returns-clause-is : goal.returns-clause-is
 returns-clause-is c =
     let some : (c.args.abs == 0) ≡ false = (let h = c.if-abs-eq0.false in grind (arith, nat_tests)) in
-    let below : (c.args.abs - 1) / length c.args.offsets.now < 2 ^ 63 = (let le = div-le_self (c.args.abs - 1) (length c.args.offsets.now) in let h = c.requires.fits in omega arith) in
+    let below : (c.args.abs - 1) / length c.args.offsets.now < 2 ^ 63 =
+    (let le = div-le_self (c.args.abs - 1) (length c.args.offsets.now) in let h = c.requires.fits in omega arith) in
     let fits : SFits w64 c.sum_of.result = search rules in
     let a : neg_ℤ (pos (2 ^ 49)) ≤ℤ c.in-Some.cycles = (let h = c.if-cycles.false in grind (arith, ints)) in
     let b : c.in-Some.cycles ≤ℤ pos (2 ^ 49) = (let h = c.if-cycles-gt-FAR.false in grind (arith, ints)) in
     let l = c.sum_of-begun.ensures.above in
     let u = c.sum_of-begun.ensures.below in
     let product = c.in-Some.ensures.1 ∙ multiplied-fits ((c.args.abs - 1) / length c.args.offsets.now) c.sum_of.result below fits in
-    added-fits c.in-Some.cycles c.sum_of-begun.result a b (omega (arith, ints)) (omega (arith, ints)) ∙ rw (product, c.sum_of.ensures.is, c.sum_of-begun.ensures.is, some) refl
+    added-fits c.in-Some.cycles c.sum_of-begun.result a b (omega (arith, ints)) (omega (arith, ints)) ∙
+    rw (product, c.sum_of.ensures.is, c.sum_of-begun.ensures.is, some) refl
 
 pub returns-clause-above : goal.returns-clause-above
 returns-clause-above c =

@@ -9,4 +9,5 @@ returns-in-None-clause-ok c = none-along _ _ c.body.ensures.value c.in-None.ensu
 
 pub returns-in-Some-clause-value : goal.returns-in-Some-clause-value
 returns-in-Some-clause-value c =
-    some-checked-at c.args.unit.now.from c.from.result c.args.unit.now.body c.in-Some.place c.from.ensures.value (first-along _ _ _ c.body.ensures.value c.in-Some.ensures.first)
+    some-checked-at c.args.unit.now.from c.from.result c.args.unit.now.body c.in-Some.place c.from.ensures.value
+    (first-along _ _ _ c.body.ensures.value c.in-Some.ensures.first)

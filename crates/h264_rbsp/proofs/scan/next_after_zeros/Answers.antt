@@ -21,7 +21,8 @@ loop-place-preserved c =
     let next = c.after_high-place-in-loop-place in
     let on : p + c.if-bytes-place-eq0.step ≤ next.result = next.ensures.from.0 in
     let none-here : IsFound bytes least p → ⊥ = c.is_found.ensures.other c.if-is_found.false in
-    let passed : (place : ℕ) → p ≤ place → place < p + c.if-bytes-place-eq0.step → IsFound bytes least place → ⊥ = λ place from to f. elim c.if-bytes-place-eq0.branch [
+    let passed : (place : ℕ) → p ≤ place → place < p + c.if-bytes-place-eq0.step → IsFound bytes least place →
+    ⊥ = λ place from to f. elim c.if-bytes-place-eq0.branch [
       | then-bytes-place-eq0 w ↦ let e : place ≡ p = omega (arith, w.step-is) in none-here (subst (λ q. IsFound bytes least q) e f)
       | else-bytes-place-eq0 w ↦ after-other bytes least p place w.if-bytes-place-eq0.false none-here from (omega (arith, w.step-is)) f
     ] in

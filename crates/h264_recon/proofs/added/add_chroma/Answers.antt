@@ -12,19 +12,22 @@ returns-then-is_pcm-clause-range c =
     let r = c.args.levels.now in
     let l = levels_in r in
     let pcm = sym c.is_pcm.ensures ∙ c.if-is_pcm.true in
-    always _ (and_true _ _ (ap (chroma_fits l.qp_cb) (pcm_cb r pcm) ∙ not_coded_chroma_fits l.qp_cb) (ap (chroma_fits l.qp_cr) (pcm_cr r pcm) ∙ not_coded_chroma_fits l.qp_cr))
+    always _ (and_true _ _ (ap (chroma_fits l.qp_cb) (pcm_cb r pcm) ∙ not_coded_chroma_fits l.qp_cb)
+    (ap (chroma_fits l.qp_cr) (pcm_cr r pcm) ∙ not_coded_chroma_fits l.qp_cr))
 
 pub returns-then-is_pcm-clause-cb : goal.returns-then-is_pcm-clause-cb
 returns-then-is_pcm-clause-cb c =
     let r = c.args.levels.now in
     let l = levels_in r in
-    cb_stays l _ _ (record { clipped = c.add_nothing.ensures.clipped; same = c.add_nothing.ensures.same }) (λ x y. no_cb l x y (pcm_cb r (sym c.is_pcm.ensures ∙ c.if-is_pcm.true)))
+    cb_stays l _ _ (record { clipped = c.add_nothing.ensures.clipped; same = c.add_nothing.ensures.same })
+    (λ x y. no_cb l x y (pcm_cb r (sym c.is_pcm.ensures ∙ c.if-is_pcm.true)))
 
 pub returns-then-is_pcm-clause-cr : goal.returns-then-is_pcm-clause-cr
 returns-then-is_pcm-clause-cr c =
     let r = c.args.levels.now in
     let l = levels_in r in
-    cr_stays l _ _ (record { clipped = c.add_nothing-then-is_pcm.ensures.clipped; same = c.add_nothing-then-is_pcm.ensures.same }) (λ x y. no_cr l x y (pcm_cr r (sym c.is_pcm.ensures ∙ c.if-is_pcm.true)))
+    cr_stays l _ _ (record { clipped = c.add_nothing-then-is_pcm.ensures.clipped; same = c.add_nothing-then-is_pcm.ensures.same })
+    (λ x y. no_cr l x y (pcm_cr r (sym c.is_pcm.ensures ∙ c.if-is_pcm.true)))
 
 pub returns-in_err-add_plane-clause-range : goal.returns-in_err-add_plane-clause-range
 unfolding levels_in

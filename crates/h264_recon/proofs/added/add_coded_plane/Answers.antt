@@ -28,7 +28,8 @@ loop-b-preserved c =
     record {
       size = c.add_chroma_block.array_long;
       fit = all_more b _ c.loop-b.invariant.fit (ap residual_fits (sym is) ∙ c.in_ok-add_chroma_block.ensures.range.0 refl);
-      added = chroma_more b _ a.samples.now c.loop-b.samples c.add_chroma_block.new.samples (omega arith) c.loop-b.invariant.added (rw is at c.in_ok-add_chroma_block.ensures.added);
+      added = chroma_more b _ a.samples.now c.loop-b.samples c.add_chroma_block.new.samples (omega arith) c.loop-b.invariant.added
+          (rw is at c.in_ok-add_chroma_block.ensures.added);
     }
 
 pub returns-in_err-add_chroma_block : goal.returns-in_err-add_chroma_block
@@ -39,7 +40,10 @@ returns-in_err-add_chroma_block c =
     let short : FitsSigned w16 x = search rules in
     let is = plane_at a.qp a.c b a.mb.now a.levels.now c.in_ok-dc.dc _ (omega arith) (kept16 x short) c.in_ok-dc.ensures.scaled in
     let p = err_from_is_err_and c.from_residual-in_err-add_chroma_block.result c.from_residual-in_err-add_chroma_block.ensures.1 in
-    rw p.1 (record { range = never _ (chroma_unfit a.qp _ b (omega arith) (ap residual_fits (sym is) ∙ refused _ c.in_err-add_chroma_block.ensures.range.1)); added = tt })
+    rw p.1 (record {
+      range = never _ (chroma_unfit a.qp _ b (omega arith) (ap residual_fits (sym is) ∙ refused _ c.in_err-add_chroma_block.ensures.range.1));
+      added = tt;
+    })
 
 pub returns : goal.returns
 unfolding chroma_dc_fits

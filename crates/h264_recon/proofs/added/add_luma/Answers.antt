@@ -39,7 +39,8 @@ loop-b-preserved c =
     record {
       size = c.add_luma_block.array_long;
       fit = all_more b _ c.loop-b.invariant.fit ((c.in_ok-add_luma_block.ensures.range l.luma h).0 refl);
-      added = luma_more b _ c.args.samples.now c.loop-b.samples c.add_luma_block.new.samples (omega arith) c.loop-b.invariant.added (c.in_ok-add_luma_block.ensures.added l.luma h);
+      added = luma_more b _ c.args.samples.now c.loop-b.samples c.add_luma_block.new.samples (omega arith) c.loop-b.invariant.added
+          (c.in_ok-add_luma_block.ensures.added l.luma h);
     }
 
 pub returns-in_err-add_luma_block : goal.returns-in_err-add_luma_block
@@ -48,7 +49,10 @@ returns-in_err-add_luma_block c =
     let l = levels_in c.args.levels.now in
     let h = c.in_ok-blocks.ensures.blocks in
     let p = err_from_is_err_and c.from_residual-in_err-add_luma_block.result c.from_residual-in_err-add_luma_block.ensures.1 in
-    rw p.1 (record { range = never _ (luma_unfit l.qp l.luma c.loop-b.b (omega arith) (refused _ (c.in_err-add_luma_block.ensures.range l.luma h).1)); added = tt })
+    rw p.1 (record {
+      range = never _ (luma_unfit l.qp l.luma c.loop-b.b (omega arith) (refused _ (c.in_err-add_luma_block.ensures.range l.luma h).1));
+      added = tt;
+    })
 
 pub returns : goal.returns
 unfolding levels_in

@@ -15,9 +15,13 @@ returns-then-is_plane_uncoded c =
     let t = take 4 (drop (4 * a.c) mb.contexts.chroma_totals) in
     let qp = chroma_qp_of mb.qp a.levels.now.chroma_qp_index_offset in
     chroma_of qp qp chroma.NotCoded _ _ _ _
-    (record { range = always _ (not_coded_chroma_fits qp); added = plane_stays qp _ _ (record { clipped = c.add_nothing.ensures.clipped; same = c.add_nothing.ensures.same }) })
+    (record {
+      range = always _ (not_coded_chroma_fits qp);
+      added = plane_stays qp _ _ (record { clipped = c.add_nothing.ensures.clipped; same = c.add_nothing.ensures.same });
+    })
     refl
-    (uncoded t t c.dc_levels-dc.result (shown 4 (get_or mb.residual.chroma_dc_totals a.c 0) (get_or mb.residual.chroma_dc a.c (replicate 4 (pos 0)))) _ _ c.if-is_plane_uncoded.true c.is_plane_uncoded.ensures c.dc_levels-dc.ensures refl)
+    (uncoded t t c.dc_levels-dc.result (shown 4 (get_or mb.residual.chroma_dc_totals a.c 0) (get_or mb.residual.chroma_dc a.c (replicate 4 (pos 0)))) _ _
+    c.if-is_plane_uncoded.true c.is_plane_uncoded.ensures c.dc_levels-dc.ensures refl)
 
 pub returns : goal.returns
 returns c =

@@ -42,7 +42,8 @@ loop-b-preserved c =
       made = λ ok. block_next b a.modes.now a.a (λ x y. residual_at (luma_d l.qp l.luma x y)) a.store.now a.column c.loop-b.own c.add_luma_block.new.samples
           (λ i j. clip1 (pos (slice_index block (4 * j + i)) +ℤ residual j i))
           (omega arith) ok (c.loop-b.invariant.made ok)
-          (put_added x y c.loop-b.own c.put_block4.new.own c.add_luma_block.new.samples (λ i j. slice_index block (4 * j + i)) residual c.put_block4.ensures (c.in_ok-add_luma_block.ensures.added l.luma h))
+          (put_added x y c.loop-b.own c.put_block4.new.own c.add_luma_block.new.samples (λ i j. slice_index block (4 * j + i)) residual c.put_block4.ensures
+          (c.in_ok-add_luma_block.ensures.added l.luma h))
           (λ i j d e. ap (λ n. clip1 (pos n +ℤ residual j i))
           (has4 _ (mode_at a.modes.now x y) _ (sides4_of a.a x y) _ _ block i j d e
           (get_or_default a.modes.now b _ Dc (omega arith) ∙ ap (λ n. get_or a.modes.now n Dc) (sym (index_back b (omega arith))))

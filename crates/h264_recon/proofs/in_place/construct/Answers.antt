@@ -12,15 +12,18 @@ returns-clause-step c =
     λ k u inside below ok shown mu held.
     let m = coded a.m.now (levels_in a.levels.now) in
     let made = c.in_ok-make.ensures.made k inside below ok.possible shown in (
-      stored_next k a.position.column a.position.row m u a.lines.now lines c.save.new.lines inside ok.within ok.possible mu held made c.make.ensures.above c.save.ensures,
-      shows k a.position.column a.position.row m u a.lines.now (samples_of lines.last) a.frame.now c.place.new.frame inside ok.within ok.possible mu held made c.place.ensures,
+      stored_next k a.position.column a.position.row m u a.lines.now lines c.save.new.lines inside ok.within ok.possible mu held made c.make.ensures.above
+          c.save.ensures,
+      shows k a.position.column a.position.row m u a.lines.now (samples_of lines.last) a.frame.now c.place.new.frame inside ok.within ok.possible mu held made
+          c.place.ensures,
     )
 
 pub returns-clause-some : goal.returns-clause-some
 returns-clause-some c =
     let a = c.args in
     λ k u inside below ok shown held.
-    joined_made k a.position.column a.position.row (coded a.m.now (levels_in a.levels.now)) u a.lines.now (samples_of c.make.new.lines.last) a.frame.now c.place.new.frame inside ok.within ok.possible held (c.in_ok-make.ensures.made k inside below ok.possible shown)
+    joined_made k a.position.column a.position.row (coded a.m.now (levels_in a.levels.now)) u a.lines.now (samples_of c.make.new.lines.last) a.frame.now
+    c.place.new.frame inside ok.within ok.possible held (c.in_ok-make.ensures.made k inside below ok.possible shown)
     (room_all a.position.column a.position.row a.frame.now c.requires.y c.requires.cb c.requires.cr) c.place.ensures
 
 pub returns-clause-size : goal.returns-clause-size

@@ -12,4 +12,5 @@ pub returns-in-Whole-clause-made : goal.returns-in-Whole-clause-made
 returns-in-Whole-clause-made c =
     let own = c.add_luma.new.samples in
     if_so c.add_luma.result (λ added ok. whole_made _ _ _ (levels_in c.args.levels.now) _ _ c.predict16.result own c.in-Whole.is
-    (has16 _ c.args.available _ _ _ _ c.neighbours16.ensures.sides (rw c.in-Whole.is at ok) (c.neighbours16.ensures.samples own) c.predict16.ensures) added) c.add_luma.ensures.added
+    (has16 _ c.args.available _ _ _ _ c.neighbours16.ensures.sides (rw c.in-Whole.is at ok) (c.neighbours16.ensures.samples own) c.predict16.ensures) added)
+    c.add_luma.ensures.added

@@ -22,6 +22,9 @@ returns-clause-made c =
     let weighed : AreAllWeighted m.weights predicted own = subst (λ z. AreAllWeighted z predicted own) (sym weights) c.weigh_all.ensures in
     let added : AreAdded m.levels own new = rw levels sum in
     made_all k a.position.column a.position.row m lines _
-    (inter_made k frames a.position.column a.position.row m Y (store_of Y lines) motion predicted.y own.y new.y inside below e shown c.predict.ensures.y.each (weighed Y).each (added Y))
-    (chroma_inter false k frames a.position.column a.position.row m (store_of Cb lines) motion predicted.cb own.cb new.cb inside below e shown c.predict.ensures.cb.each (weighed Cb) (added Cb))
-    (chroma_inter true k frames a.position.column a.position.row m (store_of Cr lines) motion predicted.cr own.cr new.cr inside below e shown c.predict.ensures.cr.each (weighed Cr) (added Cr))) c.add_residual.ensures.added
+    (inter_made k frames a.position.column a.position.row m Y (store_of Y lines) motion predicted.y own.y new.y inside below e shown c.predict.ensures.y.each
+    (weighed Y).each (added Y))
+    (chroma_inter false k frames a.position.column a.position.row m (store_of Cb lines) motion predicted.cb own.cb new.cb inside below e shown
+    c.predict.ensures.cb.each (weighed Cb) (added Cb))
+    (chroma_inter true k frames a.position.column a.position.row m (store_of Cr lines) motion predicted.cr own.cr new.cr inside below e shown
+    c.predict.ensures.cr.each (weighed Cr) (added Cr))) c.add_residual.ensures.added

@@ -12,7 +12,8 @@ use Rattle.h264_recon.proofs.Pool.{inter_made, chroma_inter}
 use Rattle.h264_recon.proofs.in_place.make_skipped.Goals as goal
 
 pub predict_whole-requires-clause-room : goal.predict_whole-requires-clause-room
-predict_whole-requires-clause-room c = let a = c.args in subst (λ z. HaveRoom a.pool.now a.position.column a.position.row (replicate 16 z)) (sym c.motion-whole.ensures) c.requires.usable
+predict_whole-requires-clause-room c = let a = c.args in
+    subst (λ z. HaveRoom a.pool.now a.position.column a.position.row (replicate 16 z)) (sym c.motion-whole.ensures) c.requires.usable
 
 pub returns-clause-made : goal.returns-clause-made
 returns-clause-made c k l inside below shown none =
@@ -27,8 +28,13 @@ returns-clause-made c k l inside below shown none =
     let weighed = c.weigh_skipped.ensures in
     made_all k a.position.column a.position.row m lines _
     (inter_made k frames a.position.column a.position.row m Y (store_of Y lines) motion predicted.y own.y c.add_nothing.new.samples inside below e shown
-    c.predict_whole.ensures.y.each (weighed Y).each (luma_stays l _ _ (record { clipped = c.add_nothing.ensures.clipped; same = c.add_nothing.ensures.same }) (λ x y i j. none Y x y)))
-    (chroma_inter false k frames a.position.column a.position.row m (store_of Cb lines) motion predicted.cb own.cb c.add_nothing-2.new.samples inside below e shown
-    c.predict_whole.ensures.cb.each (weighed Cb) (cb_stays l _ _ (record { clipped = c.add_nothing-2.ensures.clipped; same = c.add_nothing-2.ensures.same }) (none Cb)))
-    (chroma_inter true k frames a.position.column a.position.row m (store_of Cr lines) motion predicted.cr own.cr c.add_nothing-3.new.samples inside below e shown
-    c.predict_whole.ensures.cr.each (weighed Cr) (cr_stays l _ _ (record { clipped = c.add_nothing-3.ensures.clipped; same = c.add_nothing-3.ensures.same }) (none Cr)))
+    c.predict_whole.ensures.y.each (weighed Y).each
+    (luma_stays l _ _ (record { clipped = c.add_nothing.ensures.clipped; same = c.add_nothing.ensures.same }) (λ x y i j. none Y x y)))
+    (chroma_inter false k frames a.position.column a.position.row m (store_of Cb lines) motion predicted.cb own.cb c.add_nothing-2.new.samples inside below e
+    shown
+    c.predict_whole.ensures.cb.each (weighed Cb)
+    (cb_stays l _ _ (record { clipped = c.add_nothing-2.ensures.clipped; same = c.add_nothing-2.ensures.same }) (none Cb)))
+    (chroma_inter true k frames a.position.column a.position.row m (store_of Cr lines) motion predicted.cr own.cr c.add_nothing-3.new.samples inside below e
+    shown
+    c.predict_whole.ensures.cr.each (weighed Cr)
+    (cr_stays l _ _ (record { clipped = c.add_nothing-3.ensures.clipped; same = c.add_nothing-3.ensures.same }) (none Cr)))

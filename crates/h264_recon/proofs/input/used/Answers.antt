@@ -17,7 +17,8 @@ returns-in-Intra16x16-clause-here c w xs m k e h is =
     c.available-in-Intra16x16.ensures.here w xs k e h ∙ used-16x16 m.prediction _ _ _ p
 
 pub returns-in-Pcm-clause-within : goal.returns-in-Pcm-clause-within
-returns-in-Pcm-clause-within c = subst (λ (a : Available). IsWithin a (width_of c.args.near.now) c.args.column c.args.row) (sym c.no_sides.ensures) (none-within _ _ _)
+returns-in-Pcm-clause-within c = subst (λ (a : Available). IsWithin a (width_of c.args.near.now) c.args.column c.args.row) (sym c.no_sides.ensures)
+    (none-within _ _ _)
 
 pub returns-in-Pcm-clause-here : goal.returns-in-Pcm-clause-here
 returns-in-Pcm-clause-here c w xs m k e h is =
@@ -25,7 +26,8 @@ returns-in-Pcm-clause-here c w xs m k e h is =
     c.no_sides.ensures ∙ unused-pcm m.prediction _ _ p
 
 pub returns-in-Inter-clause-within : goal.returns-in-Inter-clause-within
-returns-in-Inter-clause-within c = subst (λ (a : Available). IsWithin a (width_of c.args.near.now) c.args.column c.args.row) (sym c.no_sides-in-Inter.ensures) (none-within _ _ _)
+returns-in-Inter-clause-within c = subst (λ (a : Available). IsWithin a (width_of c.args.near.now) c.args.column c.args.row) (sym c.no_sides-in-Inter.ensures)
+    (none-within _ _ _)
 
 pub returns-in-Inter-clause-here : goal.returns-in-Inter-clause-here
 returns-in-Inter-clause-here c w xs m k e h is =

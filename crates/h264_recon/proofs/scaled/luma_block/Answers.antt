@@ -43,4 +43,5 @@ returns-in-WithDc-clause-residual c =
     let x = get_or p.dc (4 * row_of a.b + column_of a.b) (pos 0) in
     let fits : FitsSigned w16 x = search rules in
     let is = with_dc_at a.qp a.b p _ _ c.requires.block (kept16 x fits) c.levels_at-in-WithDc.ensures in
-    rw c.in-WithDc.is (subst (λ (d : ℕ → ℕ → ℤ). IfOk c.block_with_dc.result (λ r. HasEntries (unwrap_or r []) (residual_at d))) is c.block_with_dc.ensures.residual)
+    rw c.in-WithDc.is (subst (λ (d : ℕ → ℕ → ℤ). IfOk c.block_with_dc.result (λ r. HasEntries (unwrap_or r []) (residual_at d))) is
+    c.block_with_dc.ensures.residual)

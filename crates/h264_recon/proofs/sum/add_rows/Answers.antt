@@ -1,4 +1,5 @@
-use Rattle.std.proofs.Common.{◌≡◌, ◌+◌, ◌<◌, length, slice_index, get_or, pos, ◌+ℤ◌, drop, arith, rules, ap, ◌∙◌, get_or-take, get_or-drop, length-drop, length-take-le}
+use Rattle.std.proofs.Common.{◌≡◌, ◌+◌, ◌<◌, length, slice_index, get_or, pos, ◌+ℤ◌, drop, arith, rules, ap, ◌∙◌, get_or-take, get_or-drop, length-drop}
+use Rattle.std.proofs.Common.{length-take-le}
 use Rattle.h264_plane.specs.Clip.{clip1}
 use Rattle.h264_recon.proofs.Rows.{handed_on, handed_small}
 use Rattle.h264_recon.proofs.sum.add_rows.Goals as goal

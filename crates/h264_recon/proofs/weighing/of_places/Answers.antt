@@ -20,4 +20,5 @@ loop-k-preserved c =
 
 pub returns-clause-here : goal.returns-clause-here
 unfolding placed_weights
-returns-clause-here c = table-same c.loop-k.each 16 (weights_placed_at c.args.weights.now c.args.motions.now) None c.loop-k.invariant.size (λ k i. c.loop-k.invariant.here k (omega arith))
+returns-clause-here c = table-same c.loop-k.each 16 (weights_placed_at c.args.weights.now c.args.motions.now) None c.loop-k.invariant.size
+    (λ k i. c.loop-k.invariant.here k (omega arith))

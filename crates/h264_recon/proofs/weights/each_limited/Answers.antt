@@ -16,4 +16,5 @@ loop-k-preserved c =
     }
 
 pub returns-clause-here : goal.returns-clause-here
-returns-clause-here c = table-same c.loop-k.each 16 (limited_at c.args.weights.now) None c.loop-k.invariant.size (λ k i. c.loop-k.invariant.here k (omega arith))
+returns-clause-here c = table-same c.loop-k.each 16 (limited_at c.args.weights.now) None c.loop-k.invariant.size
+    (λ k i. c.loop-k.invariant.here k (omega arith))

@@ -9,5 +9,6 @@ returns-in_default c r = sym (none-noted _ _ (ap (ended_bits r) c.in_default.is)
 
 pub returns : goal.returns
 returns c r =
-    notes-ended r _ _ _ _ _ _ c.in-Some.ended _ _ _ _ _ _ c.in-Some.is c.broken_if.ensures c.broken_if-2.ensures c.broken_if-3.ensures c.broken_if-4.ensures c.broken_if-5.ensures
+    notes-ended r _ _ _ _ _ _ c.in-Some.ended _ _ _ _ _ _ c.in-Some.is c.broken_if.ensures c.broken_if-2.ensures c.broken_if-3.ensures c.broken_if-4.ensures
+    c.broken_if-5.ensures
     (c.note_in.ensures r) (c.note_in-2.ensures r) (c.note_in-3.ensures r) (c.note_in-4.ensures r) (c.note_in-5.ensures r)

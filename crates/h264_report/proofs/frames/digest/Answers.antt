@@ -14,7 +14,8 @@ loop-k-preserved c =
     let w = width_in c.args.rectangle c.args.frame.now in
     let h = height_in c.args.rectangle c.args.frame.now in
     let s = cropped c.args.rectangle c.args.frame.now in
-    subst (λ l. Holds c.update.new.self l) (ap (λ l. parts_before b w h s c.loop-k.k ++ l) c.part_at.ensures ∙ next-part (part_at b w h s) c.loop-k.k) (c.update.ensures _ c.loop-k.invariant)
+    subst (λ l. Holds c.update.new.self l) (ap (λ l. parts_before b w h s c.loop-k.k ++ l) c.part_at.ensures ∙ next-part (part_at b w h s) c.loop-k.k)
+    (c.update.ensures _ c.loop-k.invariant)
 
 pub returns : goal.returns
 returns c =

@@ -17,15 +17,18 @@ returns-in-Err-clause-front g c =
     let s = cropped c.args.rectangle c.args.frame.now in
     let within : c.loop-k.k < part_count b h = let t = c.loop-k-test.true in let e = c.part_count-k-end.ensures in omega arith in
     let later = flat_map (part_at b w h s) (range_with_len (c.loop-k.k + 1) (part_count b h - (c.loop-k.k + 1))) in
-    front-is (sym (part-between (part_at b w h s) c.loop-k.k (part_count b h) within) ∙ whole w h s b) (front-after c.loop-k.invariant.0 (front-longer later (front-is c.part_at.ensures c.in-Err.ensures.front)))
+    front-is (sym (part-between (part_at b w h s) c.loop-k.k (part_count b h) within) ∙ whole w h s b)
+    (front-after c.loop-k.invariant.0 (front-longer later (front-is c.part_at.ensures c.in-Err.ensures.front)))
 
 pub loop-k-preserved : goal.loop-k-preserved
 loop-k-preserved g c =
     let b = shows_all_columns c.args.rectangle in
     let w = width_in c.args.rectangle c.args.frame.now in
     let h = height_in c.args.rectangle c.args.frame.now in
-    let s = cropped c.args.rectangle c.args.frame.now in
-    (sends-is (next-part (part_at b w h s) c.loop-k.k) (sends-more c.loop-k.invariant.0 (sends-is c.part_at.ensures c.in-Ok.ensures.ok)), c.in-Ok.ensures.quiet ∙ c.loop-k.invariant.1)
+    let s = cropped c.args.rectangle c.args.frame.now in (
+      sends-is (next-part (part_at b w h s) c.loop-k.k) (sends-more c.loop-k.invariant.0 (sends-is c.part_at.ensures c.in-Ok.ensures.ok)),
+      c.in-Ok.ensures.quiet ∙ c.loop-k.invariant.1,
+    )
 
 pub returns-clause-ok : goal.returns-clause-ok
 returns-clause-ok g c =

@@ -7,5 +7,6 @@ use Rattle.h264_report.proofs.json.escaped.Goals as goal
 pub returns : goal.returns
 unfolding escaped
 returns c =
-    let end = YieldsList-end (YieldsList-from_chars c.args.text.now c.utf8.text cc) c.loop-c.yielded _ c.loop-c.yielded_by _ _ c.in-None.is c.next.ensures.steps in
+    let end = YieldsList-end (YieldsList-from_chars c.args.text.now c.utf8.text cc) c.loop-c.yielded _ c.loop-c.yielded_by _ _ c.in-None.is
+    c.next.ensures.steps in
     c.loop-c.invariant ∙ ap (flat_map escaped_character) (sym (map-id c.loop-c.yielded) ∙ end.0)

@@ -12,9 +12,13 @@ pub returns-clause-checks : goal.returns-clause-checks
 returns-clause-checks g c =
     let none = none-elements c.in-Ok.sink.trail c.in-Ok.ensures in
     of-bytes _ _
-    (λ bytes h. checked {s' = c.run-answer.new.sink} (λ s. s.trail) _ _ (c.run-answer.ensures.verdict bytes h (λ k. no_frame)) none (λ calls t. t) c.put_trail.ensures.answer (rw c.trail.ensures at c.put_trail.ensures.text))
-    (let j = c.run-answer.ensures.some in
-    (j.0, checked {s' = c.run-answer.new.sink} (λ s. s.trail) _ _ (j.4 (λ k. no_frame)) none (λ calls t. t) c.put_trail.ensures.answer (rw c.trail.ensures at c.put_trail.ensures.text)))
+    (λ bytes h. checked {s' = c.run-answer.new.sink} (λ s. s.trail) _ _ (c.run-answer.ensures.verdict bytes h (λ k. no_frame)) none (λ calls t. t)
+    c.put_trail.ensures.answer (rw c.trail.ensures at c.put_trail.ensures.text))
+    (let j = c.run-answer.ensures.some in (
+      j.0,
+      checked {s' = c.run-answer.new.sink} (λ s. s.trail) _ _ (j.4 (λ k. no_frame)) none (λ calls t. t) c.put_trail.ensures.answer
+          (rw c.trail.ensures at c.put_trail.ensures.text),
+    ))
 
 pub returns-clause-read : goal.returns-clause-read
 returns-clause-read g c = λ e. c.run-answer.ensures.read (was-read _ _ c.put_trail.ensures.answer e)

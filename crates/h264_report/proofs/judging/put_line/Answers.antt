@@ -9,7 +9,8 @@ returns-then-is_err-clause-text g c =
 pub returns-then-is_err-2-clause-text : goal.returns-then-is_err-2-clause-text
 returns-then-is_err-2-clause-text g c =
     let first = sends-is c.as_bytes.ensures.value (ok-of c.send.result c.if-is_err.ensures.value c.send.ensures.ok) in
-    some-after first (some-longer (10 ∷ []) (some-front (front-is c.as_bytes-2.ensures.value (err-of c.send-2.result c.if-is_err-2.ensures.value c.send-2.ensures.front))))
+    some-after first (some-longer (10 ∷ []) (some-front
+    (front-is c.as_bytes-2.ensures.value (err-of c.send-2.result c.if-is_err-2.ensures.value c.send-2.ensures.front))))
 
 pub returns-then-is_err-3-clause-text : goal.returns-then-is_err-3-clause-text
 returns-then-is_err-3-clause-text g c =

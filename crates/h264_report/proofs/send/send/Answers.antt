@@ -25,9 +25,11 @@ loop-preserved g c =
     let d = length-drop n c.loop.rest.now in
     let some = c.in-Ok.ensures.some in
     let left = i.left in
-    let sent : Sent (g.W.Device.contents c.args.out.now) (g.W.Device.contents c.send_some.new.self) c.args.bytes.now (drop n c.loop.rest.now) (c.loop.counter + 1) = record {
+    let sent : Sent (g.W.Device.contents c.args.out.now) (g.W.Device.contents c.send_some.new.self) c.args.bytes.now (drop n c.loop.rest.now)
+    (c.loop.counter + 1) = record {
       first = i.first ++ take n c.loop.rest.now;
-      whole = i.whole ∙ ap (λ l. i.first ++ l) (sym (take-append-drop n c.loop.rest.now)) ∙ sym (append_assoc i.first (take n c.loop.rest.now) (drop n c.loop.rest.now));
+      whole = i.whole ∙ ap (λ l. i.first ++ l) (sym (take-append-drop n c.loop.rest.now)) ∙
+          sym (append_assoc i.first (take n c.loop.rest.now) (drop n c.loop.rest.now));
       sends = sends-more i.sends (record { appends = c.in-Ok.ensures.ok });
       left = omega (arith, d, some.0, some.1, left);
     } in

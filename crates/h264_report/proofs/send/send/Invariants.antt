@@ -10,4 +10,5 @@ pub record Sent (known new : Option (List ℕ)) (bytes rest : List ℕ) (n : ℕ
   pub left : length rest + n ≤ length bytes
 
 abbrev pub invariant-loop : goal.invariant-loop
-invariant-loop g l = Sent (g.W.Device.contents l.fn.out) (g.W.Device.contents l.out) l.fn.bytes l.rest l.counter × (g.W.Device.has_failed l.out ≡ g.W.Device.has_failed l.fn.out)
+invariant-loop g l = Sent (g.W.Device.contents l.fn.out) (g.W.Device.contents l.out) l.fn.bytes l.rest l.counter ×
+    (g.W.Device.has_failed l.out ≡ g.W.Device.has_failed l.fn.out)

@@ -15,6 +15,7 @@ returns c r =
     let found = c.args.found.now in
     let place = c.place-place.ensures.value in
     let within : place_of c.in-Some.rule < length found = search rules in
-    ap₂ (λ k p. get_or (slice_set found k (Some p)) (place_of r) None) place (c.with_place.ensures ∙ ap (λ k. with_place (get_or found k None) c.args.bit) place)
+    ap₂ (λ k p. get_or (slice_set found k (Some p)) (place_of r) None) place
+    (c.with_place.ensures ∙ ap (λ k. with_place (get_or found k None) c.args.bit) place)
     ∙ note-one found c.in-Some.rule r c.args.bit within
     ∙ ap (λ rule. with_places (get_or found (place_of r) None) (bits_for r c.args.bit (listed rule))) (sym c.in-Some.is)

@@ -19,4 +19,5 @@ returns-else-is_sei c r =
 pub returns-in_default : goal.returns-in_default
 returns-in_default c r =
     let body = c.args.rbsp.now in
-    sym (none-noted _ _ (content-not r c.args.known.now (type_number c.args.kind) body (ap (λ t. t && is_sei body.bytes) (not-six c.args.kind c.in_default.not-Sei))))
+    sym (none-noted _ _ (content-not r c.args.known.now (type_number c.args.kind) body
+    (ap (λ t. t && is_sei body.bytes) (not-six c.args.kind c.in_default.not-Sei))))

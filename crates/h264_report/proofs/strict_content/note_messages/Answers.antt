@@ -9,7 +9,11 @@ pub loop-n-init : goal.loop-n-init
 loop-n-init c =
     let n = length c.args.rbsp.now.bytes in
     let all : n ≡ n - 0 = omega arith in
-    record { within = omega arith; noted = λ r. ap (λ k. with_places (get_or c.args.found.now (place_of r) None) (message_bits r c.args.known.now k c.args.rbsp.now 0)) all }
+    record {
+      within = omega arith;
+      noted = λ r. ap
+          (λ k. with_places (get_or c.args.found.now (place_of r) None) (message_bits r c.args.known.now k c.args.rbsp.now 0)) all;
+    }
 
 pub loop-n-preserved : goal.loop-n-preserved
 loop-n-preserved c =
@@ -28,7 +32,8 @@ returns-in_default c r =
     let n = length c.args.rbsp.now.bytes in
     let same = ap length c.bytes-n-end.ensures.bytes in
     let up : n - c.loop-n._n ≡ suc (n - (c.loop-n._n + 1)) = omega arith in
-    sym (c.loop-n.invariant.noted r ∙ none-noted _ _ (messages-none r c.args.known.now _ _ c.args.rbsp.now c.loop-n.at up (sym c.message_at.ensures.value ∙ c.in_default.is)))
+    sym (c.loop-n.invariant.noted r ∙ none-noted _ _
+    (messages-none r c.args.known.now _ _ c.args.rbsp.now c.loop-n.at up (sym c.message_at.ensures.value ∙ c.in_default.is)))
 
 pub returns : goal.returns
 returns c r =

@@ -19,5 +19,6 @@ returns-clause-units g c =
       λ known e. let p = some.2.first known (ap g.R.Source.left c.new-inside.ensures.source ∙ e) in (p.0, p.1, p.2),
       some.3,
       some.4,
-      subst (λ (b : Bool). TellsOfBytes c.finish-lent.result.1.extent b c.finish-lent.result.1.found c.finish-lent.result.1.lack some.0) took.1 (c.finish-lent.ensures.units some.0 took.0),
+      subst (λ (b : Bool). TellsOfBytes c.finish-lent.result.1.extent b c.finish-lent.result.1.found c.finish-lent.result.1.lack some.0) took.1
+          (c.finish-lent.ensures.units some.0 took.0),
     )

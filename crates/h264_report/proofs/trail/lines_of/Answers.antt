@@ -21,11 +21,13 @@ loop-k-preserved c =
     let e = c.element_at.result in
     let within : c.loop-k.k < length c.args.elements.now.items = let t = c.loop-k-test.true in let l = c.len-k-end.ensures.len in omega arith in
     let next : take (c.loop-k.k + 1) c.args.elements.now.items ≡ take c.loop-k.k c.args.elements.now.items ++ e ∷ [] =
-    take_more c.args.elements.now.items c.loop-k.k e within ∙ ap (λ (x : Element). take c.loop-k.k c.args.elements.now.items ++ x ∷ []) (some-at c.args.elements.now.items c.loop-k.k e c.element_at.ensures) in
+    take_more c.args.elements.now.items c.loop-k.k e within ∙
+    ap (λ (x : Element). take c.loop-k.k c.args.elements.now.items ++ x ∷ []) (some-at c.args.elements.now.items c.loop-k.k e c.element_at.ensures) in
     c.in_ok-add_line.ensures ∙ ap (λ l. l ++ ended (element_text e.name e.bit e.value)) c.loop-k.invariant
     ∙ sym (element-lines-more (take c.loop-k.k c.args.elements.now.items) e) ∙ ap element_lines (sym next)
 
 pub returns : goal.returns
 returns c =
-    let at : length c.args.elements.now.items ≡ c.loop-k.k = let t = c.loop-k-test.false in let a = c.loop-k.auto.k-end in let l = c.len-k-end.ensures.len in omega arith in
+    let at : length c.args.elements.now.items ≡ c.loop-k.k = let t = c.loop-k-test.false in let a = c.loop-k.auto.k-end in let l = c.len-k-end.ensures.len in
+    omega arith in
     c.loop-k.invariant ∙ ap element_lines (take_all c.loop-k.k c.args.elements.now.items (omega (arith, at)))

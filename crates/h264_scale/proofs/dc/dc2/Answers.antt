@@ -8,10 +8,12 @@ pub returns-clause-range : goal.returns-clause-range
 returns-clause-range c =
     let a = c.args in
     let factor : c.factor.result ≡ factor_at a.qp 0 0 = c.factor.ensures.value ∙ ap (λ k. slice_index v0 k * 2 ^ (a.qp / 6)) c.from.ensures in
-    (dc2_answers c.transformed2.result c.chroma_coefficients.result c.factor.result a.qp a.levels.now c.chroma_coefficients.ensures.value factor c.transformed2.ensures).0
+    (dc2_answers c.transformed2.result c.chroma_coefficients.result c.factor.result a.qp a.levels.now c.chroma_coefficients.ensures.value factor
+    c.transformed2.ensures).0
 
 pub returns-clause-scaled : goal.returns-clause-scaled
 returns-clause-scaled c =
     let a = c.args in
     let factor : c.factor.result ≡ factor_at a.qp 0 0 = c.factor.ensures.value ∙ ap (λ k. slice_index v0 k * 2 ^ (a.qp / 6)) c.from.ensures in
-    (dc2_answers c.transformed2.result c.chroma_coefficients.result c.factor.result a.qp a.levels.now c.chroma_coefficients.ensures.value factor c.transformed2.ensures).1
+    (dc2_answers c.transformed2.result c.chroma_coefficients.result c.factor.result a.qp a.levels.now c.chroma_coefficients.ensures.value factor
+    c.transformed2.ensures).1

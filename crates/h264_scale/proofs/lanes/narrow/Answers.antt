@@ -24,7 +24,13 @@ overflow_cast-result c =
                     at 7 (omega arith),
                     (
                       at 8 (omega arith),
-                      (at 9 (omega arith), (at 10 (omega arith), (at 11 (omega arith), (at 12 (omega arith), (at 13 (omega arith), (at 14 (omega arith), (at 15 (omega arith), tt))))))),
+                      (
+                        at 9 (omega arith),
+                        (
+                          at 10 (omega arith),
+                          (at 11 (omega arith), (at 12 (omega arith), (at 13 (omega arith), (at 14 (omega arith), (at 15 (omega arith), tt))))),
+                        ),
+                      ),
                     ),
                   ),
                 ),

@@ -44,9 +44,11 @@ returns-then-are_zero-clause-residual c =
 pub returns-in-Some-clause-range : goal.returns-in-Some-clause-range
 returns-in-Some-clause-range c =
     let a = c.args in
-    (answers (Ok c.in-Some.residual) (scaled_block a.qp (block_of (coefficient a.levels.now))) (d_of a.levels.now a.qp) (scaled_block_is a.qp (coefficient a.levels.now)) c.in-Some.ensures.value).0
+    (answers (Ok c.in-Some.residual) (scaled_block a.qp (block_of (coefficient a.levels.now))) (d_of a.levels.now a.qp)
+    (scaled_block_is a.qp (coefficient a.levels.now)) c.in-Some.ensures.value).0
 
 pub returns-in-Some-clause-residual : goal.returns-in-Some-clause-residual
 returns-in-Some-clause-residual c =
     let a = c.args in
-    (answers (Ok c.in-Some.residual) (scaled_block a.qp (block_of (coefficient a.levels.now))) (d_of a.levels.now a.qp) (scaled_block_is a.qp (coefficient a.levels.now)) c.in-Some.ensures.value).1
+    (answers (Ok c.in-Some.residual) (scaled_block a.qp (block_of (coefficient a.levels.now))) (d_of a.levels.now a.qp)
+    (scaled_block_is a.qp (coefficient a.levels.now)) c.in-Some.ensures.value).1

@@ -9,14 +9,16 @@ pub returns-clause-range : goal.returns-clause-range
 returns-clause-range c =
     let a = c.args in
     let same : to_z w32 (of_z w32 c.from-d.result) ≡ a.dc = omega (arith, ints) in
-    let block = with_dc_is _ a.dc a.levels.now a.qp c.scaled-d.result c.coefficients_after_dc.result c.coefficients_after_dc.ensures.value c.scaled-d.ensures same in
+    let block = with_dc_is _ a.dc a.levels.now a.qp c.scaled-d.result c.coefficients_after_dc.result c.coefficients_after_dc.ensures.value c.scaled-d.ensures
+    same in
     (answers c.tested_residual.result (with_dc _ c.scaled-d.result) (d_with_dc a.dc a.levels.now a.qp) block c.tested_residual.ensures.value).0
 
 pub returns-clause-residual : goal.returns-clause-residual
 returns-clause-residual c =
     let a = c.args in
     let same : to_z w32 (of_z w32 c.from-d.result) ≡ a.dc = omega (arith, ints) in
-    let block = with_dc_is _ a.dc a.levels.now a.qp c.scaled-d.result c.coefficients_after_dc.result c.coefficients_after_dc.ensures.value c.scaled-d.ensures same in
+    let block = with_dc_is _ a.dc a.levels.now a.qp c.scaled-d.result c.coefficients_after_dc.result c.coefficients_after_dc.ensures.value c.scaled-d.ensures
+    same in
     (answers c.tested_residual.result (with_dc _ c.scaled-d.result) (d_with_dc a.dc a.levels.now a.qp) block c.tested_residual.ensures.value).1
 
 pub returns-then-are_zero-clause-range : goal.returns-then-are_zero-clause-range

@@ -6,7 +6,8 @@ use Rattle.h264_sets.specs.Sets.{Maps}
 use Rattle.h264_sets.proofs.Each.{none-each}
 use Rattle.h264_sets.proofs.Sets.new.Goals as goal
 
-both : (s t : List (Option Sps)) (p q : List (Option Pps)) → s ≡ t → p ≡ q → (let m : Maps = record { sps = s; pps = p; active = None } in m) ≡ record { sps = t; pps = q; active = None }
+both : (s t : List (Option Sps)) (p q : List (Option Pps)) → s ≡ t → p ≡ q →
+    (let m : Maps = record { sps = s; pps = p; active = None } in m) ≡ record { sps = t; pps = q; active = None }
 both s t p q e f = cc
 
 pub returns : goal.returns

@@ -15,12 +15,16 @@ returns-then-not-present g c = bind _ c.in_ok-present.ensures (absent _ c.if-not
 
 pub returns-in_err-across : goal.returns-in_err-across
 unfolding flagged
-returns-in_err-across g c = passed-on _ c.from_residual-in_err-across.ensures.1 (bind _ c.in_ok-present.ensures (there-stop c.if-not-present.false (as-parts (crop-by_sides _) (stop _ c.in_err-across.ensures))))
+returns-in_err-across g c = passed-on _ c.from_residual-in_err-across.ensures.1
+    (bind _ c.in_ok-present.ensures (there-stop c.if-not-present.false (as-parts (crop-by_sides _) (stop _ c.in_err-across.ensures))))
 
 pub returns-in_err-down : goal.returns-in_err-down
 unfolding flagged
-returns-in_err-down g c = passed-on _ c.from_residual-in_err-down.ensures.1 (bind _ c.in_ok-present.ensures (there-stop c.if-not-present.false (as-parts (crop-by_sides _) (bind _ c.in_ok-across.ensures (stop _ c.in_err-down.ensures)))))
+returns-in_err-down g c = passed-on _ c.from_residual-in_err-down.ensures.1
+    (bind _ c.in_ok-present.ensures (there-stop c.if-not-present.false
+    (as-parts (crop-by_sides _) (bind _ c.in_ok-across.ensures (stop _ c.in_err-down.ensures)))))
 
 pub returns : goal.returns
 unfolding flagged
-returns g c = bind _ c.in_ok-present.ensures (there-read c.if-not-present.false (as-parts (crop-by_sides _) (bind _ c.in_ok-across.ensures (bind _ c.in_ok-down.ensures (done _ _ _ _ _ _ _ refl)))))
+returns g c = bind _ c.in_ok-present.ensures
+    (there-read c.if-not-present.false (as-parts (crop-by_sides _) (bind _ c.in_ok-across.ensures (bind _ c.in_ok-down.ensures (done _ _ _ _ _ _ _ refl)))))

@@ -15,8 +15,10 @@ returns-then-not-present g c = bind _ c.in_ok-present.ensures (absent _ c.if-not
 
 pub returns-in_err-top : goal.returns-in_err-top
 unfolding flagged
-returns-in_err-top g c = passed-on _ c.from_residual-in_err-top.ensures.1 (bind _ c.in_ok-present.ensures (there-stop c.if-not-present.false (as-parts location-by_values (stop _ c.in_err-top.ensures))))
+returns-in_err-top g c = passed-on _ c.from_residual-in_err-top.ensures.1
+    (bind _ c.in_ok-present.ensures (there-stop c.if-not-present.false (as-parts location-by_values (stop _ c.in_err-top.ensures))))
 
 pub returns : goal.returns
 unfolding flagged
-returns g c = bind _ c.in_ok-present.ensures (there-read c.if-not-present.false (as-parts location-by_values (bind _ c.in_ok-top.ensures (done _ _ _ _ _ _ _ refl))))
+returns g c = bind _ c.in_ok-present.ensures
+    (there-read c.if-not-present.false (as-parts location-by_values (bind _ c.in_ok-top.ensures (done _ _ _ _ _ _ _ refl))))

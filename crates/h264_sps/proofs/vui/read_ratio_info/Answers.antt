@@ -14,12 +14,15 @@ returns-then-not-present g c = bind _ c.in_ok-present.ensures (absent _ c.if-not
 
 pub returns-in_err-idc : goal.returns-in_err-idc
 unfolding flagged sample_aspect_ratio
-returns-in_err-idc g c = passed-on _ c.from_residual-in_err-idc.ensures.1 (bind _ c.in_ok-present.ensures (there-stop c.if-not-present.false (stop _ c.in_err-idc.ensures.meets)))
+returns-in_err-idc g c = passed-on _ c.from_residual-in_err-idc.ensures.1
+    (bind _ c.in_ok-present.ensures (there-stop c.if-not-present.false (stop _ c.in_err-idc.ensures.meets)))
 
 pub returns-in_err-extended : goal.returns-in_err-extended
 unfolding flagged sample_aspect_ratio
-returns-in_err-extended g c = passed-on _ c.from_residual-in_err-extended.ensures.1 (bind _ c.in_ok-present.ensures (there-stop c.if-not-present.false (bind _ c.in_ok-idc.ensures.meets (stop _ c.in_err-extended.ensures))))
+returns-in_err-extended g c = passed-on _ c.from_residual-in_err-extended.ensures.1
+    (bind _ c.in_ok-present.ensures (there-stop c.if-not-present.false (bind _ c.in_ok-idc.ensures.meets (stop _ c.in_err-extended.ensures))))
 
 pub returns : goal.returns
 unfolding flagged sample_aspect_ratio
-returns g c = bind _ c.in_ok-present.ensures (there-read c.if-not-present.false (bind _ c.in_ok-idc.ensures.meets (bind _ c.in_ok-extended.ensures (done _ _ _ _ _ _ _ refl))))
+returns g c = bind _ c.in_ok-present.ensures
+    (there-read c.if-not-present.false (bind _ c.in_ok-idc.ensures.meets (bind _ c.in_ok-extended.ensures (done _ _ _ _ _ _ _ refl))))

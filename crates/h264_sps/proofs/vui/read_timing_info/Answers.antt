@@ -15,12 +15,16 @@ returns-then-not-present g c = bind _ c.in_ok-present.ensures (absent _ c.if-not
 
 pub returns-in_err-units : goal.returns-in_err-units
 unfolding flagged
-returns-in_err-units g c = passed-on _ c.from_residual-in_err-units.ensures.1 (bind _ c.in_ok-present.ensures (there-stop c.if-not-present.false (as-parts timing-by_values (stop _ c.in_err-units.ensures))))
+returns-in_err-units g c = passed-on _ c.from_residual-in_err-units.ensures.1
+    (bind _ c.in_ok-present.ensures (there-stop c.if-not-present.false (as-parts timing-by_values (stop _ c.in_err-units.ensures))))
 
 pub returns-in_err-fixed : goal.returns-in_err-fixed
 unfolding flagged
-returns-in_err-fixed g c = passed-on _ c.from_residual-in_err-fixed.ensures.1 (bind _ c.in_ok-present.ensures (there-stop c.if-not-present.false (as-parts timing-by_values (bind _ c.in_ok-units.ensures (stop _ c.in_err-fixed.ensures)))))
+returns-in_err-fixed g c = passed-on _ c.from_residual-in_err-fixed.ensures.1
+    (bind _ c.in_ok-present.ensures (there-stop c.if-not-present.false
+    (as-parts timing-by_values (bind _ c.in_ok-units.ensures (stop _ c.in_err-fixed.ensures)))))
 
 pub returns : goal.returns
 unfolding flagged
-returns g c = bind _ c.in_ok-present.ensures (there-read c.if-not-present.false (as-parts timing-by_values (bind _ c.in_ok-units.ensures (bind _ c.in_ok-fixed.ensures (done _ _ _ _ _ _ _ refl)))))
+returns g c = bind _ c.in_ok-present.ensures
+    (there-read c.if-not-present.false (as-parts timing-by_values (bind _ c.in_ok-units.ensures (bind _ c.in_ok-fixed.ensures (done _ _ _ _ _ _ _ refl)))))

@@ -10,16 +10,20 @@ returns-in_err-format g c = passed-on _ c.from_residual.ensures.1 (stop _ c.in_e
 
 pub returns-in_err-full_range : goal.returns-in_err-full_range
 unfolding video_signal_type
-returns-in_err-full_range g c = passed-on _ c.from_residual-in_err-full_range.ensures.1 (bind _ c.in_ok-format.ensures.meets (stop _ c.in_err-full_range.ensures))
+returns-in_err-full_range g c = passed-on _ c.from_residual-in_err-full_range.ensures.1
+    (bind _ c.in_ok-format.ensures.meets (stop _ c.in_err-full_range.ensures))
 
 pub returns-in_err-present : goal.returns-in_err-present
 unfolding video_signal_type
-returns-in_err-present g c = passed-on _ c.from_residual-in_err-present.ensures.1 (bind _ c.in_ok-format.ensures.meets (bind _ c.in_ok-full_range.ensures (stop _ c.in_err-present.ensures)))
+returns-in_err-present g c = passed-on _ c.from_residual-in_err-present.ensures.1
+    (bind _ c.in_ok-format.ensures.meets (bind _ c.in_ok-full_range.ensures (stop _ c.in_err-present.ensures)))
 
 pub returns-in_err-description : goal.returns-in_err-description
 unfolding video_signal_type
-returns-in_err-description g c = passed-on _ c.from_residual-in_err-description.ensures.1 (bind _ c.in_ok-format.ensures.meets (bind _ c.in_ok-full_range.ensures (bind _ c.in_ok-present.ensures (stop _ c.in_err-description.ensures))))
+returns-in_err-description g c = passed-on _ c.from_residual-in_err-description.ensures.1
+    (bind _ c.in_ok-format.ensures.meets (bind _ c.in_ok-full_range.ensures (bind _ c.in_ok-present.ensures (stop _ c.in_err-description.ensures))))
 
 pub returns : goal.returns
 unfolding video_signal_type
-returns g c = bind _ c.in_ok-format.ensures.meets (bind _ c.in_ok-full_range.ensures (bind _ c.in_ok-present.ensures (bind _ c.in_ok-description.ensures (done _ _ _ _ _ _ _ refl))))
+returns g c = bind _ c.in_ok-format.ensures.meets
+    (bind _ c.in_ok-full_range.ensures (bind _ c.in_ok-present.ensures (bind _ c.in_ok-description.ensures (done _ _ _ _ _ _ _ refl))))

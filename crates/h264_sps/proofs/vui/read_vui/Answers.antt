@@ -14,19 +14,25 @@ returns-in_err-overscan g c = passed-on _ c.from_residual-in_err-overscan.ensure
 
 pub returns-in_err-signal : goal.returns-in_err-signal
 unfolding vui vui_from_hrd
-returns-in_err-signal g c = passed-on _ c.from_residual-in_err-signal.ensures.1 (bind _ c.in_ok-ratio.ensures (bind _ c.in_ok-overscan.ensures (stop _ c.in_err-signal.ensures)))
+returns-in_err-signal g c = passed-on _ c.from_residual-in_err-signal.ensures.1
+    (bind _ c.in_ok-ratio.ensures (bind _ c.in_ok-overscan.ensures (stop _ c.in_err-signal.ensures)))
 
 pub returns-in_err-location : goal.returns-in_err-location
 unfolding vui vui_from_hrd
-returns-in_err-location g c = passed-on _ c.from_residual-in_err-location.ensures.1 (bind _ c.in_ok-ratio.ensures (bind _ c.in_ok-overscan.ensures (bind _ c.in_ok-signal.ensures (stop _ c.in_err-location.ensures))))
+returns-in_err-location g c = passed-on _ c.from_residual-in_err-location.ensures.1
+    (bind _ c.in_ok-ratio.ensures (bind _ c.in_ok-overscan.ensures (bind _ c.in_ok-signal.ensures (stop _ c.in_err-location.ensures))))
 
 pub returns-in_err-time : goal.returns-in_err-time
 unfolding vui vui_from_hrd
-returns-in_err-time g c = passed-on _ c.from_residual-in_err-time.ensures.1 (bind _ c.in_ok-ratio.ensures (bind _ c.in_ok-overscan.ensures (bind _ c.in_ok-signal.ensures (bind _ c.in_ok-location.ensures (stop _ c.in_err-time.ensures)))))
+returns-in_err-time g c = passed-on _ c.from_residual-in_err-time.ensures.1
+    (bind _ c.in_ok-ratio.ensures (bind _ c.in_ok-overscan.ensures
+    (bind _ c.in_ok-signal.ensures (bind _ c.in_ok-location.ensures (stop _ c.in_err-time.ensures)))))
 
 pub returns : goal.returns
 unfolding vui vui_from_hrd
-returns g c = bind _ c.in_ok-ratio.ensures (bind _ c.in_ok-overscan.ensures (bind _ c.in_ok-signal.ensures (bind _ c.in_ok-location.ensures (bind _ c.in_ok-time.ensures (c.vui_from_hrd.ensures)))))
+returns g c = bind _ c.in_ok-ratio.ensures
+    (bind _ c.in_ok-overscan.ensures (bind _ c.in_ok-signal.ensures (bind _ c.in_ok-location.ensures (bind _ c.in_ok-time.ensures (c.vui_from_hrd.ensures)))))
 
 pub vui_from_hrd-requires : goal.vui_from_hrd-requires
-vui_from_hrd-requires g c = still c.in_ok-time.ensures (still c.in_ok-location.ensures (still c.in_ok-signal.ensures (still c.in_ok-overscan.ensures (still c.in_ok-ratio.ensures c.requires))))
+vui_from_hrd-requires g c = still c.in_ok-time.ensures
+    (still c.in_ok-location.ensures (still c.in_ok-signal.ensures (still c.in_ok-overscan.ensures (still c.in_ok-ratio.ensures c.requires))))

@@ -12,4 +12,5 @@ bounds-entry-2 c = index-fits 11 5 c.args.bits c.saturating_sub-shift.result (om
 
 pub returns : goal.returns
 unfolding agrees entry_fits entries_fit shift_of place_of are_words coded_block_pattern_inter golomb_rows
-returns c = entry-found 11 5 c.args.bits c.saturating_sub-shift.result INTER_ENTRY_LENGTHS INTER_ENTRY_VALUES coded_block_pattern_inter refl refl (omega arith) (omega arith) (omega arith) (omega arith) (search rules)
+returns c = entry-found 11 5 c.args.bits c.saturating_sub-shift.result INTER_ENTRY_LENGTHS INTER_ENTRY_VALUES coded_block_pattern_inter refl refl
+    (omega arith) (omega arith) (omega arith) (omega arith) (search rules)

@@ -12,4 +12,5 @@ bounds-entry-2 c = index-fits 8 2 c.args.bits c.saturating_sub-shift.result (ome
 
 pub returns : goal.returns
 unfolding agrees entry_fits entries_fit shift_of place_of are_words coeff_token_chroma_dc
-returns c = entry-found 8 2 c.args.bits c.saturating_sub-shift.result CHROMA_DC_ENTRY_LENGTHS CHROMA_DC_ENTRY_VALUES coeff_token_chroma_dc refl refl (omega arith) (omega arith) (omega arith) (omega arith) (search rules)
+returns c = entry-found 8 2 c.args.bits c.saturating_sub-shift.result CHROMA_DC_ENTRY_LENGTHS CHROMA_DC_ENTRY_VALUES coeff_token_chroma_dc refl refl
+    (omega arith) (omega arith) (omega arith) (omega arith) (search rules)

@@ -12,4 +12,5 @@ bounds-entry-2 c = index-fits 16 3 c.args.bits c.saturating_sub-shift.result (om
 
 pub returns : goal.returns
 unfolding agrees entry_fits entries_fit shift_of place_of are_words coeff_token_nc0
-returns c = entry-found 16 3 c.args.bits c.saturating_sub-shift.result NC0_ENTRY_LENGTHS NC0_ENTRY_VALUES coeff_token_nc0 refl refl (omega arith) (omega arith) (omega arith) (omega arith) (search rules)
+returns c = entry-found 16 3 c.args.bits c.saturating_sub-shift.result NC0_ENTRY_LENGTHS NC0_ENTRY_VALUES coeff_token_nc0 refl refl (omega arith)
+    (omega arith) (omega arith) (omega arith) (search rules)

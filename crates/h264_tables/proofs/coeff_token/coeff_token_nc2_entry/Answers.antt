@@ -12,4 +12,5 @@ bounds-entry-2 c = index-fits 14 3 c.args.bits c.saturating_sub-shift.result (om
 
 pub returns : goal.returns
 unfolding agrees entry_fits entries_fit shift_of place_of are_words coeff_token_nc2
-returns c = entry-found 14 3 c.args.bits c.saturating_sub-shift.result NC2_ENTRY_LENGTHS NC2_ENTRY_VALUES coeff_token_nc2 refl refl (omega arith) (omega arith) (omega arith) (omega arith) (search rules)
+returns c = entry-found 14 3 c.args.bits c.saturating_sub-shift.result NC2_ENTRY_LENGTHS NC2_ENTRY_VALUES coeff_token_nc2 refl refl (omega arith)
+    (omega arith) (omega arith) (omega arith) (search rules)

@@ -12,4 +12,5 @@ bounds-entry-2 c = index-fits 10 3 c.args.bits c.saturating_sub-shift.result (om
 
 pub returns : goal.returns
 unfolding agrees entry_fits entries_fit shift_of place_of are_words coeff_token_nc4
-returns c = entry-found 10 3 c.args.bits c.saturating_sub-shift.result NC4_ENTRY_LENGTHS NC4_ENTRY_VALUES coeff_token_nc4 refl refl (omega arith) (omega arith) (omega arith) (omega arith) (search rules)
+returns c = entry-found 10 3 c.args.bits c.saturating_sub-shift.result NC4_ENTRY_LENGTHS NC4_ENTRY_VALUES coeff_token_nc4 refl refl (omega arith)
+    (omega arith) (omega arith) (omega arith) (search rules)

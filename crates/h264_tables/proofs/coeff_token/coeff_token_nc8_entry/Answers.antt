@@ -12,4 +12,5 @@ bounds-entry-2 c = index-fits 6 5 c.args.bits c.saturating_sub-shift.result (ome
 
 pub returns : goal.returns
 unfolding agrees entry_fits entries_fit shift_of place_of are_words coeff_token_nc8
-returns c = entry-found 6 5 c.args.bits c.saturating_sub-shift.result NC8_ENTRY_LENGTHS NC8_ENTRY_VALUES coeff_token_nc8 refl refl (omega arith) (omega arith) (omega arith) (omega arith) (search rules)
+returns c = entry-found 6 5 c.args.bits c.saturating_sub-shift.result NC8_ENTRY_LENGTHS NC8_ENTRY_VALUES coeff_token_nc8 refl refl (omega arith) (omega arith)
+    (omega arith) (omega arith) (search rules)

@@ -12,4 +12,5 @@ bounds-entry-2 c = index-fits 1 0 c.args.bits c.saturating_sub-shift.result (ome
 
 pub returns : goal.returns
 unfolding agrees entry_fits entries_fit shift_of place_of are_words inverted_bit
-returns c = entry-found 1 0 c.args.bits c.saturating_sub-shift.result ENTRY_LENGTHS ENTRY_VALUES inverted_bit refl refl (omega arith) (omega arith) (omega arith) (omega arith) (search rules)
+returns c = entry-found 1 0 c.args.bits c.saturating_sub-shift.result ENTRY_LENGTHS ENTRY_VALUES inverted_bit refl refl (omega arith) (omega arith)
+    (omega arith) (omega arith) (search rules)

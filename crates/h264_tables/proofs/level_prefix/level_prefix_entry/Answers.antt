@@ -53,6 +53,7 @@ returns c =
       | inr all ↦ absurd (let none : l.0 ≡ 0 = omega arith in let below : y < 2 ^ 0 = (rw none at l.2) in omega arith)
     ] in
     let high : y < 2 ^ (16 - z) = (let e : 16 - z ≡ l.0 = omega arith in rw e l.2) in
-    let low : 2 ^ (16 - suc z) ≤ y = (let twice = pow-succ' 2 (16 - suc z) in let e : l.0 ≡ suc (16 - suc z) = omega arith in let most : 2 ^ suc (16 - suc z) ≤ 2 * y + 1 = (rw e at l.3) in omega arith) in
+    let low : 2 ^ (16 - suc z) ≤ y = (let twice = pow-succ' 2 (16 - suc z) in let e : l.0 ≡ suc (16 - suc z) = omega arith in
+    let most : 2 ^ suc (16 - suc z) ≤ 2 * y + 1 = (rw e at l.3) in omega arith) in
     let e : z + 1 ≡ suc z = omega arith in
     rw (e, one-after 16 0 z y (omega arith) (omega arith) (omega arith) high low) refl

@@ -12,4 +12,5 @@ bounds-entry-2 c = index-fits 1 0 c.args.bits c.saturating_sub-shift.result (ome
 
 pub returns : goal.returns
 unfolding agrees entry_fits entries_fit shift_of place_of are_words run_before_1
-returns c = entry-found 1 0 c.args.bits c.saturating_sub-shift.result LEFT_1_ENTRY_LENGTHS LEFT_1_ENTRY_VALUES run_before_1 refl refl (omega arith) (omega arith) (omega arith) (omega arith) (search rules)
+returns c = entry-found 1 0 c.args.bits c.saturating_sub-shift.result LEFT_1_ENTRY_LENGTHS LEFT_1_ENTRY_VALUES run_before_1 refl refl (omega arith)
+    (omega arith) (omega arith) (omega arith) (search rules)

@@ -12,4 +12,5 @@ bounds-entry-2 c = index-fits 3 1 c.args.bits c.saturating_sub-shift.result (ome
 
 pub returns : goal.returns
 unfolding agrees entry_fits entries_fit shift_of place_of are_words run_before_5
-returns c = entry-found 3 1 c.args.bits c.saturating_sub-shift.result LEFT_5_ENTRY_LENGTHS LEFT_5_ENTRY_VALUES run_before_5 refl refl (omega arith) (omega arith) (omega arith) (omega arith) (search rules)
+returns c = entry-found 3 1 c.args.bits c.saturating_sub-shift.result LEFT_5_ENTRY_LENGTHS LEFT_5_ENTRY_VALUES run_before_5 refl refl (omega arith)
+    (omega arith) (omega arith) (omega arith) (search rules)

@@ -12,4 +12,5 @@ bounds-entry-2 c = index-fits 3 2 c.args.bits c.saturating_sub-shift.result (ome
 
 pub returns : goal.returns
 unfolding agrees entry_fits entries_fit shift_of place_of are_words run_before_6
-returns c = entry-found 3 2 c.args.bits c.saturating_sub-shift.result LEFT_6_ENTRY_LENGTHS LEFT_6_ENTRY_VALUES run_before_6 refl refl (omega arith) (omega arith) (omega arith) (omega arith) (search rules)
+returns c = entry-found 3 2 c.args.bits c.saturating_sub-shift.result LEFT_6_ENTRY_LENGTHS LEFT_6_ENTRY_VALUES run_before_6 refl refl (omega arith)
+    (omega arith) (omega arith) (omega arith) (search rules)

@@ -12,4 +12,5 @@ bounds-entry-2 c = index-fits 3 0 c.args.bits c.saturating_sub-shift.result (ome
 
 pub returns : goal.returns
 unfolding agrees entry_fits entries_fit shift_of place_of are_words total_zeros_13
-returns c = entry-found 3 0 c.args.bits c.saturating_sub-shift.result INDEX_13_ENTRY_LENGTHS INDEX_13_ENTRY_VALUES total_zeros_13 refl refl (omega arith) (omega arith) (omega arith) (omega arith) (search rules)
+returns c = entry-found 3 0 c.args.bits c.saturating_sub-shift.result INDEX_13_ENTRY_LENGTHS INDEX_13_ENTRY_VALUES total_zeros_13 refl refl (omega arith)
+    (omega arith) (omega arith) (omega arith) (search rules)

@@ -12,4 +12,5 @@ bounds-entry-2 c = index-fits 1 0 c.args.bits c.saturating_sub-shift.result (ome
 
 pub returns : goal.returns
 unfolding agrees entry_fits entries_fit shift_of place_of are_words total_zeros_chroma_dc_3
-returns c = entry-found 1 0 c.args.bits c.saturating_sub-shift.result CHROMA_DC_3_ENTRY_LENGTHS CHROMA_DC_3_ENTRY_VALUES total_zeros_chroma_dc_3 refl refl (omega arith) (omega arith) (omega arith) (omega arith) (search rules)
+returns c = entry-found 1 0 c.args.bits c.saturating_sub-shift.result CHROMA_DC_3_ENTRY_LENGTHS CHROMA_DC_3_ENTRY_VALUES total_zeros_chroma_dc_3 refl refl
+    (omega arith) (omega arith) (omega arith) (omega arith) (search rules)

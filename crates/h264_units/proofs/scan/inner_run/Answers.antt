@@ -14,10 +14,12 @@ loop-end-preserved c =
     let high : 1 < get_or piece (end + 2) 0 = c.if-piece-end-gt1.true in
     let n : length (drop start piece) ≡ length piece - start = length-drop start piece in
     let at : start + (end - start + 2) ≡ end + 2 = omega arith in
-    let here : get_or (drop start piece) (end - start + 2) 0 ≡ get_or piece (end + 2) 0 = get_or-drop start piece (end - start + 2) 0 ∙ ap (λ k. get_or piece k 0) at in
+    let here : get_or (drop start piece) (end - start + 2) 0 ≡ get_or piece (end + 2) 0 = get_or-drop start piece (end - start + 2) 0 ∙
+    ap (λ k. get_or piece k 0) at in
     let three : end - start + 3 ≡ end + 3 - start = omega arith in
     record {
       low = omega arith;
       high = omega arith;
-      inner = subst (λ m. IsInner (take m (drop start piece))) three (inner-three (drop start piece) (end - start) c.loop-end.invariant.inner (omega arith) (subst (λ b. 1 < b) (sym here) high));
+      inner = subst (λ m. IsInner (take m (drop start piece))) three
+          (inner-three (drop start piece) (end - start) c.loop-end.invariant.inner (omega arith) (subst (λ b. 1 < b) (sym here) high));
     }

@@ -18,5 +18,9 @@ loop-i-preserved-then-byte-eq0 c =
 pub loop-i-preserved : goal.loop-i-preserved
 loop-i-preserved c =
     scans-others c.args.held c.args.piece.now c.loop-i.i _ c.loop-i-test.true refl c.loop-i.zeros c.inner_run-i.result c.loop-i.invariant c.if-byte-eq0.false
-    (λ low. elim c.else-byte-lt2.branch [ else-byte-lt2-via-then-byte-lt2+else-zeros-eq2 w ↦ w.if-zeros-eq2.false | else-byte-lt2-via-else-byte-lt2 w ↦ absurd (omega arith) ])
+    (λ low. elim c.else-byte-lt2.branch [
+      | else-byte-lt2-via-then-byte-lt2+else-zeros-eq2 w ↦ w.if-zeros-eq2.false
+      | else-byte-lt2-via-else-byte-lt2 w ↦ absurd
+          (omega arith)
+    ])
     c.inner_run-i.ensures.within c.inner_run-i.ensures.inner

@@ -17,7 +17,8 @@ returns-in-None-clause-agrees c width picture places d k a =
     let f0 : SFits w32 c.args.mvd.across = search rules in
     let f1 : SFits w32 c.args.mvd.down = search rules in
     let m = simp to_z-of_z at c.moved.ensures in
-    derive-out width c.args.around.slice.now picture _ places d c.args.part.place c.args.part.ref_idx c.args.mvd.across c.args.mvd.down _ b (c.predicted_vector-predicted.ensures width picture k) (none-of _ _ (sym c.in-None.is ∙ m))
+    derive-out width c.args.around.slice.now picture _ places d c.args.part.place c.args.part.ref_idx c.args.mvd.across c.args.mvd.down _ b
+    (c.predicted_vector-predicted.ensures width picture k) (none-of _ _ (sym c.in-None.is ∙ m))
 
 pub returns-in-Some-clause-agrees : goal.returns-in-Some-clause-agrees
 returns-in-Some-clause-agrees c width picture places d k a =
@@ -26,7 +27,8 @@ returns-in-Some-clause-agrees c width picture places d k a =
     let f1 : SFits w32 c.args.mvd.down = search rules in
     let m = simp to_z-of_z at c.moved.ensures in
     let s = some-of _ _ _ (sym c.in-Some.is ∙ m) in
-    derive-in width c.args.around.slice.now picture _ _ places d c.args.part.place c.args.part.ref_idx c.args.mvd.across c.args.mvd.down _ _ b (c.predicted_vector-predicted.ensures width picture k) s.0 s.1 (rw c.motion_of.ensures at c.fill.ensures)
+    derive-in width c.args.around.slice.now picture _ _ places d c.args.part.place c.args.part.ref_idx c.args.mvd.across c.args.mvd.down _ _ b
+    (c.predicted_vector-predicted.ensures width picture k) s.0 s.1 (rw c.motion_of.ensures at c.fill.ensures)
 
 pub returns-then-not-fits-clause-alike : goal.returns-then-not-fits-clause-alike
 returns-then-not-fits-clause-alike c = stay-same _ _

@@ -9,19 +9,26 @@ use Rattle.h264_vectors.proofs.inter.read_motions_by.Goals as goal
 
 pub returns-then-kind-eq0-clause-meets : goal.returns-then-kind-eq0-clause-meets
 unfolding motions_by
-returns-then-kind-eq0-clause-meets g c width picture k = rw (eq-eqb c.args.kind 0 c.if-kind-eq0.true) (rw c.is_inferred-inferred.ensures.meets at (c.read_one_part.ensures.meets width picture k))
+returns-then-kind-eq0-clause-meets g c width picture k =
+    rw (eq-eqb c.args.kind 0 c.if-kind-eq0.true) (rw c.is_inferred-inferred.ensures.meets at (c.read_one_part.ensures.meets width picture k))
 
 pub returns-then-kind-eq1-clause-meets : goal.returns-then-kind-eq1-clause-meets
 unfolding motions_by places_with column_of row_of
-returns-then-kind-eq1-clause-meets g c width picture k = rw (unequal c.args.kind 0 c.if-kind-eq0.false, eq-eqb c.args.kind 1 c.if-kind-eq1.true) (rw c.is_inferred-inferred.ensures.meets at (c.read_two_parts.ensures.meets width picture k))
+returns-then-kind-eq1-clause-meets g c width picture k =
+    rw (unequal c.args.kind 0 c.if-kind-eq0.false, eq-eqb c.args.kind 1 c.if-kind-eq1.true)
+    (rw c.is_inferred-inferred.ensures.meets at (c.read_two_parts.ensures.meets width picture k))
 
 pub returns-then-kind-eq2-clause-meets : goal.returns-then-kind-eq2-clause-meets
 unfolding motions_by places_with column_of row_of
-returns-then-kind-eq2-clause-meets g c width picture k = rw (unequal c.args.kind 0 c.if-kind-eq0.false, unequal c.args.kind 1 c.if-kind-eq1.false, eq-eqb c.args.kind 2 c.if-kind-eq2.true) (rw c.is_inferred-inferred.ensures.meets at (c.read_two_parts-then-kind-eq2.ensures.meets width picture k))
+returns-then-kind-eq2-clause-meets g c width picture k =
+    rw (unequal c.args.kind 0 c.if-kind-eq0.false, unequal c.args.kind 1 c.if-kind-eq1.false, eq-eqb c.args.kind 2 c.if-kind-eq2.true)
+    (rw c.is_inferred-inferred.ensures.meets at (c.read_two_parts-then-kind-eq2.ensures.meets width picture k))
 
 pub returns-clause-meets : goal.returns-clause-meets
 unfolding motions_by
-returns-clause-meets g c width picture k = rw (unequal c.args.kind 0 c.if-kind-eq0.false, unequal c.args.kind 1 c.if-kind-eq1.false, unequal c.args.kind 2 c.if-kind-eq2.false) (rw c.is_inferred-inferred.ensures.meets at (c.read_split.ensures.meets width picture k))
+returns-clause-meets g c width picture k =
+    rw (unequal c.args.kind 0 c.if-kind-eq0.false, unequal c.args.kind 1 c.if-kind-eq1.false, unequal c.args.kind 2 c.if-kind-eq2.false)
+    (rw c.is_inferred-inferred.ensures.meets at (c.read_split.ensures.meets width picture k))
 
 pub returns-then-kind-eq0-clause-partition : goal.returns-then-kind-eq0-clause-partition
 returns-then-kind-eq0-clause-partition g c = on-ok c.read_one_part.result (rw c.if-kind-eq0.true refl)
@@ -36,7 +43,9 @@ pub returns-then-kind-eq2-clause-partition : goal.returns-then-kind-eq2-clause-p
 returns-then-kind-eq2-clause-partition g c = on-ok c.read_two_parts-then-kind-eq2.result (rw c.if-kind-eq2.true refl)
 
 pub returns-then-kind-eq2-clause-alike : goal.returns-then-kind-eq2-clause-alike
-returns-then-kind-eq2-clause-alike g c = on_ok_weaker c.read_two_parts-then-kind-eq2.result (moves8x16 _ _ c.requires.none) c.read_two_parts-then-kind-eq2.ensures.alike
+returns-then-kind-eq2-clause-alike g c =
+    on_ok_weaker c.read_two_parts-then-kind-eq2.result (moves8x16 _ _ c.requires.none) c.read_two_parts-then-kind-eq2.ensures.alike
 
 pub returns-clause-partition : goal.returns-clause-partition
-returns-clause-partition g c = on_ok_weaker c.read_split.result (of-four c.args.kind _ c.if-kind-eq0.false c.if-kind-eq1.false c.if-kind-eq2.false) c.read_split.ensures.partition
+returns-clause-partition g c = on_ok_weaker c.read_split.result (of-four c.args.kind _ c.if-kind-eq0.false c.if-kind-eq1.false c.if-kind-eq2.false)
+    c.read_split.ensures.partition

@@ -12,11 +12,13 @@ use Rattle.h264_vectors.proofs.inter.read_one_part.Goals as goal
 
 pub returns-in_err-ref_idx-clause-meets : goal.returns-in_err-ref_idx-clause-meets
 unfolding one_part places_with column_of row_of
-returns-in_err-ref_idx-clause-meets g c width picture k = let p = err_from_is_err_and c.from_residual.result c.from_residual.ensures.1 in rw (p.1, p.2) (stop _ (c.in_err-ref_idx.ensures.meets))
+returns-in_err-ref_idx-clause-meets g c width picture k = let p = err_from_is_err_and c.from_residual.result c.from_residual.ensures.1 in
+    rw (p.1, p.2) (stop _ (c.in_err-ref_idx.ensures.meets))
 
 pub returns-clause-meets : goal.returns-clause-meets
 unfolding one_part places_with column_of row_of
-returns-clause-meets g c width picture k = bind _ (c.in_ok-ref_idx.ensures.meets) (c.read_part.ensures.meets width picture (replicate 16 false) none_yet k (starts _ c.requires.none))
+returns-clause-meets g c width picture k =
+    bind _ (c.in_ok-ref_idx.ensures.meets) (c.read_part.ensures.meets width picture (replicate 16 false) none_yet k (starts _ c.requires.none))
 
 pub returns-clause-alike : goal.returns-clause-alike
 returns-clause-alike g c = on_ok_weaker c.read_part.result (moves16x16 _ _ c.requires.none) c.read_part.ensures.alike

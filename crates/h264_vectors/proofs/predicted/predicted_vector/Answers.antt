@@ -20,4 +20,11 @@ returns-then-eq c width picture k =
 
 pub returns : goal.returns
 unfolding predicted_vector
-returns c width picture k = rw (c.by_direction.ensures, c.instead.ensures, c.neighbour-a.ensures width picture k, c.neighbour-b.ensures width picture k, c.neighbour-c.ensures width picture k, c.neighbour-d.ensures width picture k) refl
+returns c width picture k = rw (
+  c.by_direction.ensures,
+  c.instead.ensures,
+  c.neighbour-a.ensures width picture k,
+  c.neighbour-b.ensures width picture k,
+  c.neighbour-c.ensures width picture k,
+  c.neighbour-d.ensures width picture k,
+) refl

@@ -26,7 +26,9 @@ returns-in_err-end_data_if-clause-closes g c =
       made = frames;
       same = λ n h. refl;
       plays = refused (took_with frames g.S.Elements.took) g.S.Elements.failures (close_steps mode c.args.ends before) _ _
-          (steps-err (if c.args.ends then whole_steps mode before else []) (needs (if c.args.ends then closing_demands before else []) ++ (if c.args.ends then closing_frames mode before else [])) _ whole) c.in_err-end_data_if.ensures.named;
+          (steps-err (if c.args.ends then whole_steps mode before else [])
+          (needs (if c.args.ends then closing_demands before else []) ++ (if c.args.ends then closing_frames mode before else [])) _ whole)
+          c.in_err-end_data_if.ensures.named;
       keeps = tt;
     })
 
@@ -40,7 +42,9 @@ returns-in_err-end_if-clause-closes g c =
       made = frames;
       same = λ n h. refl;
       plays = refused (took_with frames g.S.Elements.took) g.S.Elements.failures (close_steps mode c.args.ends before) _ _
-          (closing-stop (if c.args.ends then whole_steps mode before else []) (if c.args.ends then closing_demands before else []) (if c.args.ends then closing_frames mode before else []) _ _ whole closed) (err-named (if c.args.ends then closing_demands before else []) _ (sym closed));
+          (closing-stop (if c.args.ends then whole_steps mode before else []) (if c.args.ends then closing_demands before else [])
+          (if c.args.ends then closing_frames mode before else []) _ _ whole closed)
+          (err-named (if c.args.ends then closing_demands before else []) _ (sym closed));
       keeps = tt;
     })
 
@@ -52,7 +56,9 @@ returns-clause-closes g c = λ mode frames before k d.
     record {
       made = e.made;
       same = e.same;
-      plays = plays-as (took_with e.made g.S.Elements.took) g.S.Elements.failures (λ (x : Unit {0}). x) _ _ _ _ _ (closing-then (if c.args.ends then whole_steps mode before else []) (if c.args.ends then closing_demands before else []) (if c.args.ends then closing_frames mode before else []) _ _ whole closed) e.plays;
+      plays = plays-as (took_with e.made g.S.Elements.took) g.S.Elements.failures (λ (x : Unit {0}). x) _ _ _ _ _
+          (closing-then (if c.args.ends then whole_steps mode before else []) (if c.args.ends then closing_demands before else [])
+          (if c.args.ends then closing_frames mode before else []) _ _ whole closed) e.plays;
       keeps = e.keeps;
     }
 

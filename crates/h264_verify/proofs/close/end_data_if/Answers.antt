@@ -19,4 +19,5 @@ pub returns-in-Some-picture-clause-judged : goal.returns-in-Some-picture-clause-
 returns-in-Some-picture-clause-judged c = λ mode frames before kept k.
     let made = some-made _ mode c.args.decoder.now _ c.in-Some.is k in
     rw (made.0, c.if-not-ends.false) (checked-outcome c.is_whole.result (No c.in-Some-picture.picture.following Incomplete) _ c.check.ensures
-    ∙ whole-outcome (goes_on before) (runs_of before) c.args.slices.now.picture c.in-Some-picture.picture c.in-Some.decoder.work c.is_whole.result c.in-Some-picture.is kept.kept.picture (coded-by frames (goes_on before) (runs_of before) c.in-Some.decoder made.1) c.is_whole.ensures)
+    ∙ whole-outcome (goes_on before) (runs_of before) c.args.slices.now.picture c.in-Some-picture.picture c.in-Some.decoder.work c.is_whole.result
+    c.in-Some-picture.is kept.kept.picture (coded-by frames (goes_on before) (runs_of before) c.in-Some.decoder made.1) c.is_whole.ensures)

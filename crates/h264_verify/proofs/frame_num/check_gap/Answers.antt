@@ -18,10 +18,15 @@ gap-not-idr true prev n h = absurd (omega (arith, h))
 gap-not-idr false prev n h = refl
 
 pub fill_frames-requires-clause-few : goal.fill_frames-requires-clause-few
-fill_frames-requires-clause-few g c = rw (c.gap_before-count.ensures, c.requires.numbered, c.is_some-idr.ensures) (λ some. (c.requires.goes (gap-not-idr (is_idr c.args.head.now.header.now) c.args.prev_ref_frame_num.now (numbering_of c.args.head.now.place.sps.now c.args.head.now.header.now) some)).few)
+fill_frames-requires-clause-few g c = rw (c.gap_before-count.ensures, c.requires.numbered, c.is_some-idr.ensures)
+    (λ some. (c.requires.goes (gap-not-idr (is_idr c.args.head.now.header.now) c.args.prev_ref_frame_num.now
+    (numbering_of c.args.head.now.place.sps.now c.args.head.now.header.now) some)).few)
 
 pub fill_frames-requires-clause-places : goal.fill_frames-requires-clause-places
-fill_frames-requires-clause-places g c = rw (c.gap_before-count.ensures, c.requires.numbered, c.is_some-idr.ensures) (λ some. (c.requires.goes (gap-not-idr (is_idr c.args.head.now.header.now) c.args.prev_ref_frame_num.now (numbering_of c.args.head.now.place.sps.now c.args.head.now.header.now) some)).places)
+fill_frames-requires-clause-places g c =
+    rw (c.gap_before-count.ensures, c.requires.numbered, c.is_some-idr.ensures)
+    (λ some. (c.requires.goes (gap-not-idr (is_idr c.args.head.now.header.now) c.args.prev_ref_frame_num.now
+    (numbering_of c.args.head.now.place.sps.now c.args.head.now.header.now) some)).places)
 
 pub returns-in_err-check_missing : goal.returns-in_err-check_missing
 returns-in_err-check_missing g c =
@@ -32,7 +37,11 @@ returns-in_err-check_missing g c =
           let idr = is_idr c.args.head.now.header.now in
           let bit = c.args.head.now.header.now.frame_num.bit in
           let prev = c.args.prev_ref_frame_num.now in
-          rules-stop (took_with frames g.S.Elements.took) g.S.Elements.failures (gap_demand idr c.args.head.now.place.sps.now.gaps_in_frame_num_value_allowed_flag bit prev n ∷ []) (missing_steps mode bit n (unused_short_term_frame_nums idr prev n) c.args.held.now t.buffer ++ needs (new_num_demand idr (is_reference c.args.head.now.header.now) bit prev n c.args.held.now ∷ [])) c.args.sink.now _ (rw (c.gap_before-count.ensures, c.requires.numbered, c.is_some-idr.ensures) at c.in_err-check_missing.ensures);
+          rules-stop (took_with frames g.S.Elements.took) g.S.Elements.failures
+          (gap_demand idr c.args.head.now.place.sps.now.gaps_in_frame_num_value_allowed_flag bit prev n ∷ [])
+          (missing_steps mode bit n (unused_short_term_frame_nums idr prev n) c.args.held.now t.buffer ++
+          needs (new_num_demand idr (is_reference c.args.head.now.header.now) bit prev n c.args.held.now ∷ [])) c.args.sink.now _
+          (rw (c.gap_before-count.ensures, c.requires.numbered, c.is_some-idr.ensures) at c.in_err-check_missing.ensures);
       keeps = λ mode frames t next k. tt;
       no_memory = no-memory _ _ _ _ c.in_err-check_missing.ensures;
       format = refl;
@@ -53,8 +62,11 @@ returns-in_err-last g c =
           let prev = c.args.prev_ref_frame_num.now in
           let missing = missing_steps mode bit n (unused_short_term_frame_nums idr prev n) c.args.held.now t.buffer in
           let new = needs (new_num_demand idr (is_reference c.args.head.now.header.now) bit prev n c.args.held.now ∷ []) in
-          rules-on (took_with frames g.S.Elements.took) g.S.Elements.failures (gap_demand idr c.args.head.now.place.sps.now.gaps_in_frame_num_value_allowed_flag bit prev n ∷ []) (missing ++ new) c.args.sink.now _ _ _ (rw (c.gap_before-count.ensures, c.requires.numbered, c.is_some-idr.ensures) at c.in_ok-check_missing.ensures)
-          (steps-stop (took_with frames g.S.Elements.took) g.S.Elements.failures (λ _. tt) missing new _ _ _ ((rw (c.gap_before-count.ensures, c.requires.numbered, c.is_some-idr.ensures) at c.in_err-last.ensures.plays) mode frames t next k));
+          rules-on (took_with frames g.S.Elements.took) g.S.Elements.failures
+          (gap_demand idr c.args.head.now.place.sps.now.gaps_in_frame_num_value_allowed_flag bit prev n ∷ []) (missing ++ new) c.args.sink.now _ _ _
+          (rw (c.gap_before-count.ensures, c.requires.numbered, c.is_some-idr.ensures) at c.in_ok-check_missing.ensures)
+          (steps-stop (took_with frames g.S.Elements.took) g.S.Elements.failures (λ _. tt) missing new _ _ _
+          ((rw (c.gap_before-count.ensures, c.requires.numbered, c.is_some-idr.ensures) at c.in_err-last.ensures.plays) mode frames t next k));
       keeps = λ mode frames t next k. tt;
       no_memory = λ h. c.in_err-last.ensures.no_memory (err-as _ _ h);
       format = c.in_err-last.ensures.format;
@@ -75,9 +87,15 @@ returns-in_err-check_new g c =
           let prev = c.args.prev_ref_frame_num.now in
           let missing = missing_steps mode bit n (unused_short_term_frame_nums idr prev n) c.args.held.now t.buffer in
           let new = new_num_demand idr (is_reference c.args.head.now.header.now) bit prev n c.args.held.now ∷ [] in
-          rules-on (took_with frames g.S.Elements.took) g.S.Elements.failures (gap_demand idr c.args.head.now.place.sps.now.gaps_in_frame_num_value_allowed_flag bit prev n ∷ []) (missing ++ needs new) c.args.sink.now _ _ _ (rw (c.gap_before-count.ensures, c.requires.numbered, c.is_some-idr.ensures) at c.in_ok-check_missing.ensures)
-          (steps-on (took_with frames g.S.Elements.took) g.S.Elements.failures (λ _. tt) missing (needs new) _ _ _ _ _ ((rw (c.gap_before-count.ensures, c.requires.numbered, c.is_some-idr.ensures) at c.in_ok-last.ensures.plays) mode frames t next k)
-          (rules-play (took_with frames g.S.Elements.took) g.S.Elements.failures new _ _ ((rw (c.requires.numbered, c.is_some-idr.ensures) at c.in_err-check_new.ensures) ∙ new-filled idr (is_reference c.args.head.now.header.now) bit prev n c.args.held.now _ (rw (c.gap_before-count.ensures, c.requires.numbered, c.is_some-idr.ensures) at c.in_ok-last.ensures.held))));
+          rules-on (took_with frames g.S.Elements.took) g.S.Elements.failures
+          (gap_demand idr c.args.head.now.place.sps.now.gaps_in_frame_num_value_allowed_flag bit prev n ∷ []) (missing ++ needs new) c.args.sink.now _ _ _
+          (rw (c.gap_before-count.ensures, c.requires.numbered, c.is_some-idr.ensures) at c.in_ok-check_missing.ensures)
+          (steps-on (took_with frames g.S.Elements.took) g.S.Elements.failures (λ _. tt) missing (needs new) _ _ _ _ _
+          ((rw (c.gap_before-count.ensures, c.requires.numbered, c.is_some-idr.ensures) at c.in_ok-last.ensures.plays) mode frames t next k)
+          (rules-play (took_with frames g.S.Elements.took) g.S.Elements.failures new _ _
+          ((rw (c.requires.numbered, c.is_some-idr.ensures) at c.in_err-check_new.ensures) ∙
+          new-filled idr (is_reference c.args.head.now.header.now) bit prev n c.args.held.now _
+          (rw (c.gap_before-count.ensures, c.requires.numbered, c.is_some-idr.ensures) at c.in_ok-last.ensures.held))));
       keeps = λ mode frames t next k. tt;
       no_memory = no-memory _ _ _ _ c.in_err-check_new.ensures;
       format = c.in_ok-last.ensures.format;
@@ -95,9 +113,15 @@ returns-clause-plays g c = λ mode frames t next k.
     let prev = c.args.prev_ref_frame_num.now in
     let missing = missing_steps mode bit n (unused_short_term_frame_nums idr prev n) c.args.held.now t.buffer in
     let new = new_num_demand idr (is_reference c.args.head.now.header.now) bit prev n c.args.held.now ∷ [] in
-    rules-on (took_with frames g.S.Elements.took) g.S.Elements.failures (gap_demand idr c.args.head.now.place.sps.now.gaps_in_frame_num_value_allowed_flag bit prev n ∷ []) (missing ++ needs new) c.args.sink.now _ _ _ (rw (c.gap_before-count.ensures, c.requires.numbered, c.is_some-idr.ensures) at c.in_ok-check_missing.ensures)
-    (steps-on (took_with frames g.S.Elements.took) g.S.Elements.failures (λ _. tt) missing (needs new) _ _ _ _ _ ((rw (c.gap_before-count.ensures, c.requires.numbered, c.is_some-idr.ensures) at c.in_ok-last.ensures.plays) mode frames t next k)
-    (rules-play (took_with frames g.S.Elements.took) g.S.Elements.failures new _ _ ((rw (c.requires.numbered, c.is_some-idr.ensures) at c.in_ok-check_new.ensures) ∙ new-filled idr (is_reference c.args.head.now.header.now) bit prev n c.args.held.now _ (rw (c.gap_before-count.ensures, c.requires.numbered, c.is_some-idr.ensures) at c.in_ok-last.ensures.held))))
+    rules-on (took_with frames g.S.Elements.took) g.S.Elements.failures
+    (gap_demand idr c.args.head.now.place.sps.now.gaps_in_frame_num_value_allowed_flag bit prev n ∷ []) (missing ++ needs new) c.args.sink.now _ _ _
+    (rw (c.gap_before-count.ensures, c.requires.numbered, c.is_some-idr.ensures) at c.in_ok-check_missing.ensures)
+    (steps-on (took_with frames g.S.Elements.took) g.S.Elements.failures (λ _. tt) missing (needs new) _ _ _ _ _
+    ((rw (c.gap_before-count.ensures, c.requires.numbered, c.is_some-idr.ensures) at c.in_ok-last.ensures.plays) mode frames t next k)
+    (rules-play (took_with frames g.S.Elements.took) g.S.Elements.failures new _ _
+    ((rw (c.requires.numbered, c.is_some-idr.ensures) at c.in_ok-check_new.ensures) ∙
+    new-filled idr (is_reference c.args.head.now.header.now) bit prev n c.args.held.now _
+    (rw (c.gap_before-count.ensures, c.requires.numbered, c.is_some-idr.ensures) at c.in_ok-last.ensures.held))))
 
 pub returns-clause-filled : goal.returns-clause-filled
 returns-clause-filled g c = rw (c.gap_before-count.ensures, c.requires.numbered, c.is_some-idr.ensures) at c.in_ok-last.ensures.held

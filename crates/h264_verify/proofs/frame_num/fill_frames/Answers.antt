@@ -2,7 +2,8 @@ use Rattle.std.proofs.Common.{◌≡◌, ◌∙◌, ◌-◌, ◌<◌, sym, refl,
 use Rattle.std.proofs.lemmas.Result.{err_from_is_err_and}
 use Rattle.h264_marking.proofs.Filling.{Filled, filled-some, filled-none, filled-first, filled-next, filled-last}
 use Rattle.h264_verify.proofs.Made.{places-down}
-use Rattle.h264_verify.proofs.Missing.{some-missing, some-gap, fills-first, fills-more, fills-whole, fills-refused, fills-stopped, fills-next, fills-last, fills-kept}
+use Rattle.h264_verify.proofs.Missing.{some-missing, some-gap, fills-first, fills-more, fills-whole, fills-refused, fills-stopped, fills-next, fills-last}
+use Rattle.h264_verify.proofs.Missing.{fills-kept}
 use Rattle.h264_marking.proofs.Moving.{last-within, last-after}
 use Rattle.h264_verify.proofs.Skipping.{fills-skipped}
 use Rattle.h264_verify.proofs.frame_num.fill_frames.Goals as goal
@@ -10,7 +11,8 @@ use Rattle.h264_verify.proofs.frame_num.fill_frames.Goals as goal
 pub loop-turn-init : goal.loop-turn-init
 loop-turn-init g c = record {
   filled = filled-first c.args.gap.now.numbering c.args.gap.now.count c.args.gap.now.prev_ref_frame_num c.args.held.now;
-  fills = λ mode frames t next k. fills-first mode c.args.gap.now.bit c.args.gap.now.numbering c.args.gap.now.count c.args.gap.now.prev_ref_frame_num c.args.held.now g.S.Elements.took g.S.Elements.failures frames t next c.args.sink.now c.args.decoder.now k;
+  fills = λ mode frames t next k. fills-first mode c.args.gap.now.bit c.args.gap.now.numbering c.args.gap.now.count c.args.gap.now.prev_ref_frame_num
+      c.args.held.now g.S.Elements.took g.S.Elements.failures frames t next c.args.sink.now c.args.decoder.now k;
   few = c.requires.few;
   places = c.requires.places;
   format = refl;
@@ -26,26 +28,36 @@ pub miss-requires-clause-missing : goal.miss-requires-clause-missing
 miss-requires-clause-missing g c = some-missing _ _ _ (filled-some _ _ _ _ _ c.in_ok-fill_gap.ensures.answer c.in_ok-fill_gap.ensures.held)
 
 pub miss-requires-clause-kept : goal.miss-requires-clause-kept
-miss-requires-clause-kept g c = some-gap c.args.gap.now.bit c.args.gap.now.numbering c.args.gap.now.count c.args.gap.now.prev_ref_frame_num c.args.held.now g.S.Elements.took g.S.Elements.failures c.args.sink.now _ _ _ _ c.args.decoder.now c.loop-turn.decoder c.requires.kept c.loop-turn.invariant.fills
+miss-requires-clause-kept g c = some-gap c.args.gap.now.bit c.args.gap.now.numbering c.args.gap.now.count c.args.gap.now.prev_ref_frame_num c.args.held.now
+    g.S.Elements.took g.S.Elements.failures c.args.sink.now _ _ _ _ c.args.decoder.now c.loop-turn.decoder c.requires.kept c.loop-turn.invariant.fills
 
 pub returns-then-may_skip-clause-plays : goal.returns-then-may_skip-clause-plays
 returns-then-may_skip-clause-plays g c = λ mode frames t next k.
     let f = c.loop-turn.invariant.fills mode frames t next k in
     let still = c.may_skip.ensures.frames c.if-may_skip.true mode frames f.turn next f.keeps in
-    let all = fills-skipped mode c.args.gap.now.bit c.args.gap.now.numbering c.args.gap.now.count c.args.gap.now.prev_ref_frame_num c.args.held.now g.S.Elements.took g.S.Elements.failures frames t next c.args.sink.now _ c.loop-turn.last c.number_after.result c.loop-turn.held c.skip.new.self c.loop-turn.sink c.loop-turn.decoder (c.may_skip.ensures.held c.if-may_skip.true) f still in
-    fills-last mode c.args.gap.now.bit c.args.gap.now.numbering c.args.gap.now.count c.args.gap.now.prev_ref_frame_num c.args.held.now g.S.Elements.took g.S.Elements.failures frames t next c.args.sink.now c.number_after.result c.skip.new.self c.loop-turn.sink c.loop-turn.decoder all c.loop-turn.invariant.kept
+    let all = fills-skipped mode c.args.gap.now.bit c.args.gap.now.numbering c.args.gap.now.count c.args.gap.now.prev_ref_frame_num c.args.held.now
+    g.S.Elements.took g.S.Elements.failures frames t next c.args.sink.now _ c.loop-turn.last c.number_after.result c.loop-turn.held c.skip.new.self
+    c.loop-turn.sink c.loop-turn.decoder (c.may_skip.ensures.held c.if-may_skip.true) f still in
+    fills-last mode c.args.gap.now.bit c.args.gap.now.numbering c.args.gap.now.count c.args.gap.now.prev_ref_frame_num c.args.held.now g.S.Elements.took
+    g.S.Elements.failures frames t next c.args.sink.now c.number_after.result c.skip.new.self c.loop-turn.sink c.loop-turn.decoder all
+    c.loop-turn.invariant.kept
 
 pub returns-then-may_skip-clause-keeps : goal.returns-then-may_skip-clause-keeps
 returns-then-may_skip-clause-keeps g c = λ mode frames t next k.
     let f = c.loop-turn.invariant.fills mode frames t next k in
     let still = c.may_skip.ensures.frames c.if-may_skip.true mode frames f.turn next f.keeps in
-    let all = fills-skipped mode c.args.gap.now.bit c.args.gap.now.numbering c.args.gap.now.count c.args.gap.now.prev_ref_frame_num c.args.held.now g.S.Elements.took g.S.Elements.failures frames t next c.args.sink.now _ c.loop-turn.last c.number_after.result c.loop-turn.held c.skip.new.self c.loop-turn.sink c.loop-turn.decoder (c.may_skip.ensures.held c.if-may_skip.true) f still in
-    fills-kept mode c.args.gap.now.bit c.args.gap.now.numbering c.args.gap.now.count c.args.gap.now.prev_ref_frame_num c.args.held.now g.S.Elements.took g.S.Elements.failures frames t next c.args.sink.now c.number_after.result c.skip.new.self c.loop-turn.sink c.loop-turn.decoder all
+    let all = fills-skipped mode c.args.gap.now.bit c.args.gap.now.numbering c.args.gap.now.count c.args.gap.now.prev_ref_frame_num c.args.held.now
+    g.S.Elements.took g.S.Elements.failures frames t next c.args.sink.now _ c.loop-turn.last c.number_after.result c.loop-turn.held c.skip.new.self
+    c.loop-turn.sink c.loop-turn.decoder (c.may_skip.ensures.held c.if-may_skip.true) f still in
+    fills-kept mode c.args.gap.now.bit c.args.gap.now.numbering c.args.gap.now.count c.args.gap.now.prev_ref_frame_num c.args.held.now g.S.Elements.took
+    g.S.Elements.failures frames t next c.args.sink.now c.number_after.result c.skip.new.self c.loop-turn.sink c.loop-turn.decoder all
 
 pub returns-then-may_skip-clause-last : goal.returns-then-may_skip-clause-last
 returns-then-may_skip-clause-last g c =
     let steady = c.may_skip.ensures.held c.if-may_skip.true in
-    c.number_after.ensures ∙ sym (c.loop-turn.invariant.filled.number ∙ last-after c.args.gap.now.numbering.max_frame_num (c.args.gap.now.count - c.loop-turn.turn) c.loop-turn.last (last-within c.args.gap.now.numbering c.loop-turn.last c.loop-turn.held steady))
+    c.number_after.ensures ∙ sym (c.loop-turn.invariant.filled.number ∙
+    last-after c.args.gap.now.numbering.max_frame_num (c.args.gap.now.count - c.loop-turn.turn) c.loop-turn.last
+    (last-within c.args.gap.now.numbering c.loop-turn.last c.loop-turn.held steady))
 
 pub returns-then-may_skip-clause-held : goal.returns-then-may_skip-clause-held
 returns-then-may_skip-clause-held g c = c.loop-turn.invariant.filled.frames ∙ c.skip.ensures
@@ -56,8 +68,12 @@ returns-in_err-fill_gap-clause-plays g c =
     let answer = rw c.number_after-in-loop-turn.ensures at c.in_err-fill_gap.ensures.answer in
     let none = filled-none _ _ _ answer in
     rw (p.1, p.2) (λ mode frames t next k.
-    let f = fills-more mode c.args.gap.now.bit c.args.gap.now.numbering c.args.gap.now.count c.args.gap.now.prev_ref_frame_num c.args.held.now g.S.Elements.took g.S.Elements.failures frames t next c.args.sink.now c.loop-turn.turn c.loop-turn.last c.loop-turn.held c.loop-turn.sink c.loop-turn.decoder c.loop-turn-test.true (c.loop-turn.invariant.fills mode frames t next k) in
-    fills-refused mode c.args.gap.now.bit c.args.gap.now.numbering c.args.gap.now.count c.args.gap.now.prev_ref_frame_num c.args.held.now g.S.Elements.took g.S.Elements.failures frames t next c.args.sink.now _ c.loop-turn.last c.loop-turn.held c.loop-turn.sink c.loop-turn.decoder f c.loop-turn.invariant.kept (λ _. tt) _ none.0 none.1)
+    let f = fills-more mode c.args.gap.now.bit c.args.gap.now.numbering c.args.gap.now.count c.args.gap.now.prev_ref_frame_num c.args.held.now
+    g.S.Elements.took g.S.Elements.failures frames t next c.args.sink.now c.loop-turn.turn c.loop-turn.last c.loop-turn.held c.loop-turn.sink
+    c.loop-turn.decoder c.loop-turn-test.true (c.loop-turn.invariant.fills mode frames t next k) in
+    fills-refused mode c.args.gap.now.bit c.args.gap.now.numbering c.args.gap.now.count c.args.gap.now.prev_ref_frame_num c.args.held.now g.S.Elements.took
+    g.S.Elements.failures frames t next c.args.sink.now _ c.loop-turn.last c.loop-turn.held c.loop-turn.sink c.loop-turn.decoder f
+    c.loop-turn.invariant.kept (λ _. tt) _ none.0 none.1)
 
 pub returns-in_err-miss-clause-plays : goal.returns-in_err-miss-clause-plays
 returns-in_err-miss-clause-plays g c =
@@ -65,18 +81,29 @@ returns-in_err-miss-clause-plays g c =
     let answer = rw c.number_after-in-loop-turn.ensures at c.in_ok-fill_gap.ensures.answer in
     let held = rw c.number_after-in-loop-turn.ensures at c.in_ok-fill_gap.ensures.held in
     rw (p.1, p.2) (λ mode frames t next k.
-    let f = fills-more mode c.args.gap.now.bit c.args.gap.now.numbering c.args.gap.now.count c.args.gap.now.prev_ref_frame_num c.args.held.now g.S.Elements.took g.S.Elements.failures frames t next c.args.sink.now c.loop-turn.turn c.loop-turn.last c.loop-turn.held c.loop-turn.sink c.loop-turn.decoder c.loop-turn-test.true (c.loop-turn.invariant.fills mode frames t next k) in
-    fills-stopped mode c.args.gap.now.bit c.args.gap.now.numbering c.args.gap.now.count c.args.gap.now.prev_ref_frame_num c.args.held.now g.S.Elements.took g.S.Elements.failures frames t next c.args.sink.now _ c.loop-turn.last c.loop-turn.held c.loop-turn.sink c.loop-turn.decoder f c.loop-turn.invariant.kept c.fill_gap.new.self (filled-some _ _ _ _ _ answer held) (λ _. tt) c.miss.new.sink _ (c.in_err-miss.ensures.plays mode frames f.turn next f.keeps))
+    let f = fills-more mode c.args.gap.now.bit c.args.gap.now.numbering c.args.gap.now.count c.args.gap.now.prev_ref_frame_num c.args.held.now
+    g.S.Elements.took g.S.Elements.failures frames t next c.args.sink.now c.loop-turn.turn c.loop-turn.last c.loop-turn.held c.loop-turn.sink
+    c.loop-turn.decoder c.loop-turn-test.true (c.loop-turn.invariant.fills mode frames t next k) in
+    fills-stopped mode c.args.gap.now.bit c.args.gap.now.numbering c.args.gap.now.count c.args.gap.now.prev_ref_frame_num c.args.held.now g.S.Elements.took
+    g.S.Elements.failures frames t next c.args.sink.now _ c.loop-turn.last c.loop-turn.held c.loop-turn.sink c.loop-turn.decoder f
+    c.loop-turn.invariant.kept c.fill_gap.new.self (filled-some _ _ _ _ _ answer held) (λ _. tt) c.miss.new.sink _
+    (c.in_err-miss.ensures.plays mode frames f.turn next f.keeps))
 
 pub loop-turn-preserved : goal.loop-turn-preserved
 loop-turn-preserved g c =
     let answer = rw c.number_after-in-loop-turn.ensures at c.in_ok-fill_gap.ensures.answer in
     let held = rw c.number_after-in-loop-turn.ensures at c.in_ok-fill_gap.ensures.held in
     rw c.number_after-in-loop-turn.ensures (record {
-      filled = filled-next c.args.gap.now.numbering c.args.gap.now.count c.args.gap.now.prev_ref_frame_num c.args.held.now c.loop-turn.turn c.loop-turn.last c.loop-turn.held c.fill_gap.new.self _ c.args.gap.now.bit c.loop-turn.invariant.filled c.loop-turn-test.true answer held;
+      filled = filled-next c.args.gap.now.numbering c.args.gap.now.count c.args.gap.now.prev_ref_frame_num c.args.held.now c.loop-turn.turn c.loop-turn.last
+          c.loop-turn.held c.fill_gap.new.self _ c.args.gap.now.bit c.loop-turn.invariant.filled c.loop-turn-test.true answer held;
       fills = λ mode frames t next k.
-          let f = fills-more mode c.args.gap.now.bit c.args.gap.now.numbering c.args.gap.now.count c.args.gap.now.prev_ref_frame_num c.args.held.now g.S.Elements.took g.S.Elements.failures frames t next c.args.sink.now c.loop-turn.turn c.loop-turn.last c.loop-turn.held c.loop-turn.sink c.loop-turn.decoder c.loop-turn-test.true (c.loop-turn.invariant.fills mode frames t next k) in
-          fills-next mode c.args.gap.now.bit c.args.gap.now.numbering c.args.gap.now.count c.args.gap.now.prev_ref_frame_num c.args.held.now g.S.Elements.took g.S.Elements.failures frames t next c.args.sink.now _ c.loop-turn.last c.loop-turn.held c.loop-turn.sink c.loop-turn.decoder f c.loop-turn.invariant.kept c.fill_gap.new.self (filled-some _ _ _ _ _ answer held) c.miss.new.sink c.miss.new.decoder _ (c.in_ok-miss.ensures.plays mode frames f.turn next f.keeps) (c.in_ok-miss.ensures.keeps mode frames f.turn next f.keeps);
+          let f = fills-more mode c.args.gap.now.bit c.args.gap.now.numbering c.args.gap.now.count c.args.gap.now.prev_ref_frame_num c.args.held.now
+          g.S.Elements.took g.S.Elements.failures frames t next c.args.sink.now c.loop-turn.turn c.loop-turn.last c.loop-turn.held c.loop-turn.sink
+          c.loop-turn.decoder c.loop-turn-test.true (c.loop-turn.invariant.fills mode frames t next k) in
+          fills-next mode c.args.gap.now.bit c.args.gap.now.numbering c.args.gap.now.count c.args.gap.now.prev_ref_frame_num c.args.held.now g.S.Elements.took
+          g.S.Elements.failures frames t next c.args.sink.now _ c.loop-turn.last c.loop-turn.held c.loop-turn.sink c.loop-turn.decoder f
+          c.loop-turn.invariant.kept c.fill_gap.new.self (filled-some _ _ _ _ _ answer held) c.miss.new.sink c.miss.new.decoder _
+          (c.in_ok-miss.ensures.plays mode frames f.turn next f.keeps) (c.in_ok-miss.ensures.keeps mode frames f.turn next f.keeps);
       few = λ some. c.in_ok-fill_gap.ensures.bounded (c.loop-turn.invariant.few some);
       places = λ some. c.in_ok-miss.ensures.sized _ (c.loop-turn.invariant.places some);
       format = c.in_ok-miss.ensures.format ∙ c.loop-turn.invariant.format;
@@ -87,22 +114,33 @@ pub returns-clause-plays : goal.returns-clause-plays
 returns-clause-plays g c =
     let e : c.loop-turn.turn ≡ c.args.gap.now.count = search rules in
     λ mode frames t next k.
-    let f = fills-whole mode c.args.gap.now.bit c.args.gap.now.numbering c.args.gap.now.count c.args.gap.now.prev_ref_frame_num c.args.held.now g.S.Elements.took g.S.Elements.failures frames t next c.args.sink.now c.loop-turn.turn c.loop-turn.last c.loop-turn.held c.loop-turn.sink c.loop-turn.decoder e (c.loop-turn.invariant.fills mode frames t next k) in
-    fills-last mode c.args.gap.now.bit c.args.gap.now.numbering c.args.gap.now.count c.args.gap.now.prev_ref_frame_num c.args.held.now g.S.Elements.took g.S.Elements.failures frames t next c.args.sink.now c.loop-turn.last c.loop-turn.held c.loop-turn.sink c.loop-turn.decoder f c.loop-turn.invariant.kept
+    let f = fills-whole mode c.args.gap.now.bit c.args.gap.now.numbering c.args.gap.now.count c.args.gap.now.prev_ref_frame_num c.args.held.now
+    g.S.Elements.took g.S.Elements.failures frames t next c.args.sink.now c.loop-turn.turn c.loop-turn.last c.loop-turn.held c.loop-turn.sink
+    c.loop-turn.decoder e (c.loop-turn.invariant.fills mode frames t next k) in
+    fills-last mode c.args.gap.now.bit c.args.gap.now.numbering c.args.gap.now.count c.args.gap.now.prev_ref_frame_num c.args.held.now g.S.Elements.took
+    g.S.Elements.failures frames t next c.args.sink.now c.loop-turn.last c.loop-turn.held c.loop-turn.sink c.loop-turn.decoder f
+    c.loop-turn.invariant.kept
 
 pub returns-clause-keeps : goal.returns-clause-keeps
 returns-clause-keeps g c =
     let e : c.loop-turn.turn ≡ c.args.gap.now.count = search rules in
     λ mode frames t next k.
-    let f = fills-whole mode c.args.gap.now.bit c.args.gap.now.numbering c.args.gap.now.count c.args.gap.now.prev_ref_frame_num c.args.held.now g.S.Elements.took g.S.Elements.failures frames t next c.args.sink.now c.loop-turn.turn c.loop-turn.last c.loop-turn.held c.loop-turn.sink c.loop-turn.decoder e (c.loop-turn.invariant.fills mode frames t next k) in
-    fills-kept mode c.args.gap.now.bit c.args.gap.now.numbering c.args.gap.now.count c.args.gap.now.prev_ref_frame_num c.args.held.now g.S.Elements.took g.S.Elements.failures frames t next c.args.sink.now c.loop-turn.last c.loop-turn.held c.loop-turn.sink c.loop-turn.decoder f
+    let f = fills-whole mode c.args.gap.now.bit c.args.gap.now.numbering c.args.gap.now.count c.args.gap.now.prev_ref_frame_num c.args.held.now
+    g.S.Elements.took g.S.Elements.failures frames t next c.args.sink.now c.loop-turn.turn c.loop-turn.last c.loop-turn.held c.loop-turn.sink
+    c.loop-turn.decoder e (c.loop-turn.invariant.fills mode frames t next k) in
+    fills-kept mode c.args.gap.now.bit c.args.gap.now.numbering c.args.gap.now.count c.args.gap.now.prev_ref_frame_num c.args.held.now g.S.Elements.took
+    g.S.Elements.failures frames t next c.args.sink.now c.loop-turn.last c.loop-turn.held c.loop-turn.sink c.loop-turn.decoder f
 
 pub returns-clause-last : goal.returns-clause-last
 returns-clause-last g c =
     let e : c.loop-turn.turn ≡ c.args.gap.now.count = search rules in
-    (filled-last c.args.gap.now.numbering c.args.gap.now.count c.args.gap.now.prev_ref_frame_num c.args.held.now c.loop-turn.last c.loop-turn.held (subst (λ t. Filled c.args.gap.now.numbering c.args.gap.now.count c.args.gap.now.prev_ref_frame_num c.args.held.now t c.loop-turn.last c.loop-turn.held) e c.loop-turn.invariant.filled)).1
+    (filled-last c.args.gap.now.numbering c.args.gap.now.count c.args.gap.now.prev_ref_frame_num c.args.held.now c.loop-turn.last c.loop-turn.held
+    (subst (λ t. Filled c.args.gap.now.numbering c.args.gap.now.count c.args.gap.now.prev_ref_frame_num c.args.held.now t c.loop-turn.last
+    c.loop-turn.held) e c.loop-turn.invariant.filled)).1
 
 pub returns-clause-held : goal.returns-clause-held
 returns-clause-held g c =
     let e : c.loop-turn.turn ≡ c.args.gap.now.count = search rules in
-    (filled-last c.args.gap.now.numbering c.args.gap.now.count c.args.gap.now.prev_ref_frame_num c.args.held.now c.loop-turn.last c.loop-turn.held (subst (λ t. Filled c.args.gap.now.numbering c.args.gap.now.count c.args.gap.now.prev_ref_frame_num c.args.held.now t c.loop-turn.last c.loop-turn.held) e c.loop-turn.invariant.filled)).0
+    (filled-last c.args.gap.now.numbering c.args.gap.now.count c.args.gap.now.prev_ref_frame_num c.args.held.now c.loop-turn.last c.loop-turn.held
+    (subst (λ t. Filled c.args.gap.now.numbering c.args.gap.now.count c.args.gap.now.prev_ref_frame_num c.args.held.now t c.loop-turn.last
+    c.loop-turn.held) e c.loop-turn.invariant.filled)).0

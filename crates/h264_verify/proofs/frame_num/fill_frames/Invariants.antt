@@ -11,7 +11,9 @@ use Rattle.h264_verify.proofs.frame_num.fill_frames.Given as goal
 abbrev pub invariant-loop-turn : goal.invariant-loop-turn
 invariant-loop-turn g l = record {
   filled : Filled l.gap.numbering l.gap.count l.gap.prev_ref_frame_num l.initial.held l.turn l.last l.held;
-  fills : (mode : Mode) (frames : ℕ → Frame) (t : Turn) (next : ℕ) → WhereMade mode (FillsFrames frames t next) l.initial.decoder → Fills mode l.gap.bit l.gap.numbering l.gap.count l.gap.prev_ref_frame_num l.initial.held g.S.Elements.took g.S.Elements.failures frames t next l.initial.sink (l.gap.count - l.turn) l.last l.held l.sink l.decoder;
+  fills : (mode : Mode) (frames : ℕ → Frame) (t : Turn) (next : ℕ) → WhereMade mode (FillsFrames frames t next) l.initial.decoder →
+      Fills mode l.gap.bit l.gap.numbering l.gap.count l.gap.prev_ref_frame_num l.initial.held g.S.Elements.took g.S.Elements.failures frames t next
+      l.initial.sink (l.gap.count - l.turn) l.last l.held l.sink l.decoder;
   few : 0 < l.gap.count → length l.held.frames ≤ frame_places l.gap.numbering.max_num_ref_frames;
   places : 0 < l.gap.count → HasPlaces (frame_places l.gap.numbering.max_num_ref_frames) l.decoder;
   format : format_in l.decoder ≡ format_in l.initial.decoder;

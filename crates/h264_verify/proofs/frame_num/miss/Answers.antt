@@ -15,7 +15,8 @@ pub miss-requires-clause-kept : goal.miss-requires-clause-kept
 miss-requires-clause-kept g c = some-filled _ _ c.in-Some.is c.requires.kept
 
 pub returns-in-None-clause-plays : goal.returns-in-None-clause-plays
-returns-in-None-clause-plays g c = λ mode frames t next k. rw (quiet-told mode _ (none-made _ mode _ c.in-None.is k)) (gives-plays _ _ (λ (x : Unit {0}). x) tt _)
+returns-in-None-clause-plays g c = λ mode frames t next k. rw (quiet-told mode _ (none-made _ mode _ c.in-None.is k))
+    (gives-plays _ _ (λ (x : Unit {0}). x) tt _)
 
 pub returns-in-None-clause-keeps : goal.returns-in-None-clause-keeps
 returns-in-None-clause-keeps g c = λ mode frames t next k. quiet-made _ mode _ c.in-None.is (none-made _ mode _ c.in-None.is k)

@@ -14,18 +14,30 @@ on-any (Ok x) p = p
 on-any (Err stop) p = tt
 
 pub returns-in-Err-clause-verdict : goal.returns-in-Err-clause-verdict
-returns-in-Err-clause-verdict g c = rw c.in-Err.ensures.err (λ bytes h frames. judges-judged (terms_of c.args.mode c.args.target) _ _ bytes frames _ _ _ (none-judged (terms_of c.args.mode c.args.target) _ _ bytes frames _))
+returns-in-Err-clause-verdict g c = rw c.in-Err.ensures.err
+    (λ bytes h frames. judges-judged (terms_of c.args.mode c.args.target) _ _ bytes frames _ _ _
+    (none-judged (terms_of c.args.mode c.args.target) _ _ bytes frames _))
 
 pub returns-in-Err-clause-some : goal.returns-in-Err-clause-some
-returns-in-Err-clause-some g c = rw c.in-Err.ensures.err ([], false, gives-none g.R.Source.left g.R.Source.gave g.R.Source.failures _, tt, λ frames. judges-judged (terms_of c.args.mode c.args.target) _ _ [] frames _ _ _ (none-judged (terms_of c.args.mode c.args.target) _ _ [] frames _))
+returns-in-Err-clause-some g c = rw c.in-Err.ensures.err (
+  [],
+  false,
+  gives-none g.R.Source.left g.R.Source.gave g.R.Source.failures _,
+  tt,
+  λ frames. judges-judged (terms_of c.args.mode c.args.target) _ _ [] frames _ _ _ (none-judged (terms_of c.args.mode c.args.target) _ _ [] frames _),
+)
 
 pub returns-in-Err-read_all-clause-verdict : goal.returns-in-Err-read_all-clause-verdict
-returns-in-Err-read_all-clause-verdict g c = λ bytes h frames. judges-judged (terms_of c.args.mode c.args.target) _ _ bytes frames _ _ _ (c.in-Err-read_all.ensures.stops (terms_of c.args.mode c.args.target) bytes _ (fed-first (terms_of c.args.mode c.args.target) _ _ bytes _ frames _ c.in-Ok.ensures.fresh h) refl)
+returns-in-Err-read_all-clause-verdict g c =
+    λ bytes h frames. judges-judged (terms_of c.args.mode c.args.target) _ _ bytes frames _ _ _
+    (c.in-Err-read_all.ensures.stops (terms_of c.args.mode c.args.target) bytes _
+    (fed-first (terms_of c.args.mode c.args.target) _ _ bytes _ frames _ c.in-Ok.ensures.fresh h) refl)
 
 pub returns-in-Err-read_all-clause-some : goal.returns-in-Err-read_all-clause-some
 returns-in-Err-read_all-clause-some g c =
     let s = c.in-Err-read_all.ensures.heard_stop in
-    let j = s.2 (terms_of c.args.mode c.args.target) [] _ (fed-first (terms_of c.args.mode c.args.target) _ _ [] _ (λ k. no_frame) _ c.in-Ok.ensures.fresh refl) refl in
+    let j = s.2 (terms_of c.args.mode c.args.target) [] _
+    (fed-first (terms_of c.args.mode c.args.target) _ _ [] _ (λ k. no_frame) _ c.in-Ok.ensures.fresh refl) refl in
     (s.0, false, s.1, tt, λ frames. judges-judged (terms_of c.args.mode c.args.target) _ _ s.0 frames _ _ _ j)
 
 pub returns-in-Ok-read_all-clause-read : goal.returns-in-Ok-read_all-clause-read
@@ -33,13 +45,25 @@ returns-in-Ok-read_all-clause-read g c = λ h. absurd (c.conclude.ensures.no_rea
 
 pub returns-in-Ok-read_all-clause-verdict : goal.returns-in-Ok-read_all-clause-verdict
 returns-in-Ok-read_all-clause-verdict g c = λ bytes h frames.
-    judges-judged (terms_of c.args.mode c.args.target) _ _ bytes frames _ _ _ (fed-last (terms_of c.args.mode c.args.target) _ _ (Some []) bytes _ _ _ _ _ _ _ refl refl (λ left same. cc) (c.in-Ok-read_all.ensures.fed (terms_of c.args.mode c.args.target) bytes _ (fed-first (terms_of c.args.mode c.args.target) _ _ bytes _ frames _ c.in-Ok.ensures.fresh h)) c.in-Ok-read_all.ensures.kept.1 c.conclude.ensures.finishes)
+    judges-judged (terms_of c.args.mode c.args.target) _ _ bytes frames _ _ _
+    (fed-last (terms_of c.args.mode c.args.target) _ _ (Some []) bytes _ _ _ _ _ _ _ refl refl (λ left same. cc)
+    (c.in-Ok-read_all.ensures.fed (terms_of c.args.mode c.args.target) bytes _
+    (fed-first (terms_of c.args.mode c.args.target) _ _ bytes _ frames _ c.in-Ok.ensures.fresh h)) c.in-Ok-read_all.ensures.kept.1
+    c.conclude.ensures.finishes)
 
 pub returns-in-Ok-read_all-clause-some : goal.returns-in-Ok-read_all-clause-some
 returns-in-Ok-read_all-clause-some g c =
     let s = c.in-Ok-read_all.ensures.heard in
-    let f = s.2 (terms_of c.args.mode c.args.target) [] _ (fed-first (terms_of c.args.mode c.args.target) _ _ [] _ (λ k. no_frame) _ c.in-Ok.ensures.fresh refl) in
-    (s.0, true, s.1, on-any _ refl, λ frames. judges-judged (terms_of c.args.mode c.args.target) _ _ s.0 frames _ _ _ (fed-last (terms_of c.args.mode c.args.target) _ _ (Some []) s.0 _ _ _ _ _ _ _ refl refl (λ left same. cc) f c.in-Ok-read_all.ensures.kept.1 c.conclude.ensures.finishes))
+    let f = s.2 (terms_of c.args.mode c.args.target) [] _
+    (fed-first (terms_of c.args.mode c.args.target) _ _ [] _ (λ k. no_frame) _ c.in-Ok.ensures.fresh refl) in (
+      s.0,
+      true,
+      s.1,
+      on-any _ refl,
+      λ frames. judges-judged (terms_of c.args.mode c.args.target) _ _ s.0 frames _ _ _
+          (fed-last (terms_of c.args.mode c.args.target) _ _ (Some []) s.0 _ _ _ _ _ _ _ refl refl (λ left same. cc) f c.in-Ok-read_all.ensures.kept.1
+          c.conclude.ensures.finishes),
+    )
 
 pub returns-in-Ok-read_all-clause-write : goal.returns-in-Ok-read_all-clause-write
 returns-in-Ok-read_all-clause-write g c = λ h. c.conclude.ensures.write h ∙ ap (λ n. n + 1) c.in-Ok-read_all.ensures.kept.1
@@ -67,7 +91,11 @@ pub returns-in-Err-read_all-clause-write_told : goal.returns-in-Err-read_all-cla
 returns-in-Err-read_all-clause-write_told g c = told-as _ c.in-Err-read_all.ensures.write_told
 
 pub returns-in-Err-read_all-clause-memory : goal.returns-in-Err-read_all-clause-memory
-returns-in-Err-read_all-clause-memory g c = λ h. (not-told _ Read read-not-memory (told-as _ c.in-Err-read_all.ensures.read_told) h, not-told _ Write write-not-memory (told-as _ c.in-Err-read_all.ensures.write_told) h)
+returns-in-Err-read_all-clause-memory g c =
+    λ h. (
+      not-told _ Read read-not-memory (told-as _ c.in-Err-read_all.ensures.read_told) h,
+      not-told _ Write write-not-memory (told-as _ c.in-Err-read_all.ensures.write_told) h,
+    )
 
 pub returns-in-Ok-read_all-clause-read_told : goal.returns-in-Ok-read_all-clause-read_told
 returns-in-Ok-read_all-clause-read_told g c = inl (quiet-source _ c.in-Ok-read_all.ensures.read_told)
@@ -76,4 +104,8 @@ pub returns-in-Ok-read_all-clause-write_told : goal.returns-in-Ok-read_all-claus
 returns-in-Ok-read_all-clause-write_told g c = told-after c.in-Ok-read_all.ensures.kept.1 c.conclude.ensures.write_told
 
 pub returns-in-Ok-read_all-clause-memory : goal.returns-in-Ok-read_all-clause-memory
-returns-in-Ok-read_all-clause-memory g c = λ h. (quiet-source _ c.in-Ok-read_all.ensures.read_told, not-told _ Write write-not-memory (told-after c.in-Ok-read_all.ensures.kept.1 c.conclude.ensures.write_told) h)
+returns-in-Ok-read_all-clause-memory g c =
+    λ h. (
+      quiet-source _ c.in-Ok-read_all.ensures.read_told,
+      not-told _ Write write-not-memory (told-after c.in-Ok-read_all.ensures.kept.1 c.conclude.ensures.write_told) h,
+    )

@@ -7,23 +7,35 @@ use Rattle.h264_verify.specs.Units.{terms_of}
 use Rattle.h264_verify.proofs.running.run_pieces.Goals as goal
 
 pub returns-in-Err-clause-verdict : goal.returns-in-Err-clause-verdict
-returns-in-Err-clause-verdict g c = rw c.in-Err.ensures.err (λ frames. judges-judged (terms_of c.args.mode c.args.target) _ _ _ frames _ _ _ (none-judged (terms_of c.args.mode c.args.target) _ _ _ frames _))
+returns-in-Err-clause-verdict g c = rw c.in-Err.ensures.err
+    (λ frames. judges-judged (terms_of c.args.mode c.args.target) _ _ _ frames _ _ _ (none-judged (terms_of c.args.mode c.args.target) _ _ _ frames _))
 
 pub loop-piece-init : goal.loop-piece-init
-loop-piece-init g c = record { goes = λ frames. goes-as (sym c.in-Ok.ensures.fresh.terms_is) (pieces-first (terms_of c.args.mode c.args.target) _ _ frames _ c.in-Ok.ensures.fresh); runs = c.in-Ok.ensures.fresh.stop; terms_is = refl; kept = refl }
+loop-piece-init g c = record {
+  goes = λ frames. goes-as (sym c.in-Ok.ensures.fresh.terms_is)
+      (pieces-first (terms_of c.args.mode c.args.target) _ _ frames _ c.in-Ok.ensures.fresh);
+  runs = c.in-Ok.ensures.fresh.stop;
+  terms_is = refl;
+  kept = refl;
+}
 
 pub returns-in-Err-advance-clause-verdict : goal.returns-in-Err-advance-clause-verdict
 returns-in-Err-advance-clause-verdict g c = λ frames.
     let inv = goes-as c.in-Ok.ensures.fresh.terms_is (c.loop-piece.invariant.goes frames) in
     let m = c.loop-piece.invariant.terms_is ∙ c.in-Ok.ensures.fresh.terms_is in
-    judges-judged (terms_of c.args.mode c.args.target) _ _ _ frames _ _ _ (pieces-halt _ _ _ _ (pieces-split-at (λ piece. piece.items) c.args.pieces.now c.loop-piece.piece-index c.piece-item.result _ c.loop-piece-test.true c.piece-item.is c.as_slice.ensures.value) inv c.loop-piece.invariant.kept (stops-as m (c.in-Err-advance.ensures.stops inv.made inv.after (keeps-as (sym m) inv.keeps))))
+    judges-judged (terms_of c.args.mode c.args.target) _ _ _ frames _ _ _
+    (pieces-halt _ _ _ _ (pieces-split-at (λ piece. piece.items) c.args.pieces.now c.loop-piece.piece-index c.piece-item.result _ c.loop-piece-test.true
+    c.piece-item.is c.as_slice.ensures.value) inv c.loop-piece.invariant.kept
+    (stops-as m (c.in-Err-advance.ensures.stops inv.made inv.after (keeps-as (sym m) inv.keeps))))
 
 pub loop-piece-preserved : goal.loop-piece-preserved
 loop-piece-preserved g c = record {
   goes = λ frames.
       let inv = c.loop-piece.invariant.goes frames in
-      let n = goes-as c.loop-piece.invariant.terms_is (c.in-Ok-advance.ensures.goes inv.made inv.after (keeps-as (sym c.loop-piece.invariant.terms_is) inv.keeps)) in
-      pieces-on (λ piece. piece.items) c.args.pieces.now c.loop-piece.piece-index c.piece-item.result _ c.loop-piece-test.true c.piece-item.is c.as_slice.ensures.value inv n;
+      let n = goes-as c.loop-piece.invariant.terms_is
+      (c.in-Ok-advance.ensures.goes inv.made inv.after (keeps-as (sym c.loop-piece.invariant.terms_is) inv.keeps)) in
+      pieces-on (λ piece. piece.items) c.args.pieces.now c.loop-piece.piece-index c.piece-item.result _ c.loop-piece-test.true c.piece-item.is
+      c.as_slice.ensures.value inv n;
   runs = c.in-Ok-advance.ensures.going;
   terms_is = c.in-Ok-advance.ensures.terms ∙ c.loop-piece.invariant.terms_is;
   kept = c.in-Ok-advance.ensures.kept ∙ c.loop-piece.invariant.kept;
@@ -34,7 +46,9 @@ returns-clause-verdict g c = λ frames.
     let inv = goes-as c.in-Ok.ensures.fresh.terms_is (c.loop-piece.invariant.goes frames) in
     let m = c.loop-piece.invariant.terms_is ∙ c.in-Ok.ensures.fresh.terms_is in
     let n : c.loop-piece.piece-index ≡ length c.args.pieces.now = omega arith in
-    judges-judged (terms_of c.args.mode c.args.target) _ _ _ frames _ _ _ (pieces-end (λ piece. piece.items) c.args.pieces.now c.loop-piece.piece-index n inv c.loop-piece.invariant.kept (finishes-as m (c.conclude.ensures.finishes inv.made inv.after (keeps-as (sym m) inv.keeps))))
+    judges-judged (terms_of c.args.mode c.args.target) _ _ _ frames _ _ _
+    (pieces-end (λ piece. piece.items) c.args.pieces.now c.loop-piece.piece-index n inv c.loop-piece.invariant.kept
+    (finishes-as m (c.conclude.ensures.finishes inv.made inv.after (keeps-as (sym m) inv.keeps))))
 
 pub returns-in-Err-advance-clause-no_read : goal.returns-in-Err-advance-clause-no_read
 returns-in-Err-advance-clause-no_read g c = λ h. c.in-Err-advance.ensures.no_read (err-as _ _ h)

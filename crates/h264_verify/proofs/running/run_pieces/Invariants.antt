@@ -9,7 +9,8 @@ use Rattle.h264_verify.proofs.running.run_pieces.Given as goal
 
 abbrev pub invariant-loop-piece : goal.invariant-loop-piece
 invariant-loop-piece g l = record {
-  goes : (frames : ℕ → Frame) → GoesOn l.initial.session.terms (frame_span g.S.Elements.took g.S.Elements.failures frames l.initial.sink l.sink) (stretch (standing_after at_start []) (standing l.session.split l.session.state) (flat_map (λ piece. piece.items) (take l.piece-index l.pieces)) []);
+  goes : (frames : ℕ → Frame) → GoesOn l.initial.session.terms (frame_span g.S.Elements.took g.S.Elements.failures frames l.initial.sink l.sink)
+      (stretch (standing_after at_start []) (standing l.session.split l.session.state) (flat_map (λ piece. piece.items) (take l.piece-index l.pieces)) []);
   runs : l.session.stop ≡ None;
   terms_is : l.session.terms ≡ l.initial.session.terms;
   kept : g.S.Elements.failures l.sink ≡ g.S.Elements.failures l.initial.sink;

@@ -26,7 +26,11 @@ returns-in-Err g c = record {
   stops = λ terms bytes first f k. fed-fails f k;
   heard = tt;
   heard_end = tt;
-  heard_stop = ([], gives-failed g.R.Source.left g.R.Source.gave g.R.Source.failures _ _ c.in-Err.ensures.gave_failed c.in-Err.ensures.failed, λ terms bytes first f k. heard-fails f k);
+  heard_stop = (
+    [],
+    gives-failed g.R.Source.left g.R.Source.gave g.R.Source.failures _ _ c.in-Err.ensures.gave_failed c.in-Err.ensures.failed,
+    λ terms bytes first f k. heard-fails f k,
+  );
   kept = tt;
   again = c.read.ensures.again;
   read = λ h. c.in-Err.ensures.failed;
@@ -41,7 +45,12 @@ returns-in-Ok-None g c = record {
   more = λ h terms bytes first f. fed-again _ (rw c.in-Ok-None.field-0-is at c.in-Ok-None.ensures.interrupted) f;
   end = λ h. absurd (true-not-false h);
   stops = tt;
-  heard = λ h. ([], gives-interrupted g.R.Source.left g.R.Source.gave g.R.Source.failures _ _ (rw c.in-Ok-None.field-0-is at c.in-Ok-None.ensures.gave_none) (rw c.in-Ok-None.field-0-is at c.in-Ok-None.ensures.interrupted), λ terms bytes first f. heard-none f);
+  heard = λ h. (
+    [],
+    gives-interrupted g.R.Source.left g.R.Source.gave g.R.Source.failures _ _ (rw c.in-Ok-None.field-0-is at c.in-Ok-None.ensures.gave_none)
+        (rw c.in-Ok-None.field-0-is at c.in-Ok-None.ensures.interrupted),
+    λ terms bytes first f. heard-none f,
+  );
   heard_end = λ h. absurd (true-not-false h);
   heard_stop = tt;
   kept = (c.requires.runs, refl, c.in-Ok-None.ensures.kept);
@@ -59,10 +68,18 @@ returns-in_err-advance-in-Ok-Some g c =
     rw (p.1, p.2) (record {
       more = tt;
       end = tt;
-      stops = λ terms bytes first f k. fed-halts (g.R.Source.left c.read.new.self) c.read.new.piece c.in-Ok-Some.n (rw c.in-Ok-Some.field-0-is at c.in-Ok-Some.ensures.bytes) f k (rw c.front.ensures at (c.in_err-advance-in-Ok-Some.ensures.stops f.frames f.after f.keeps));
+      stops = λ terms bytes first f k. fed-halts (g.R.Source.left c.read.new.self) c.read.new.piece c.in-Ok-Some.n
+          (rw c.in-Ok-Some.field-0-is at c.in-Ok-Some.ensures.bytes) f k
+          (rw c.front.ensures at (c.in_err-advance-in-Ok-Some.ensures.stops f.frames f.after f.keeps));
       heard = tt;
       heard_end = tt;
-      heard_stop = (take c.in-Ok-Some.n c.read.new.piece, gives-piece g.R.Source.left g.R.Source.gave g.R.Source.failures _ _ c.read.new.piece c.in-Ok-Some.n (rw c.in-Ok-Some.field-0-is at c.in-Ok-Some.ensures.gave) (rw c.in-Ok-Some.field-0-is at c.in-Ok-Some.ensures.bytes) c.if-n-eq0.false, λ terms bytes first f k. heard-halts c.read.new.piece c.in-Ok-Some.n f k (rw c.front.ensures at (c.in_err-advance-in-Ok-Some.ensures.stops f.frames f.after f.keeps)));
+      heard_stop = (
+        take c.in-Ok-Some.n c.read.new.piece,
+        gives-piece g.R.Source.left g.R.Source.gave g.R.Source.failures _ _ c.read.new.piece c.in-Ok-Some.n
+            (rw c.in-Ok-Some.field-0-is at c.in-Ok-Some.ensures.gave) (rw c.in-Ok-Some.field-0-is at c.in-Ok-Some.ensures.bytes) c.if-n-eq0.false,
+        λ terms bytes first f k. heard-halts c.read.new.piece c.in-Ok-Some.n f k
+            (rw c.front.ensures at (c.in_err-advance-in-Ok-Some.ensures.stops f.frames f.after f.keeps)),
+      );
       kept = tt;
       again = c.read.ensures.again;
       read = λ h. absurd (c.in_err-advance-in-Ok-Some.ensures.no_read (err-as _ _ h));
@@ -74,10 +91,17 @@ returns-in_err-advance-in-Ok-Some g c =
 
 pub returns-in_ok-advance-in-Ok-Some : goal.returns-in_ok-advance-in-Ok-Some
 returns-in_ok-advance-in-Ok-Some g c = record {
-  more = λ h terms bytes first f. fed-more (g.R.Source.left c.read.new.self) c.read.new.piece c.in-Ok-Some.n c.in_ok-advance-in-Ok-Some.ensures.terms (rw c.in-Ok-Some.field-0-is at c.in-Ok-Some.ensures.bytes) f (rw c.front.ensures at (c.in_ok-advance-in-Ok-Some.ensures.goes f.frames f.after f.keeps));
+  more = λ h terms bytes first f. fed-more (g.R.Source.left c.read.new.self) c.read.new.piece c.in-Ok-Some.n c.in_ok-advance-in-Ok-Some.ensures.terms
+      (rw c.in-Ok-Some.field-0-is at c.in-Ok-Some.ensures.bytes) f (rw c.front.ensures at (c.in_ok-advance-in-Ok-Some.ensures.goes f.frames f.after f.keeps));
   end = λ h. absurd (true-not-false h);
   stops = tt;
-  heard = λ h. (take c.in-Ok-Some.n c.read.new.piece, gives-piece g.R.Source.left g.R.Source.gave g.R.Source.failures _ _ c.read.new.piece c.in-Ok-Some.n (rw c.in-Ok-Some.field-0-is at c.in-Ok-Some.ensures.gave) (rw c.in-Ok-Some.field-0-is at c.in-Ok-Some.ensures.bytes) c.if-n-eq0.false, λ terms bytes first f. heard-more c.read.new.piece c.in-Ok-Some.n c.in_ok-advance-in-Ok-Some.ensures.terms f (rw c.front.ensures at (c.in_ok-advance-in-Ok-Some.ensures.goes f.frames f.after f.keeps)));
+  heard = λ h. (
+    take c.in-Ok-Some.n c.read.new.piece,
+    gives-piece g.R.Source.left g.R.Source.gave g.R.Source.failures _ _ c.read.new.piece c.in-Ok-Some.n
+        (rw c.in-Ok-Some.field-0-is at c.in-Ok-Some.ensures.gave) (rw c.in-Ok-Some.field-0-is at c.in-Ok-Some.ensures.bytes) c.if-n-eq0.false,
+    λ terms bytes first f. heard-more c.read.new.piece c.in-Ok-Some.n c.in_ok-advance-in-Ok-Some.ensures.terms f
+        (rw c.front.ensures at (c.in_ok-advance-in-Ok-Some.ensures.goes f.frames f.after f.keeps)),
+  );
   heard_end = λ h. absurd (true-not-false h);
   heard_stop = tt;
   kept = (c.in_ok-advance-in-Ok-Some.ensures.going, c.in_ok-advance-in-Ok-Some.ensures.kept, c.in-Ok-Some.ensures.kept);
@@ -91,4 +115,6 @@ returns-in_ok-advance-in-Ok-Some g c = record {
 
 pub returns-then-n-eq0-clause-heard_end : goal.returns-then-n-eq0-clause-heard_end
 returns-then-n-eq0-clause-heard_end g c = λ h.
-    gives-end g.R.Source.left g.R.Source.gave g.R.Source.failures _ _ c.read.new.piece c.in-Ok-Some.n (rw c.in-Ok-Some.field-0-is at c.in-Ok-Some.ensures.gave) (rw c.in-Ok-Some.field-0-is at c.in-Ok-Some.ensures.bytes) c.if-n-eq0.true (rw c.in-Ok-Some.field-0-is at c.in-Ok-Some.ensures.end)
+    gives-end g.R.Source.left g.R.Source.gave g.R.Source.failures _ _ c.read.new.piece c.in-Ok-Some.n
+    (rw c.in-Ok-Some.field-0-is at c.in-Ok-Some.ensures.gave) (rw c.in-Ok-Some.field-0-is at c.in-Ok-Some.ensures.bytes) c.if-n-eq0.true
+    (rw c.in-Ok-Some.field-0-is at c.in-Ok-Some.ensures.end)

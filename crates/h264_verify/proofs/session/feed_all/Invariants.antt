@@ -10,7 +10,9 @@ use Rattle.h264_verify.proofs.session.feed_all.Given as goal
 
 abbrev pub invariant-loop-rest : goal.invariant-loop-rest
 invariant-loop-rest g l = record {
-  goes : (frames : ℕ → Frame) (before : History) → Keeps l.terms.mode frames before l.initial.state → GoesOn l.terms (frame_span g.S.Elements.took g.S.Elements.failures frames l.initial.sink l.sink) (stretch (standing_after l.initial.splitter before) (standing l.splitter l.state) l.piece l.rest);
+  goes : (frames : ℕ → Frame) (before : History) → Keeps l.terms.mode frames before l.initial.state →
+      GoesOn l.terms (frame_span g.S.Elements.took g.S.Elements.failures frames l.initial.sink l.sink)
+      (stretch (standing_after l.initial.splitter before) (standing l.splitter l.state) l.piece l.rest);
   undecided : IsUndecided l.initial.splitter.rest → IsUndecided l.splitter.rest;
   runs : (l.splitter.stop ≡ None) × IsFalse l.splitter.waiting × IsFalse l.splitter.ended;
   counted : l.state.units ≤ l.splitter.at;

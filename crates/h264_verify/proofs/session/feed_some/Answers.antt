@@ -16,7 +16,11 @@ returns-in_err-n g c =
       pictures = tt;
       undecided = tt;
       kept = tt;
-      stops = λ frames before k. record { made = frames; same = agree-none _ frames; stops = stops-push (judging c.args.terms) _ _ _ _ _ _ _ _ (c.in_err-n.ensures.err c.requires.runs.0) };
+      stops = λ frames before k. record {
+        made = frames;
+        same = agree-none _ frames;
+        stops = stops-push (judging c.args.terms) _ _ _ _ _ _ _ _ (c.in_err-n.ensures.err c.requires.runs.0);
+      };
     })
 
 pub returns-in-None-clause-goes : goal.returns-in-None-clause-goes
@@ -47,8 +51,18 @@ returns-in_err-judge_next-in-Some g c =
       pictures = tt;
       undecided = tt;
       kept = tt;
-      stops = λ frames before k. let t = c.in_err-judge_next-in-Some.ensures.turns frames before k in record { made = t.made; same = t.same; stops = stops-after (judging c.args.terms) _ _ _ _ _ _ _ _ _ _ (goes-push (judging c.args.terms) _ _ _ _ _ _ _ c.in_ok-n.ensures.ok) refl (stops-unit (judging c.args.terms) _ _ (λ x. t.after) _ c.take_unit.new.self _ _ _ _ _ _ c.in-Some.ensures.some (c.in_ok-n.ensures.ok.ended_is ∙ c.requires.runs.2) (λ e. c.in_err-judge_next-in-Some.ensures.no_memory frames before k (ap Err e)) t.plays) };
+      stops = λ frames before k. let t = c.in_err-judge_next-in-Some.ensures.turns frames before k in
+          record {
+            made = t.made;
+            same = t.same;
+            stops =
+                stops-after (judging c.args.terms) _ _ _ _ _ _ _ _ _ _ (goes-push (judging c.args.terms) _ _ _ _ _ _ _ c.in_ok-n.ensures.ok) refl
+                (stops-unit (judging c.args.terms) _ _ (λ x. t.after) _ c.take_unit.new.self _ _ _ _ _ _ c.in-Some.ensures.some
+                (c.in_ok-n.ensures.ok.ended_is ∙ c.requires.runs.2) (λ e. c.in_err-judge_next-in-Some.ensures.no_memory frames before k (ap Err e)) t.plays);
+          };
     })
 
 pub returns-in_ok-judge_next-in-Some-clause-goes : goal.returns-in_ok-judge_next-in-Some-clause-goes
-returns-in_ok-judge_next-in-Some-clause-goes g c = λ frames before k. on-unit c.in_ok-n.ensures.ok c.in-Some.ensures.some (c.in_ok-n.ensures.ok.ended_is ∙ c.requires.runs.2) (c.in_ok-judge_next-in-Some.ensures.turns frames before k)
+returns-in_ok-judge_next-in-Some-clause-goes g c =
+    λ frames before k. on-unit c.in_ok-n.ensures.ok c.in-Some.ensures.some (c.in_ok-n.ensures.ok.ended_is ∙ c.requires.runs.2)
+    (c.in_ok-judge_next-in-Some.ensures.turns frames before k)

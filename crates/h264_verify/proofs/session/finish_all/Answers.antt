@@ -20,7 +20,13 @@ pub returns-in-None : goal.returns-in-None
 returns-in-None g c = record {
   finishes = λ frames before k.
       let e = rw c.length.ensures.value at (c.judge_end.ensures.ends frames before k) in
-      record { made = e.made; same = e.same; finishes = finish-end (judging c.args.terms) _ _ _ _ _ _ _ _ (_) _ c.in_ok-finish.ensures.ok (not-waiting _ c.in-None.ensures.when) c.in-None.ensures.none refl c.judge_end.ensures.no_memory e.plays };
+      record {
+        made = e.made;
+        same = e.same;
+        finishes =
+            finish-end (judging c.args.terms) _ _ _ _ _ _ _ _ (_) _ c.in_ok-finish.ensures.ok (not-waiting _ c.in-None.ensures.when) c.in-None.ensures.none refl
+            c.judge_end.ensures.no_memory e.plays;
+      };
   memory = λ e. absurd (c.judge_end.ensures.no_memory e);
 }
 
@@ -38,14 +44,23 @@ returns-in_err-judge_next-in-Some g c =
     rw (p.1, p.2) (record {
       finishes = λ frames before k.
           let t = c.in_err-judge_next-in-Some.ensures.turns frames before k in
-          record { made = t.made; same = t.same; finishes = finish-unit-stops (judging c.args.terms) _ _ (λ x. t.after) _ _ c.take_unit.new.self _ _ _ _ _ c.in_ok-finish.ensures.ok c.in-Some.ensures.some (λ e. c.in_err-judge_next-in-Some.ensures.no_memory frames before k (ap Err e)) t.plays };
-      memory = λ e. let k = c.requires.keeps in last-read _ _ _ _ _ c.in_ok-finish.ensures.ok c.in-Some.ensures.some (changes-read _ _ _ (c.in_err-judge_next-in-Some.ensures.no_memory k.frames k.before k.keeps (ap Err (same-stop _ Memory e))));
+          record {
+            made = t.made;
+            same = t.same;
+            finishes =
+                finish-unit-stops (judging c.args.terms) _ _ (λ x. t.after) _ _ c.take_unit.new.self _ _ _ _ _ c.in_ok-finish.ensures.ok c.in-Some.ensures.some
+                (λ e. c.in_err-judge_next-in-Some.ensures.no_memory frames before k (ap Err e)) t.plays;
+          };
+      memory = λ e. let k = c.requires.keeps in
+          last-read _ _ _ _ _ c.in_ok-finish.ensures.ok c.in-Some.ensures.some
+          (changes-read _ _ _ (c.in_err-judge_next-in-Some.ensures.no_memory k.frames k.before k.keeps (ap Err (same-stop _ Memory e))));
     })
 
 pub returns-in_ok-judge_next-in-Some : goal.returns-in_ok-judge_next-in-Some
 returns-in_ok-judge_next-in-Some g c = record {
   finishes = λ frames before k.
       let t = c.in_ok-judge_next-in-Some.ensures.turns frames before k in
-      finishes-both _ _ c.take_unit.new.self _ c.in_ok-finish.ensures.ok c.in-Some.ensures.some refl refl c.judge_end-in-Some.ensures.no_memory t (rw c.length-in-Some.ensures.value at (c.judge_end-in-Some.ensures.ends t.made t.after t.keeps));
+      finishes-both _ _ c.take_unit.new.self _ c.in_ok-finish.ensures.ok c.in-Some.ensures.some refl refl c.judge_end-in-Some.ensures.no_memory t
+      (rw c.length-in-Some.ensures.value at (c.judge_end-in-Some.ensures.ends t.made t.after t.keeps));
   memory = λ e. absurd (c.judge_end-in-Some.ensures.no_memory e);
 }

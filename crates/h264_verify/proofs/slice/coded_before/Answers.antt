@@ -4,4 +4,5 @@ use Rattle.h264_verify.proofs.Coded.{coded-before}
 use Rattle.h264_verify.proofs.slice.coded_before.Goals as goal
 
 pub returns : goal.returns
-returns c = λ pictures k. coded-before pictures c.args.work.now _ c.next_mb.ensures (subst (λ (b : Bool). HoldsNewest b pictures c.args.work.now) c.if-begins.false k) ∙ ap (λ (b : Bool). coded_before b pictures) (sym c.if-begins.false)
+returns c = λ pictures k. coded-before pictures c.args.work.now _ c.next_mb.ensures
+    (subst (λ (b : Bool). HoldsNewest b pictures c.args.work.now) c.if-begins.false k) ∙ ap (λ (b : Bool). coded_before b pictures) (sym c.if-begins.false)

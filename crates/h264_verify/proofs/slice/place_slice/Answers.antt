@@ -21,7 +21,8 @@ on-err (Ok x) P f = tt
 on-err (Err e) P f = f e refl
 
 pub close_if-requires-clause-kept : goal.close_if-requires-clause-kept
-close_if-requires-clause-kept g c = let k = c.requires.kept in record { mode = k.mode; frames = k.frames; before = k.before; slices_are = k.slices_are; keeps = k.keeps }
+close_if-requires-clause-kept g c = let k = c.requires.kept in
+    record { mode = k.mode; frames = k.frames; before = k.before; slices_are = k.slices_are; keeps = k.keeps }
 
 pub returns-in_err-close_if : goal.returns-in_err-close_if
 returns-in_err-close_if g c =
@@ -31,7 +32,13 @@ returns-in_err-close_if g c =
       refused = λ mode frames before named k m w d.
           let b = begins-as before h c.args.state.now.slices _ k c.requires.begins in
           let e = c.in_err-close_if.ensures.closes mode frames before k d in
-          record { made = e.made; same = e.same; plays = closed-stop (took_with e.made g.S.Elements.took) g.S.Elements.failures mode before c.args.unit.now h c.args.begins b _ _ _ e.plays; enters = tt };
+          record {
+            made = e.made;
+            same = e.same;
+            plays =
+                closed-stop (took_with e.made g.S.Elements.took) g.S.Elements.failures mode before c.args.unit.now h c.args.begins b _ _ _ e.plays;
+            enters = tt;
+          };
       placed = λ mode frames before k d. tt;
       sets = tt;
       named = tt;
@@ -57,7 +64,8 @@ returns-in_err-check_standing g c =
             made = e.made;
             same = e.same;
             plays = closed-on (took_with e.made g.S.Elements.took) g.S.Elements.failures mode before c.args.unit.now h c.args.begins b _ _ _ _ _ e.plays
-                (standing-stop (took_with e.made g.S.Elements.took) g.S.Elements.failures mode before c.args.unit.now h c.args.begins b _ c.args.state.now.sets kept.due m named w _ _ broken);
+                (standing-stop (took_with e.made g.S.Elements.took) g.S.Elements.failures mode before c.args.unit.now h c.args.begins b _
+                c.args.state.now.sets kept.due m named w _ _ broken);
             enters = tt;
           };
       placed = λ mode frames before k d. tt;
@@ -81,19 +89,24 @@ returns g c =
           let kept = c.in_ok-close_if.ensures.ended before k in
           let e = c.in_ok-close_if.ensures.closes mode frames before k d in
           let stands = rw c.from-bit.ensures.value at (c.in_ok-check_standing.ensures.judged named w) in
-          let first = c.check_first_mb.ensures.judged mode (runs_of before) (before-held mode e.made (goes_on before) c.args.begins (runs_of before) h c.close_if.new.decoder b e.keeps) in
-          on-err r (λ (x : Result (Unit {0}) Stop). JudgesSlice mode (frame_span g.S.Elements.took g.S.Elements.failures frames c.args.sink.now c.close_if.new.sink) (slice_after before c.args.unit.now h c.args.begins) named c.close_if.new.decoder x)
+          let first = c.check_first_mb.ensures.judged mode (runs_of before)
+          (before-held mode e.made (goes_on before) c.args.begins (runs_of before) h c.close_if.new.decoder b e.keeps) in
+          on-err r (λ (x : Result (Unit {0}) Stop). JudgesSlice mode
+          (frame_span g.S.Elements.took g.S.Elements.failures frames c.args.sink.now c.close_if.new.sink)
+          (slice_after before c.args.unit.now h c.args.begins) named c.close_if.new.decoder x)
           (λ stop broken. record {
             made = e.made;
             same = e.same;
             plays = closed-on (took_with e.made g.S.Elements.took) g.S.Elements.failures mode before c.args.unit.now h c.args.begins b _ _ _ _ _ e.plays
-                (place-stop (took_with e.made g.S.Elements.took) g.S.Elements.failures mode before c.args.unit.now h c.args.begins b _ c.args.state.now.sets kept.due m named w _ stands _ _ (broken ∙ first));
+                (place-stop (took_with e.made g.S.Elements.took) g.S.Elements.failures mode before c.args.unit.now h c.args.begins b _ c.args.state.now.sets
+                kept.due m named w _ stands _ _ (broken ∙ first));
             enters = tt;
           });
       placed = λ mode frames before k d.
           let b = begins-as before h c.args.state.now.slices _ k c.requires.begins in
           let e = c.in_ok-close_if.ensures.closes mode frames before k d in
-          let first = c.check_first_mb.ensures.judged mode (runs_of before) (before-held mode e.made (goes_on before) c.args.begins (runs_of before) h c.close_if.new.decoder b e.keeps) in
+          let first = c.check_first_mb.ensures.judged mode (runs_of before)
+          (before-held mode e.made (goes_on before) c.args.begins (runs_of before) h c.close_if.new.decoder b e.keeps) in
           on-ok r (λ well. record {
             closes = e;
             ended = c.in_ok-close_if.ensures.ended before k;

@@ -61,7 +61,8 @@ returns-in_err-check_idr_num g c =
           let count = count_demand (picture_of c.args.head.now.place.sps.now c.args.head.now.header.now ∷ pictures) (8 * c.args.head.now.place.unit.now.from) in
           let qp = qp_demand c.args.head.now.place.pps.now c.args.head.now.header.now in
           let list = list_demand (list_of c.args.head.now.header.now.kind.value n (entered idr prev n c.args.slices.now.held)) in
-          at-second (took_with frames g.S.Elements.took) g.S.Elements.failures type num gap id count qp list c.args.sink.now _ c.in_ok-check_type.ensures _ c.in_err-check_idr_num.ensures;
+          at-second (took_with frames g.S.Elements.took) g.S.Elements.failures type num gap id count qp list c.args.sink.now _ c.in_ok-check_type.ensures _
+          c.in_err-check_idr_num.ensures;
       gap = λ mode frames t next k. tt;
       no_memory = no-memory _ _ _ _ c.in_err-check_idr_num.ensures;
       format = refl;
@@ -91,7 +92,8 @@ returns-in_err-check_gap g c =
           let count = count_demand (picture_of c.args.head.now.place.sps.now c.args.head.now.header.now ∷ pictures) (8 * c.args.head.now.place.unit.now.from) in
           let qp = qp_demand c.args.head.now.place.pps.now c.args.head.now.header.now in
           let list = list_demand (list_of c.args.head.now.header.now.kind.value n (entered idr prev n c.args.slices.now.held)) in
-          at-between (took_with frames g.S.Elements.took) g.S.Elements.failures type num gap id count qp list c.args.sink.now _ c.in_ok-check_type.ensures _ c.in_ok-check_idr_num.ensures _ _ (c.in_err-check_gap.ensures.plays mode frames t next k);
+          at-between (took_with frames g.S.Elements.took) g.S.Elements.failures type num gap id count qp list c.args.sink.now _ c.in_ok-check_type.ensures _
+          c.in_ok-check_idr_num.ensures _ _ (c.in_err-check_gap.ensures.plays mode frames t next k);
       gap = λ mode frames t next k. tt;
       no_memory = c.in_err-check_gap.ensures.no_memory;
       format = c.in_err-check_gap.ensures.format;
@@ -107,11 +109,14 @@ returns-in_err-check_gap g c =
     })
 
 -- what is kept of the slices, but for frame_num and the held frames
-others-of : (old new : Slices) (prev : ℕ) (held : References) → new ≡ record old { counts = new.counts; count = new.count; prev_ref_frame_num = prev; held = held } → new ≡ record old { counts = new.counts; count = new.count; prev_ref_frame_num = new.prev_ref_frame_num; held = new.held }
+others-of : (old new : Slices) (prev : ℕ) (held : References) → new ≡
+    record old { counts = new.counts; count = new.count; prev_ref_frame_num = prev; held = held } →
+    new ≡ record old { counts = new.counts; count = new.count; prev_ref_frame_num = new.prev_ref_frame_num; held = new.held }
 others-of old new prev held e =
     let p : new.prev_ref_frame_num ≡ prev = ap (λ (s : Slices). s.prev_ref_frame_num) e in
     let h : new.held ≡ held = ap (λ (s : Slices). s.held) e in
-    e ∙ ap (λ (x : ℕ). record old { counts = new.counts; count = new.count; prev_ref_frame_num = x; held = held }) (sym p) ∙ ap (λ (x : References). record old { counts = new.counts; count = new.count; prev_ref_frame_num = new.prev_ref_frame_num; held = x }) (sym h)
+    e ∙ ap (λ (x : ℕ). record old { counts = new.counts; count = new.count; prev_ref_frame_num = x; held = held }) (sym p) ∙
+    ap (λ (x : References). record old { counts = new.counts; count = new.count; prev_ref_frame_num = new.prev_ref_frame_num; held = x }) (sym h)
 
 pub returns : goal.returns
 returns g c =
@@ -129,7 +134,9 @@ returns g c =
           let count = count_demand (picture_of c.args.head.now.place.sps.now c.args.head.now.header.now ∷ pictures) (8 * c.args.head.now.place.unit.now.from) in
           let qp = qp_demand c.args.head.now.place.pps.now c.args.head.now.header.now in
           let list = list_demand (list_of c.args.head.now.header.now.kind.value n (entered idr prev n c.args.slices.now.held)) in
-          after-between (took_with frames g.S.Elements.took) g.S.Elements.failures type num gap id count qp list c.args.sink.now _ c.in_ok-check_type.ensures _ c.in_ok-check_idr_num.ensures _ _ _ (c.in_ok-check_gap.ensures.plays mode frames t next k) (rw c.in_ok-check_gap.ensures.held at (c.check_new_picture.ensures.judged pictures kept));
+          after-between (took_with frames g.S.Elements.took) g.S.Elements.failures type num gap id count qp list c.args.sink.now _ c.in_ok-check_type.ensures
+          _ c.in_ok-check_idr_num.ensures _ _ _ (c.in_ok-check_gap.ensures.plays mode frames t next k)
+          (rw c.in_ok-check_gap.ensures.held at (c.check_new_picture.ensures.judged pictures kept));
       gap = λ mode frames t next k. ok-any r (c.in_ok-check_gap.ensures.keeps mode frames t next k);
       no_memory = c.check_new_picture.ensures.no_memory;
       format = c.in_ok-check_gap.ensures.format;
@@ -140,6 +147,7 @@ returns g c =
       typed = ok-any r (type-met c.args.head.now.place.sps.now c.args.head.now.header.now _ c.in_ok-check_type.ensures);
       prev = ok-any r (ap (λ (s : Slices). s.prev_ref_frame_num) same ∙ c.in_ok-check_gap.ensures.prev);
       others = others-of c.args.slices.now _ _ _ same;
-      list = subst (λ (s : Slices). OnOk r (list_of c.args.head.now.header.now.kind.value c.args.head.now.numbering s.held ≡ Ok c.check_new_picture.new.list.items)) (sym same) c.check_new_picture.ensures.list;
+      list = subst (λ (s : Slices). OnOk r (list_of c.args.head.now.header.now.kind.value c.args.head.now.numbering s.held ≡
+          Ok c.check_new_picture.new.list.items)) (sym same) c.check_new_picture.ensures.list;
       kept = ok-any r c.in_ok-check_gap.ensures.kept;
     }

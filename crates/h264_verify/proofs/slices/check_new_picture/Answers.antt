@@ -16,7 +16,8 @@ returns-in_err-check_id c =
           let id = id_demand c.args.slices.now.newest_idr c.args.head.now.header.now in
           let count = count_demand (picture_of c.args.head.now.place.sps.now c.args.head.now.header.now ∷ pictures) (8 * c.args.head.now.place.unit.now.from) in
           let qp = qp_demand c.args.head.now.place.pps.now c.args.head.now.header.now in
-          let list = list_demand (list_of c.args.head.now.header.now.kind.value (numbering_of c.args.head.now.place.sps.now c.args.head.now.header.now) c.args.slices.now.held) in
+          let list = list_demand (list_of c.args.head.now.header.now.kind.value (numbering_of c.args.head.now.place.sps.now c.args.head.now.header.now)
+          c.args.slices.now.held) in
           stop-one id (count ∷ qp ∷ list ∷ []) _ c.in_err-check_id.ensures;
       no_memory = no-memory _ _ _ _ c.in_err-check_id.ensures;
       counts = λ pictures k. tt;
@@ -33,8 +34,10 @@ returns-in_err-count_picture c =
           let id = id_demand c.args.slices.now.newest_idr c.args.head.now.header.now in
           let count = count_demand (picture_of c.args.head.now.place.sps.now c.args.head.now.header.now ∷ pictures) (8 * c.args.head.now.place.unit.now.from) in
           let qp = qp_demand c.args.head.now.place.pps.now c.args.head.now.header.now in
-          let list = list_demand (list_of c.args.head.now.header.now.kind.value (numbering_of c.args.head.now.place.sps.now c.args.head.now.header.now) c.args.slices.now.held) in
-          pass-one id (count ∷ qp ∷ list ∷ []) _ _ c.in_ok-check_id.ensures (stop-one count (qp ∷ list ∷ []) _ (rw c.from-bit.ensures.value at (c.in_err-count_picture.ensures.judged pictures kept)));
+          let list = list_demand (list_of c.args.head.now.header.now.kind.value (numbering_of c.args.head.now.place.sps.now c.args.head.now.header.now)
+          c.args.slices.now.held) in
+          pass-one id (count ∷ qp ∷ list ∷ []) _ _ c.in_ok-check_id.ensures
+          (stop-one count (qp ∷ list ∷ []) _ (rw c.from-bit.ensures.value at (c.in_err-count_picture.ensures.judged pictures kept)));
       no_memory = c.in_err-count_picture.ensures.no_memory;
       counts = λ pictures k. tt;
       count = λ pictures k. tt;
@@ -50,8 +53,11 @@ returns-in_err-check_qp c =
           let id = id_demand c.args.slices.now.newest_idr c.args.head.now.header.now in
           let count = count_demand (picture_of c.args.head.now.place.sps.now c.args.head.now.header.now ∷ pictures) (8 * c.args.head.now.place.unit.now.from) in
           let qp = qp_demand c.args.head.now.place.pps.now c.args.head.now.header.now in
-          let list = list_demand (list_of c.args.head.now.header.now.kind.value (numbering_of c.args.head.now.place.sps.now c.args.head.now.header.now) c.args.slices.now.held) in
-          pass-one id (count ∷ qp ∷ list ∷ []) _ _ c.in_ok-check_id.ensures (pass-one count (qp ∷ list ∷ []) _ _ (rw c.from-bit.ensures.value at (c.in_ok-count_picture.ensures.judged pictures kept)) (stop-one qp (list ∷ []) _ c.in_err-check_qp.ensures));
+          let list = list_demand (list_of c.args.head.now.header.now.kind.value (numbering_of c.args.head.now.place.sps.now c.args.head.now.header.now)
+          c.args.slices.now.held) in
+          pass-one id (count ∷ qp ∷ list ∷ []) _ _ c.in_ok-check_id.ensures
+          (pass-one count (qp ∷ list ∷ []) _ _ (rw c.from-bit.ensures.value at (c.in_ok-count_picture.ensures.judged pictures kept))
+          (stop-one qp (list ∷ []) _ c.in_err-check_qp.ensures));
       no_memory = no-memory _ _ _ _ c.in_err-check_qp.ensures;
       counts = λ pictures k. tt;
       count = λ pictures k. tt;
@@ -64,5 +70,8 @@ returns-clause-judged c = λ pictures kept.
     let id = id_demand c.args.slices.now.newest_idr c.args.head.now.header.now in
     let count = count_demand (picture_of c.args.head.now.place.sps.now c.args.head.now.header.now ∷ pictures) (8 * c.args.head.now.place.unit.now.from) in
     let qp = qp_demand c.args.head.now.place.pps.now c.args.head.now.header.now in
-    let list = list_demand (list_of c.args.head.now.header.now.kind.value (numbering_of c.args.head.now.place.sps.now c.args.head.now.header.now) c.args.slices.now.held) in
-    pass-one id (count ∷ qp ∷ list ∷ []) _ _ c.in_ok-check_id.ensures (pass-one count (qp ∷ list ∷ []) _ _ (rw c.from-bit.ensures.value at (c.in_ok-count_picture.ensures.judged pictures kept)) (pass-one qp (list ∷ []) _ _ c.in_ok-check_qp.ensures (rw c.requires.numbered at c.build_list.ensures.judged)))
+    let list = list_demand (list_of c.args.head.now.header.now.kind.value (numbering_of c.args.head.now.place.sps.now c.args.head.now.header.now)
+    c.args.slices.now.held) in
+    pass-one id (count ∷ qp ∷ list ∷ []) _ _ c.in_ok-check_id.ensures
+    (pass-one count (qp ∷ list ∷ []) _ _ (rw c.from-bit.ensures.value at (c.in_ok-count_picture.ensures.judged pictures kept))
+    (pass-one qp (list ∷ []) _ _ c.in_ok-check_qp.ensures (rw c.requires.numbered at c.build_list.ensures.judged)))

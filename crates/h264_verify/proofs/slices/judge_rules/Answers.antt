@@ -38,7 +38,9 @@ returns-in_err-check_rules g c =
     rw (p.1, p.2) (record {
       plays = λ mode frames before k b d.
           let slice = with_sets c.args.place.now.unit.now c.args.slice.now.header [] (c.args.place.now.pps.now, c.args.place.now.sps.now) in
-          steps-stop (took_with frames g.S.Elements.took) g.S.Elements.failures (λ (x : Unit {0}). x) (slice_rules mode c.args.place.now.begins (runs_of before) slice) (Tells (Said (slice_call (joined_to c.args.place.now.begins slice (runs_of before)) slice)) ∷ []) _ _ _
+          steps-stop (took_with frames g.S.Elements.took) g.S.Elements.failures (λ (x : Unit {0}). x)
+          (slice_rules mode c.args.place.now.begins (runs_of before) slice)
+          (Tells (Said (slice_call (joined_to c.args.place.now.begins slice (runs_of before)) slice)) ∷ []) _ _ _
           (c.in_err-check_rules.ensures.plays mode frames before k b d);
       entered = λ before ms k b. tt;
       frames = λ mode frames before k b d. tt;
@@ -61,7 +63,9 @@ returns-in_err-tell_slice g c =
           let slice = with_sets c.args.place.now.unit.now c.args.slice.now.header [] (c.args.place.now.pps.now, c.args.place.now.sps.now) in
           let entered = c.in_ok-check_rules.ensures.entered before [] k b in
           let told = rw (c.from.ensures.value, entered.count) at (c.in_err-tell_slice.ensures.plays frames) in
-          steps-on (took_with frames g.S.Elements.took) g.S.Elements.failures (λ (x : Unit {0}). x) (slice_rules mode c.args.place.now.begins (runs_of before) slice) (Tells (Said (slice_call (joined_to c.args.place.now.begins slice (runs_of before)) slice)) ∷ []) _ _ _ _ _
+          steps-on (took_with frames g.S.Elements.took) g.S.Elements.failures (λ (x : Unit {0}). x)
+          (slice_rules mode c.args.place.now.begins (runs_of before) slice)
+          (Tells (Said (slice_call (joined_to c.args.place.now.begins slice (runs_of before)) slice)) ∷ []) _ _ _ _ _
           (c.in_ok-check_rules.ensures.plays mode frames before k b d) told;
       entered = λ before ms k b. tt;
       frames = λ mode frames before k b d. tt;
@@ -82,17 +86,24 @@ returns g c = record {
       let slice = with_sets c.args.place.now.unit.now c.args.slice.now.header [] (c.args.place.now.pps.now, c.args.place.now.sps.now) in
       let entered = c.in_ok-check_rules.ensures.entered before [] k b in
       let told = rw (c.from.ensures.value, entered.count) at (c.in_ok-tell_slice.ensures.plays frames) in
-      steps-on (took_with frames g.S.Elements.took) g.S.Elements.failures (λ (x : Unit {0}). x) (slice_rules mode c.args.place.now.begins (runs_of before) slice) (Tells (Said (slice_call (joined_to c.args.place.now.begins slice (runs_of before)) slice)) ∷ []) _ _ _ _ _
+      steps-on (took_with frames g.S.Elements.took) g.S.Elements.failures (λ (x : Unit {0}). x)
+      (slice_rules mode c.args.place.now.begins (runs_of before) slice)
+      (Tells (Said (slice_call (joined_to c.args.place.now.begins slice (runs_of before)) slice)) ∷ []) _ _ _ _ _
       (c.in_ok-check_rules.ensures.plays mode frames before k b d) told;
   entered = λ before ms k b.
       let sets : Pps × Sps = (c.args.place.now.pps.now, c.args.place.now.sps.now) in
       let slice = with_sets c.args.place.now.unit.now c.args.slice.now.header ms sets in
       let entered = c.in_ok-check_rules.ensures.entered before ms k b in
-      let opened = c.enter.ensures.picture (goes_on before) (runs_of before) slice refl entered.picture b c.numbering_of-numbering.ensures c.bit_after-following.ensures in
+      let opened = c.enter.ensures.picture (goes_on before) (runs_of before) slice refl entered.picture b c.numbering_of-numbering.ensures
+      c.bit_after-following.ensures in
       let fits : SFits w32 c.frame_count.result = search rules in
-      let told : c.ended_of-ended.result ≡ ended_of c.args.place.now.sps.now c.args.slice.now.header c.check_rules.new.slices.pictures (frame_count c.check_rules.new.slices.count) (buffer_size c.args.place.now.sps.now) = rw (to_z-of_z w32 c.frame_count.result fits, c.frame_count.ensures, c.buffer_size.ensures.value) at c.ended_of-ended.ensures in
-      let end = c.enter.ensures.end (goes_on before) (runs_of before) slice (λ begun. told ∙ ended-is before c.args.place.now.begins slice c.check_rules.new.slices entered begun) entered.picture entered.end b in
-      slice-kept before c.args.place.now.unit.now c.args.slice.now.header ms c.check_rules.new.slices c.enter.new.slices c.args.place.now.begins sets entered opened end c.enter.ensures.newest c.enter.ensures.pictures c.enter.ensures.others;
+      let told : c.ended_of-ended.result ≡ ended_of c.args.place.now.sps.now c.args.slice.now.header c.check_rules.new.slices.pictures
+      (frame_count c.check_rules.new.slices.count) (buffer_size c.args.place.now.sps.now) =
+      rw (to_z-of_z w32 c.frame_count.result fits, c.frame_count.ensures, c.buffer_size.ensures.value) at c.ended_of-ended.ensures in
+      let end = c.enter.ensures.end (goes_on before) (runs_of before) slice
+      (λ begun. told ∙ ended-is before c.args.place.now.begins slice c.check_rules.new.slices entered begun) entered.picture entered.end b in
+      slice-kept before c.args.place.now.unit.now c.args.slice.now.header ms c.check_rules.new.slices c.enter.new.slices c.args.place.now.begins sets entered
+      opened end c.enter.ensures.newest c.enter.ensures.pictures c.enter.ensures.others;
   frames = λ mode frames before k b d. c.in_ok-check_rules.ensures.frames mode frames before k b d;
   filled = λ begun. rw c.enter.ensures.others (c.in_ok-check_rules.ensures.filled begun);
   list = rw c.enter.ensures.others (rw c.numbering_of-numbering.ensures at c.in_ok-check_rules.ensures.list);

@@ -12,4 +12,7 @@ returns-in-Ok-clause-plays g c = λ frames.
     record { plays = (refl, tells-said frames _ _ _ _ told, c.in-Ok.ensures.kept) }
 
 pub returns-in-Err-clause-plays : goal.returns-in-Err-clause-plays
-returns-in-Err-clause-plays g c = λ frames. record { plays = (record { front = []; rest = _; whole = refl; tells = tells-said frames _ _ _ [] c.in-Err.ensures.refused }, c.in-Err.ensures.failed) }
+returns-in-Err-clause-plays g c = λ frames. record {
+  plays =
+      (record { front = []; rest = _; whole = refl; tells = tells-said frames _ _ _ [] c.in-Err.ensures.refused }, c.in-Err.ensures.failed);
+}

@@ -33,33 +33,49 @@ use Rattle.h264_verify.proofs.Memory.{bytes-by, unread, read-bytes, passed-by, r
 use Rattle.h264_verify.proofs.unit.join.Goals as goal
 use Rattle.h264_verify.proofs.Growing.{slice-goes as slice-goes-on}
 
-joined-seven : (terms : Terms) (kind : ℕ) (before : History) (unit : NalUnit) → kind ≡ 7 → joined_by terms kind before unit ≡ joined terms.mode before unit (sps_outcome terms.target unit)
+joined-seven : (terms : Terms) (kind : ℕ) (before : History) (unit : NalUnit) → kind ≡ 7 →
+    joined_by terms kind before unit ≡ joined terms.mode before unit (sps_outcome terms.target unit)
 unfolding joined_by
-joined-seven terms kind before unit e = subst (λ (k : ℕ). joined_by terms k before unit ≡ joined terms.mode before unit (sps_outcome terms.target unit)) (sym e) refl
+joined-seven terms kind before unit e = subst (λ (k : ℕ). joined_by terms k before unit ≡ joined terms.mode before unit (sps_outcome terms.target unit))
+    (sym e) refl
 
-joined-eight : (terms : Terms) (kind : ℕ) (before : History) (unit : NalUnit) → kind ≡ 8 → joined_by terms kind before unit ≡ joined terms.mode before unit (pps_outcome terms.target unit)
+joined-eight : (terms : Terms) (kind : ℕ) (before : History) (unit : NalUnit) → kind ≡ 8 →
+    joined_by terms kind before unit ≡ joined terms.mode before unit (pps_outcome terms.target unit)
 unfolding joined_by
-joined-eight terms kind before unit e = subst (λ (k : ℕ). joined_by terms k before unit ≡ joined terms.mode before unit (pps_outcome terms.target unit)) (sym e) refl
+joined-eight terms kind before unit e = subst (λ (k : ℕ). joined_by terms k before unit ≡ joined terms.mode before unit (pps_outcome terms.target unit))
+    (sym e) refl
 
 pub join_pps-requires-clause-ends : goal.join_pps-requires-clause-ends
 join_pps-requires-clause-ends g c = ap (λ k. ends_picture (type_number k)) c.in-PictureSet.is
 
 pub returns-in-SequenceSet-clause-joins : goal.returns-in-SequenceSet-clause-joins
-returns-in-SequenceSet-clause-joins g c = let joins = rw c.of-kind.ensures at c.join_sps.ensures.joins in λ frames before k. rw (joined-seven c.args.terms _ before c.args.bytes.now.unit.now (sym c.of-kind.ensures ∙ ap type_number c.in-SequenceSet.is)) (joins frames before k)
+returns-in-SequenceSet-clause-joins g c = let joins = rw c.of-kind.ensures at c.join_sps.ensures.joins in
+    λ frames before k. rw (joined-seven c.args.terms _ before c.args.bytes.now.unit.now (sym c.of-kind.ensures ∙ ap type_number c.in-SequenceSet.is))
+    (joins frames before k)
 
 pub returns-in-PictureSet-clause-joins : goal.returns-in-PictureSet-clause-joins
-returns-in-PictureSet-clause-joins g c = let joins = rw c.of-kind.ensures at c.join_pps.ensures.joins in λ frames before k. rw (joined-eight c.args.terms _ before c.args.bytes.now.unit.now (sym c.of-kind.ensures ∙ ap type_number c.in-PictureSet.is)) (joins frames before k)
+returns-in-PictureSet-clause-joins g c = let joins = rw c.of-kind.ensures at c.join_pps.ensures.joins in
+    λ frames before k. rw (joined-eight c.args.terms _ before c.args.bytes.now.unit.now (sym c.of-kind.ensures ∙ ap type_number c.in-PictureSet.is))
+    (joins frames before k)
 
 -- where no picture ends
-joins-here : {S X : Type 0} (mode : Mode) (took : S → List Call → Type 0) (failures : S → ℕ) (frames : ℕ → Frame) (before : History) (ends : Bool) (o : Outcome History) (new : State) (s s' : S) (r : Result X Stop) → ends ≡ false → Joins {X = X} mode (frame_span took failures frames s s') (ended_in before) o new r → Joins {X = X} mode (frame_span took failures frames s s') (length (ended_pictures (goes_on before) ends (runs_of before))) o new r
-joins-here {S} {X} mode took failures frames before ends o new s s' r e j = subst (λ (b : Bool). Joins {X = X} mode (frame_span took failures frames s s') (length (ended_pictures (goes_on before) b (runs_of before))) o new r) (sym e) j
+joins-here : {S X : Type 0} (mode : Mode) (took : S → List Call → Type 0) (failures : S → ℕ) (frames : ℕ → Frame) (before : History) (ends : Bool)
+    (o : Outcome History) (new : State) (s s' : S) (r : Result X Stop) → ends ≡ false →
+    Joins {X = X} mode (frame_span took failures frames s s') (ended_in before) o new r →
+    Joins {X = X} mode (frame_span took failures frames s s') (length (ended_pictures (goes_on before) ends (runs_of before))) o new r
+joins-here {S} {X} mode took failures frames before ends o new s s' r e j =
+    subst (λ (b : Bool). Joins {X = X} mode (frame_span took failures frames s s') (length (ended_pictures (goes_on before) b (runs_of before))) o new r)
+    (sym e) j
 
 pub returns-in_default-clause-joins : goal.returns-in_default-clause-joins
 returns-in_default-clause-joins g c = λ frames before k.
     let bytes = bytes-by c.args.terms.mode c.args.bytes.now.unit.now c.args.bytes.now.header c.args.bytes.now.rbsp.now c.requires.header c.requires.bytes in
     rw (passed-by c.args.terms (nal_unit_type c.args.bytes.now.header) before c.args.bytes.now.unit.now (unread _ _ _ c.in_default.is bytes))
-    (joins-on c.args.terms.mode frames _ _ _ before _ _ _ (λ (u : Unit {0}). contents.Passed) _ _ _ tt _ (gives-plays _ _ (λ (u : Unit {0}). contents.Passed) tt _) (gives-plays _ _ (λ (u : Unit {0}). u) tt _)
-    (passed-joins c.args.terms.mode frames before c.args.bytes.now.unit.now contents.Passed (nal_unit_type c.args.bytes.now.header) c.args.state.now _ tt tt (rw c.requires.header refl) k c.pass.ensures.units (c.pass.ensures.sets ∙ k.sets) (rw c.of-kind.ensures at c.pass.ensures.picture) (rw c.of-kind.ensures at c.pass.ensures.due) c.pass.ensures.others c.pass.ensures.decoder))
+    (joins-on c.args.terms.mode frames _ _ _ before _ _ _ (λ (u : Unit {0}). contents.Passed) _ _ _ tt _
+    (gives-plays _ _ (λ (u : Unit {0}). contents.Passed) tt _) (gives-plays _ _ (λ (u : Unit {0}). u) tt _)
+    (passed-joins c.args.terms.mode frames before c.args.bytes.now.unit.now contents.Passed (nal_unit_type c.args.bytes.now.header) c.args.state.now _ tt tt
+    (rw c.requires.header refl) k c.pass.ensures.units (c.pass.ensures.sets ∙ k.sets) (rw c.of-kind.ensures at c.pass.ensures.picture)
+    (rw c.of-kind.ensures at c.pass.ensures.due) c.pass.ensures.others c.pass.ensures.decoder))
 
 pub join_sps-requires-clause-rbsp : goal.join_sps-requires-clause-rbsp
 join_sps-requires-clause-rbsp g c = (read-bytes _ _ _ _ c.in-Some.is c.requires.bytes).1
@@ -74,7 +90,8 @@ pub returns-in-PictureSet-clause-no_memory : goal.returns-in-PictureSet-clause-n
 returns-in-PictureSet-clause-no_memory g c = λ frames before k m. absurd (c.join_pps.ensures.no_memory m)
 
 -- a unit whose RBSP was made, and that is no set
-slice-here : (mode : Mode) (unit : NalUnit) (byte : ℕ) (o : Option Body) (x : Body) → byte ≡ header_of unit → o ≡ bytes_of mode unit → o ≡ Some x → (nal_unit_type byte ≡ 7 → ⊥) → (nal_unit_type byte ≡ 8 → ⊥) → (is_slice (nal_unit_type byte) ≡ true) × (reads_slices mode ≡ true)
+slice-here : (mode : Mode) (unit : NalUnit) (byte : ℕ) (o : Option Body) (x : Body) → byte ≡ header_of unit → o ≡ bytes_of mode unit → o ≡ Some x →
+    (nal_unit_type byte ≡ 7 → ⊥) → (nal_unit_type byte ≡ 8 → ⊥) → (is_slice (nal_unit_type byte) ≡ true) × (reads_slices mode ≡ true)
 slice-here mode unit byte o x e b s seven eight =
     read-slice mode (nal_unit_type byte) (read-bytes _ _ _ _ s (bytes-by mode unit byte o e b)).0 (ne_eqb _ _ seven) (ne_eqb _ _ eight)
 
@@ -101,18 +118,21 @@ join_slice-requires-clause-rbsp g c = (read-bytes _ _ _ _ c.in-Some.is c.require
 
 pub join_slice-requires-clause-goes_on : goal.join_slice-requires-clause-goes_on
 join_slice-requires-clause-goes_on g c =
-    let here = slice-here c.args.terms.mode c.args.bytes.now.unit.now c.args.bytes.now.header c.args.bytes.now.rbsp.now _ c.requires.header c.requires.bytes c.in-Some.is (not-seven _ _ c.of-kind.ensures c.in_default-kind.not-SequenceSet) (not-eight _ _ c.of-kind.ensures c.in_default-kind.not-PictureSet) in
+    let here = slice-here c.args.terms.mode c.args.bytes.now.unit.now c.args.bytes.now.header c.args.bytes.now.rbsp.now _ c.requires.header c.requires.bytes
+    c.in-Some.is (not-seven _ _ c.of-kind.ensures c.in_default-kind.not-SequenceSet) (not-eight _ _ c.of-kind.ensures c.in_default-kind.not-PictureSet) in
     slice-goes-on (nal_unit_type c.args.bytes.now.header) here.0
 
 pub join_slice-requires-clause-kept : goal.join_slice-requires-clause-kept
 join_slice-requires-clause-kept g c =
-    let here = slice-here c.args.terms.mode c.args.bytes.now.unit.now c.args.bytes.now.header c.args.bytes.now.rbsp.now _ c.requires.header c.requires.bytes c.in-Some.is (not-seven _ _ c.of-kind.ensures c.in_default-kind.not-SequenceSet) (not-eight _ _ c.of-kind.ensures c.in_default-kind.not-PictureSet) in
+    let here = slice-here c.args.terms.mode c.args.bytes.now.unit.now c.args.bytes.now.header c.args.bytes.now.rbsp.now _ c.requires.header c.requires.bytes
+    c.in-Some.is (not-seven _ _ c.of-kind.ensures c.in_default-kind.not-SequenceSet) (not-eight _ _ c.of-kind.ensures c.in_default-kind.not-PictureSet) in
     let mode = headers-of _ c.args.terms.mode c.args.state.now.decoder c.in-None.is c.requires.kept.keeps.decoder here.1 in
     here-in c.args.terms.mode modes.Headers _ _ mode (slice-goes-on (nal_unit_type c.args.bytes.now.header) here.0) c.requires.kept
 
 pub join_whole_slice-requires-clause-kept : goal.join_whole_slice-requires-clause-kept
 join_whole_slice-requires-clause-kept g c =
-    let here = slice-here c.args.terms.mode c.args.bytes.now.unit.now c.args.bytes.now.header c.args.bytes.now.rbsp.now _ c.requires.header c.requires.bytes c.in-Some.is (not-seven _ _ c.of-kind.ensures c.in_default-kind.not-SequenceSet) (not-eight _ _ c.of-kind.ensures c.in_default-kind.not-PictureSet) in
+    let here = slice-here c.args.terms.mode c.args.bytes.now.unit.now c.args.bytes.now.header c.args.bytes.now.rbsp.now _ c.requires.header c.requires.bytes
+    c.in-Some.is (not-seven _ _ c.of-kind.ensures c.in_default-kind.not-SequenceSet) (not-eight _ _ c.of-kind.ensures c.in_default-kind.not-PictureSet) in
     let mode = (some-made _ c.args.terms.mode c.args.state.now.decoder _ c.in-Some-decoder.is c.requires.kept.keeps.decoder).0 in
     here-in c.args.terms.mode modes.Full _ _ mode (slice-goes-on (nal_unit_type c.args.bytes.now.header) here.0) c.requires.kept
 
@@ -121,16 +141,25 @@ join_whole_slice-requires-clause-rbsp g c = (read-bytes _ _ _ _ c.in-Some.is c.r
 
 pub join_whole_slice-requires-clause-goes_on : goal.join_whole_slice-requires-clause-goes_on
 join_whole_slice-requires-clause-goes_on g c =
-    let here = slice-here c.args.terms.mode c.args.bytes.now.unit.now c.args.bytes.now.header c.args.bytes.now.rbsp.now _ c.requires.header c.requires.bytes c.in-Some.is (not-seven _ _ c.of-kind.ensures c.in_default-kind.not-SequenceSet) (not-eight _ _ c.of-kind.ensures c.in_default-kind.not-PictureSet) in
+    let here = slice-here c.args.terms.mode c.args.bytes.now.unit.now c.args.bytes.now.header c.args.bytes.now.rbsp.now _ c.requires.header c.requires.bytes
+    c.in-Some.is (not-seven _ _ c.of-kind.ensures c.in_default-kind.not-SequenceSet) (not-eight _ _ c.of-kind.ensures c.in_default-kind.not-PictureSet) in
     slice-goes-on (nal_unit_type c.args.bytes.now.header) here.0
 
 pub returns-in-None-clause-joins : goal.returns-in-None-clause-joins
 unfolding joined_by
 returns-in-None-clause-joins g c = λ frames before k.
-    let here = slice-here c.args.terms.mode c.args.bytes.now.unit.now c.args.bytes.now.header c.args.bytes.now.rbsp.now _ c.requires.header c.requires.bytes c.in-Some.is (not-seven _ _ c.of-kind.ensures c.in_default-kind.not-SequenceSet) (not-eight _ _ c.of-kind.ensures c.in_default-kind.not-PictureSet) in
+    let here = slice-here c.args.terms.mode c.args.bytes.now.unit.now c.args.bytes.now.header c.args.bytes.now.rbsp.now _ c.requires.header c.requires.bytes
+    c.in-Some.is (not-seven _ _ c.of-kind.ensures c.in_default-kind.not-SequenceSet) (not-eight _ _ c.of-kind.ensures c.in_default-kind.not-PictureSet) in
     let mode = headers-of _ c.args.terms.mode c.args.state.now.decoder c.in-None.is c.requires.kept.keeps.decoder here.1 in
     let kept = subst (λ m. KeepsWithin m frames before (ends_picture (nal_unit_type c.args.bytes.now.header)) c.args.state.now) mode k in
-    rw (ne_eqb _ _ (not-seven _ _ c.of-kind.ensures c.in_default-kind.not-SequenceSet), ne_eqb _ _ (not-eight _ _ c.of-kind.ensures c.in_default-kind.not-PictureSet), mode, slice-other (nal_unit_type c.args.bytes.now.header) before c.args.bytes.now.unit.now here.0) (joins-here modes.Headers _ _ frames before (ends_picture (nal_unit_type c.args.bytes.now.header)) _ _ _ _ _ (slice-goes-on (nal_unit_type c.args.bytes.now.header) here.0) (c.join_slice.ensures.joins frames before kept))
+    rw (
+      ne_eqb _ _ (not-seven _ _ c.of-kind.ensures c.in_default-kind.not-SequenceSet),
+      ne_eqb _ _ (not-eight _ _ c.of-kind.ensures c.in_default-kind.not-PictureSet),
+      mode,
+      slice-other (nal_unit_type c.args.bytes.now.header) before c.args.bytes.now.unit.now here.0,
+    )
+    (joins-here modes.Headers _ _ frames before (ends_picture (nal_unit_type c.args.bytes.now.header)) _ _ _ _ _
+    (slice-goes-on (nal_unit_type c.args.bytes.now.header) here.0) (c.join_slice.ensures.joins frames before kept))
 
 pub returns-in-None-clause-no_memory : goal.returns-in-None-clause-no_memory
 returns-in-None-clause-no_memory g c = λ frames before k m. absurd (c.join_slice.ensures.no_memory m)
@@ -138,14 +167,23 @@ returns-in-None-clause-no_memory g c = λ frames before k m. absurd (c.join_slic
 pub returns-in-Some-decoder-clause-joins : goal.returns-in-Some-decoder-clause-joins
 unfolding joined_by
 returns-in-Some-decoder-clause-joins g c = λ frames before k.
-    let here = slice-here c.args.terms.mode c.args.bytes.now.unit.now c.args.bytes.now.header c.args.bytes.now.rbsp.now _ c.requires.header c.requires.bytes c.in-Some.is (not-seven _ _ c.of-kind.ensures c.in_default-kind.not-SequenceSet) (not-eight _ _ c.of-kind.ensures c.in_default-kind.not-PictureSet) in
+    let here = slice-here c.args.terms.mode c.args.bytes.now.unit.now c.args.bytes.now.header c.args.bytes.now.rbsp.now _ c.requires.header c.requires.bytes
+    c.in-Some.is (not-seven _ _ c.of-kind.ensures c.in_default-kind.not-SequenceSet) (not-eight _ _ c.of-kind.ensures c.in_default-kind.not-PictureSet) in
     let mode = (some-made _ c.args.terms.mode c.args.state.now.decoder _ c.in-Some-decoder.is c.requires.kept.keeps.decoder).0 in
     let kept = subst (λ m. KeepsWithin m frames before (ends_picture (nal_unit_type c.args.bytes.now.header)) c.args.state.now) mode k in
-    rw (ne_eqb _ _ (not-seven _ _ c.of-kind.ensures c.in_default-kind.not-SequenceSet), ne_eqb _ _ (not-eight _ _ c.of-kind.ensures c.in_default-kind.not-PictureSet), mode, whole-other (nal_unit_type c.args.bytes.now.header) before c.args.bytes.now.unit.now here.0) (joins-here modes.Full _ _ frames before (ends_picture (nal_unit_type c.args.bytes.now.header)) _ _ _ _ _ (slice-goes-on (nal_unit_type c.args.bytes.now.header) here.0) (c.join_whole_slice.ensures.joins frames before kept))
+    rw (
+      ne_eqb _ _ (not-seven _ _ c.of-kind.ensures c.in_default-kind.not-SequenceSet),
+      ne_eqb _ _ (not-eight _ _ c.of-kind.ensures c.in_default-kind.not-PictureSet),
+      mode,
+      whole-other (nal_unit_type c.args.bytes.now.header) before c.args.bytes.now.unit.now here.0,
+    )
+    (joins-here modes.Full _ _ frames before (ends_picture (nal_unit_type c.args.bytes.now.header)) _ _ _ _ _
+    (slice-goes-on (nal_unit_type c.args.bytes.now.header) here.0) (c.join_whole_slice.ensures.joins frames before kept))
 
 pub returns-in-Some-decoder-clause-no_memory : goal.returns-in-Some-decoder-clause-no_memory
 returns-in-Some-decoder-clause-no_memory g c = λ frames before k m.
-    let here = slice-here c.args.terms.mode c.args.bytes.now.unit.now c.args.bytes.now.header c.args.bytes.now.rbsp.now _ c.requires.header c.requires.bytes c.in-Some.is (not-seven _ _ c.of-kind.ensures c.in_default-kind.not-SequenceSet) (not-eight _ _ c.of-kind.ensures c.in_default-kind.not-PictureSet) in
+    let here = slice-here c.args.terms.mode c.args.bytes.now.unit.now c.args.bytes.now.header c.args.bytes.now.rbsp.now _ c.requires.header c.requires.bytes
+    c.in-Some.is (not-seven _ _ c.of-kind.ensures c.in_default-kind.not-SequenceSet) (not-eight _ _ c.of-kind.ensures c.in_default-kind.not-PictureSet) in
     let mode = (some-made _ c.args.terms.mode c.args.state.now.decoder _ c.in-Some-decoder.is c.requires.kept.keeps.decoder).0 in
     let kept = subst (λ q. KeepsWithin q frames before (ends_picture (nal_unit_type c.args.bytes.now.header)) c.args.state.now) mode k in
     record {

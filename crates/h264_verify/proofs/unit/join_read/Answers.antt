@@ -38,7 +38,8 @@ place_slice-requires-clause-kept g c = some-slice modes.Full c.args.state.now c.
 pub judge_rules-requires-clause-kept : goal.judge_rules-requires-clause-kept
 judge_rules-requires-clause-kept g c =
     let k = c.requires.kept in
-    some-rules modes.Full _ _ k.frames k.before c.args.unit.now c.read_header.new.header c.begins-begins.result _ _ _ _ (c.in_ok-place_slice.ensures.placed modes.Full k.frames k.before k.keeps.slices k.keeps.decoder)
+    some-rules modes.Full _ _ k.frames k.before c.args.unit.now c.read_header.new.header c.begins-begins.result _ _ _ _
+    (c.in_ok-place_slice.ensures.placed modes.Full k.frames k.before k.keeps.slices k.keeps.decoder)
 
 pub judge_rules-requires-clause-goes : goal.judge_rules-requires-clause-goes
 judge_rules-requires-clause-goes g c =
@@ -47,7 +48,8 @@ judge_rules-requires-clause-goes g c =
     let k = c.requires.kept in
     let placed = c.in_ok-place_slice.ensures.placed modes.Full k.frames k.before k.keeps.slices k.keeps.decoder in
     let named = sets-after c.args.state.now.sets _ h _ c.in_ok-place_slice.ensures.sets (rw same at c.sets_named.ensures.sets) in
-    rw same (goes-on-with modes.Full _ _ k.frames k.before c.args.unit.now h c.begins-begins.result _ _ _ _ placed _ _ k.keeps.sets named c.sets_named.ensures.usable)
+    rw same (goes-on-with modes.Full _ _ k.frames k.before c.args.unit.now h c.begins-begins.result _ _ _ _ placed _ _ k.keeps.sets named
+    c.sets_named.ensures.usable)
 
 pub unreachable-requires : goal.unreachable-requires
 unreachable-requires g c =
@@ -77,10 +79,16 @@ read_data-requires-clause-kept g c =
       on = goes_on k.before;
       pictures = runs_of k.before;
       slice = s;
-      is = record { pps = refl; sps = refl; header = rw same at c.in_ok-judge_rules.ensures.header; list = listed (joined_to c.begins-begins.result s (runs_of k.before)) s _ _ entered.held (rw same at c.in_ok-judge_rules.ensures.list) };
+      is = record {
+        pps = refl;
+        sps = refl;
+        header = rw same at c.in_ok-judge_rules.ensures.header;
+        list = listed (joined_to c.begins-begins.result s (runs_of k.before)) s _ _ entered.held (rw same at c.in_ok-judge_rules.ensures.list);
+      };
       next = placed-first c.begins-begins.result (runs_of k.before) h placed.first;
       live = goes-newest (goes_on k.before) (runs_of k.before) h c.begins-begins.result b;
-      sound = sound-slice modes.Full _ _ k.frames k.before c.args.unit.now h c.begins-begins.result _ _ _ _ placed _ _ k.keeps.sets named b [] c.judge_rules.new.slices marked c.sets_named.ensures.usable (rw same at c.in_ok-judge_rules.ensures.filled);
+      sound = sound-slice modes.Full _ _ k.frames k.before c.args.unit.now h c.begins-begins.result _ _ _ _ placed _ _ k.keeps.sets named b []
+          c.judge_rules.new.slices marked c.sets_named.ensures.usable (rw same at c.in_ok-judge_rules.ensures.filled);
       typed = rw same at c.in_ok-judge_rules.ensures.typed;
       keeps = full-decoder _ _ _ c.in-Some.is enters;
     }
@@ -93,7 +101,9 @@ returns-in_err-read_header g c =
         made = frames;
         same = λ n h. refl;
         after = [];
-        plays = slice-stops _ _ before c.args.unit.now c.read_header.new.header _ _ _ _ (header-read frames _ _ before c.args.unit.now c.args.header _ _ c.read_header.new.header _ _ _ _ _ k.sets c.requires.header c.slice_unit-slice_unit.ensures c.requires.first c.in_err-read_header.ensures.meets c.in_err-read_header.ensures.answers);
+        plays = slice-stops _ _ before c.args.unit.now c.read_header.new.header _ _ _ _
+            (header-read frames _ _ before c.args.unit.now c.args.header _ _ c.read_header.new.header _ _ _ _ _ k.sets c.requires.header
+            c.slice_unit-slice_unit.ensures c.requires.first c.in_err-read_header.ensures.meets c.in_err-read_header.ensures.answers);
         keeps = tt;
       };
       counts = tt;
@@ -111,7 +121,8 @@ returns-in_err-place_slice g c =
           let kept = subst (λ (b : Bool). KeepsWithin modes.Full frames before b c.args.state.now) c.requires.goes_on k in
           let some = some-of _ c.in_ok-read_header.ensures.named in
           let j = c.in_err-place_slice.ensures.refused modes.Full frames before some.0 kept.slices k.sets some.1 kept.decoder in
-          let read = header-read j.made _ _ before c.args.unit.now c.args.header _ _ h _ _ _ _ _ k.sets c.requires.header c.slice_unit-slice_unit.ensures c.requires.first c.in_ok-read_header.ensures.meets c.in_ok-read_header.ensures.answers in
+          let read = header-read j.made _ _ before c.args.unit.now c.args.header _ _ h _ _ _ _ _ k.sets c.requires.header c.slice_unit-slice_unit.ensures
+          c.requires.first c.in_ok-read_header.ensures.meets c.in_ok-read_header.ensures.answers in
           record {
             made = j.made;
             same = j.same;
@@ -138,8 +149,10 @@ returns-in_err-judge_rules g c =
           let placed = c.in_ok-place_slice.ensures.placed modes.Full frames before kept.slices kept.decoder in
           let named = sets-after c.args.state.now.sets _ h _ c.in_ok-place_slice.ensures.sets (rw same at c.sets_named.ensures.sets) in
           let plays = rw same at (c.in_err-judge_rules.ensures.plays modes.Full placed.closes.made before placed.ended begun placed.closes.keeps) in
-          let j = judges-rules modes.Full _ _ frames before c.args.unit.now h c.begins-begins.result _ _ _ _ placed _ _ k.sets named b c.judge_rules.new.decoder _ _ plays tt in
-          let read = header-read j.made _ _ before c.args.unit.now c.args.header _ _ h _ _ _ _ _ k.sets c.requires.header c.slice_unit-slice_unit.ensures c.requires.first c.in_ok-read_header.ensures.meets c.in_ok-read_header.ensures.answers in
+          let j = judges-rules modes.Full _ _ frames before c.args.unit.now h c.begins-begins.result _ _ _ _ placed _ _ k.sets named b
+          c.judge_rules.new.decoder _ _ plays tt in
+          let read = header-read j.made _ _ before c.args.unit.now c.args.header _ _ h _ _ _ _ _ k.sets c.requires.header c.slice_unit-slice_unit.ensures
+          c.requires.first c.in_ok-read_header.ensures.meets c.in_ok-read_header.ensures.answers in
           record {
             made = j.made;
             same = j.same;
@@ -170,27 +183,45 @@ returns-clause-joins g c = λ frames before k.
     let plays = rw same at (c.in_ok-judge_rules.ensures.plays modes.Full placed.closes.made before placed.ended begun placed.closes.keeps) in
     let enters = rw same at (c.in_ok-judge_rules.ensures.frames modes.Full placed.closes.made before placed.ended begun placed.closes.keeps) in
     let filled = rw same at c.in_ok-judge_rules.ensures.filled in
-    let j = judges-rules modes.Full _ _ frames before unit h c.begins-begins.result _ _ _ _ placed _ _ k.sets named b c.judge_rules.new.decoder _ _ plays enters in
+    let j = judges-rules modes.Full _ _ frames before unit h c.begins-begins.result _ _ _ _ placed _ _ k.sets named b c.judge_rules.new.decoder _ _ plays
+    enters in
     let first = c.requires.first in
-    let read = header-read j.made _ _ before unit c.args.header _ _ h _ _ _ _ _ k.sets c.requires.header c.slice_unit-slice_unit.ensures first c.in_ok-read_header.ensures.meets c.in_ok-read_header.ensures.answers in
-    let entered : (ms : List CodedMacroblock) → KeepsPictures true false (joined_to c.begins-begins.result (with_sets unit h ms sets) (runs_of before)) c.judge_rules.new.slices = λ ms. rw same at (c.in_ok-judge_rules.ensures.entered before ms placed.ended begun) in
+    let read = header-read j.made _ _ before unit c.args.header _ _ h _ _ _ _ _ k.sets c.requires.header c.slice_unit-slice_unit.ensures first
+    c.in_ok-read_header.ensures.meets c.in_ok-read_header.ensures.answers in
+    let entered : (ms : List CodedMacroblock) →
+    KeepsPictures true false (joined_to c.begins-begins.result (with_sets unit h ms sets) (runs_of before)) c.judge_rules.new.slices =
+    λ ms. rw same at (c.in_ok-judge_rules.ensures.entered before ms placed.ended begun) in
     let new = c.judge_rules.new.slice in
     let read-header = subst (λ (x : Header). new.header ≡ record x { marking = new.header.marking }) same c.in_ok-judge_rules.ensures.header in
-    let built = subst (λ (x : Header). list_of x.kind.value (numbering_of sets.1 x) c.judge_rules.new.slices.held ≡ Ok new.list.items) same c.in_ok-judge_rules.ensures.list in
+    let built = subst (λ (x : Header). list_of x.kind.value (numbering_of sets.1 x) c.judge_rules.new.slices.held ≡ Ok new.list.items) same
+    c.in_ok-judge_rules.ensures.list in
     let place = placed-first c.begins-begins.result (runs_of before) h placed.first in
-    let set = later-set c.args.state.now.sets s named c.begins-begins.result (goes_on before) (runs_of before) b (subst (λ (m : Maps). NamesSet (goes_on before) (runs_of before) m) (sym k.sets) kept.slices.named) in
-    let d = c.read_data.ensures.reads j.made (goes_on before) (runs_of before) s (record { pps = refl; sps = refl; header = read-header; list = listed (joined_to c.begins-begins.result s (runs_of before)) s _ _ (entered []).held built }) place refl (goes-newest (goes_on before) (runs_of before) h c.begins-begins.result b) set (full-decoder _ _ _ c.in-Some.is j.enters) in
-    let there = data-there _ _ _ (runs_of before) s _ _ _ (body_of unit) _ _ _ _ b (c.in_ok-read_header.ensures.meets.same ∙ ap (λ (r : Reader). r.body) first) d.plays in
+    let set = later-set c.args.state.now.sets s named c.begins-begins.result (goes_on before) (runs_of before) b
+    (subst (λ (m : Maps). NamesSet (goes_on before) (runs_of before) m) (sym k.sets) kept.slices.named) in
+    let d = c.read_data.ensures.reads j.made (goes_on before) (runs_of before) s
+    (record {
+      pps = refl;
+      sps = refl;
+      header = read-header;
+      list = listed (joined_to c.begins-begins.result s (runs_of before)) s _ _ (entered []).held built;
+    }) place refl
+    (goes-newest (goes_on before) (runs_of before) h c.begins-begins.result b) set (full-decoder _ _ _ c.in-Some.is j.enters) in
+    let there = data-there _ _ _ (runs_of before) s _ _ _ (body_of unit) _ _ _ _ b
+    (c.in_ok-read_header.ensures.meets.same ∙ ap (λ (r : Reader). r.body) first) d.plays in
     record {
       made = j.made;
       same = j.same;
       after = record { unit = unit; content = contents.OfSlice h d.macroblocks } ∷ before;
-      plays = slice-reads _ _ before unit h _ _ _ _ read _ _ j.plays sets (ap (λ m. sets_of m h.pic_parameter_set_id.value) (sym k.sets) ∙ named) d.macroblocks d.end _ _ there;
+      plays = slice-reads _ _ before unit h _ _ _ _ read _ _ j.plays sets (ap (λ m. sets_of m h.pic_parameter_set_id.value) (sym k.sets) ∙ named)
+          d.macroblocks d.end _ _ there;
       keeps = where-ok c.read_data.result (λ kept_on. record {
         units = units-with before (record { unit = unit; content = contents.OfSlice h d.macroblocks }) _ _ refl (c.in_ok-place_slice.ensures.units ∙ k.units);
         sets = c.in_ok-place_slice.ensures.sets ∙ ap (λ m. maps_with m (contents.OfSlice h d.macroblocks)) k.sets;
-        slices = keeps-slice modes.Full _ _ frames before unit h c.begins-begins.result _ _ _ _ placed _ _ k.sets named b d.macroblocks c.judge_rules.new.slices marked usable (entered d.macroblocks) c.in_ok-judge_rules.ensures.due filled;
-        decoder = full-made _ modes.Full c.read_data.new.decoder refl (subst (λ (ps : List CodedPicture). KeepsFrames j.made true false ps c.read_data.new.decoder) (runs-with before unit h d.macroblocks _ _ sets b k.sets named) kept_on);
+        slices = keeps-slice modes.Full _ _ frames before unit h c.begins-begins.result _ _ _ _ placed _ _ k.sets named b d.macroblocks
+            c.judge_rules.new.slices marked usable (entered d.macroblocks) c.in_ok-judge_rules.ensures.due filled;
+        decoder = full-made _ modes.Full c.read_data.new.decoder refl
+            (subst (λ (ps : List CodedPicture). KeepsFrames j.made true false ps c.read_data.new.decoder)
+            (runs-with before unit h d.macroblocks _ _ sets b k.sets named) kept_on);
       }) d.keeps;
     }
 
@@ -203,5 +234,7 @@ returns-clause-no_memory g c = λ frames before k m.
     let named = sets-after c.args.state.now.sets _ h _ c.in_ok-place_slice.ensures.sets (rw same at c.sets_named.ensures.sets) in
     let b = begins-as before h c.args.state.now.slices _ kept.slices c.begins-begins.ensures in
     let begun = true_from_ne_false _ (λ e. c.read_data.ensures.no_memory e m) in
-    begins-another {X = Unit {0}} _ _ before c.args.unit.now _ k.sets c.args.header c.requires.header _ c.slice_unit-slice_unit.ensures h _ _ _ _ _ c.requires.first c.in_ok-read_header.ensures.meets c.in_ok-read_header.ensures.answers sets named (sym b ∙ begun)
-    (is-another frames (goes_on before) (runs_of before) c.args.state.now.decoder c.in-Some.decoder sets.1 kept.decoder (ap format_in (sym c.in-Some.is) ∙ c.in_ok-judge_rules.ensures.format ∙ c.in_ok-place_slice.ensures.format) (λ f. c.read_data.ensures.stands f m))
+    begins-another {X = Unit {0}} _ _ before c.args.unit.now _ k.sets c.args.header c.requires.header _ c.slice_unit-slice_unit.ensures h _ _ _ _ _
+    c.requires.first c.in_ok-read_header.ensures.meets c.in_ok-read_header.ensures.answers sets named (sym b ∙ begun)
+    (is-another frames (goes_on before) (runs_of before) c.args.state.now.decoder c.in-Some.decoder sets.1 kept.decoder
+    (ap format_in (sym c.in-Some.is) ∙ c.in_ok-judge_rules.ensures.format ∙ c.in_ok-place_slice.ensures.format) (λ f. c.read_data.ensures.stands f m))

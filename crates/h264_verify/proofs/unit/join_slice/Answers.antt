@@ -20,7 +20,8 @@ place_slice-requires-clause-kept g c = some-slice modes.Headers c.args.state.now
 pub judge_rules-requires-clause-kept : goal.judge_rules-requires-clause-kept
 judge_rules-requires-clause-kept g c =
     let k = c.requires.kept in
-    some-rules modes.Headers _ _ k.frames k.before c.args.unit.now c.read_slice_unit.new.found c.begins-begins.result _ _ _ _ (c.in_ok-place_slice.ensures.placed modes.Headers k.frames k.before k.keeps.slices k.keeps.decoder)
+    some-rules modes.Headers _ _ k.frames k.before c.args.unit.now c.read_slice_unit.new.found c.begins-begins.result _ _ _ _
+    (c.in_ok-place_slice.ensures.placed modes.Headers k.frames k.before k.keeps.slices k.keeps.decoder)
 
 pub judge_rules-requires-clause-goes : goal.judge_rules-requires-clause-goes
 judge_rules-requires-clause-goes g c =
@@ -28,13 +29,15 @@ judge_rules-requires-clause-goes g c =
     let k = c.requires.kept in
     let placed = c.in_ok-place_slice.ensures.placed modes.Headers k.frames k.before k.keeps.slices k.keeps.decoder in
     let named = sets-after c.args.state.now.sets _ c.read_slice_unit.new.found _ c.in_ok-place_slice.ensures.sets (rw same at c.sets_named.ensures.sets) in
-    rw same (goes-on-with modes.Headers _ _ k.frames k.before c.args.unit.now c.read_slice_unit.new.found c.begins-begins.result _ _ _ _ placed _ _ k.keeps.sets named c.sets_named.ensures.usable)
+    rw same (goes-on-with modes.Headers _ _ k.frames k.before c.args.unit.now c.read_slice_unit.new.found c.begins-begins.result _ _ _ _ placed _ _
+    k.keeps.sets named c.sets_named.ensures.usable)
 
 pub returns-in_err-read_slice_unit : goal.returns-in_err-read_slice_unit
 returns-in_err-read_slice_unit g c =
     let p = err_from_is_err_and c.from_residual.result c.from_residual.ensures.1 in
     rw (p.1, p.2) (record {
-      joins = λ frames before k. joins-stops modes.Headers frames _ _ _ before _ _ _ (λ _. contents.OfSlice c.read_slice_unit.new.found []) _ _ _ (c.in_err-read_slice_unit.ensures.plays frames before c.args.unit.now k.sets c.requires.header c.requires.rbsp);
+      joins = λ frames before k. joins-stops modes.Headers frames _ _ _ before _ _ _ (λ _. contents.OfSlice c.read_slice_unit.new.found []) _ _ _
+          (c.in_err-read_slice_unit.ensures.plays frames before c.args.unit.now k.sets c.requires.header c.requires.rbsp);
       counts = tt;
       pictures = tt;
       no_memory = c.in_err-read_slice_unit.ensures.no_memory;
@@ -49,7 +52,8 @@ returns-in_err-place_slice g c =
           let kept = subst (λ (b : Bool). KeepsWithin modes.Headers frames before b c.args.state.now) c.requires.goes_on k in
           let some = some-of _ c.in_ok-read_slice_unit.ensures.named in
           let j = c.in_err-place_slice.ensures.refused modes.Headers frames before some.0 kept.slices k.sets some.1 kept.decoder in
-          joins-made modes.Headers frames _ _ _ before _ _ _ j.made j.same (λ _. contents.OfSlice c.read_slice_unit.new.found []) _ _ _ _ _ (c.in_ok-read_slice_unit.ensures.plays j.made before c.args.unit.now k.sets c.requires.header c.requires.rbsp) j.plays tt;
+          joins-made modes.Headers frames _ _ _ before _ _ _ j.made j.same (λ _. contents.OfSlice c.read_slice_unit.new.found []) _ _ _ _ _
+          (c.in_ok-read_slice_unit.ensures.plays j.made before c.args.unit.now k.sets c.requires.header c.requires.rbsp) j.plays tt;
       counts = tt;
       pictures = tt;
       no_memory = c.in_err-place_slice.ensures.no_memory;
@@ -69,8 +73,10 @@ returns-in_err-judge_rules g c =
           let placed = c.in_ok-place_slice.ensures.placed modes.Headers frames before kept.slices kept.decoder in
           let named = sets-after c.args.state.now.sets _ h _ c.in_ok-place_slice.ensures.sets (rw same at c.sets_named.ensures.sets) in
           let plays = rw same at (c.in_err-judge_rules.ensures.plays modes.Headers placed.closes.made before placed.ended begun placed.closes.keeps) in
-          let j = judges-rules modes.Headers _ _ frames before c.args.unit.now h c.begins-begins.result _ _ _ _ placed _ _ k.sets named b c.judge_rules.new.decoder _ _ plays tt in
-          joins-made modes.Headers frames _ _ _ before _ _ _ j.made j.same (λ _. contents.OfSlice h []) _ _ _ _ _ (c.in_ok-read_slice_unit.ensures.plays j.made before c.args.unit.now k.sets c.requires.header c.requires.rbsp) j.plays tt;
+          let j = judges-rules modes.Headers _ _ frames before c.args.unit.now h c.begins-begins.result _ _ _ _ placed _ _ k.sets named b
+          c.judge_rules.new.decoder _ _ plays tt in
+          joins-made modes.Headers frames _ _ _ before _ _ _ j.made j.same (λ _. contents.OfSlice h []) _ _ _ _ _
+          (c.in_ok-read_slice_unit.ensures.plays j.made before c.args.unit.now k.sets c.requires.header c.requires.rbsp) j.plays tt;
       counts = tt;
       pictures = tt;
       no_memory = c.in_err-judge_rules.ensures.no_memory;
@@ -89,13 +95,16 @@ returns-clause-joins g c = λ frames before k.
     let usable = c.sets_named.ensures.usable in
     let plays = rw same at (c.in_ok-judge_rules.ensures.plays modes.Headers placed.closes.made before placed.ended begun placed.closes.keeps) in
     let enters = rw same at (c.in_ok-judge_rules.ensures.frames modes.Headers placed.closes.made before placed.ended begun placed.closes.keeps) in
-    let j = judges-rules modes.Headers _ _ frames before c.args.unit.now h c.begins-begins.result _ _ _ _ placed _ _ k.sets named b c.judge_rules.new.decoder _ _ plays enters in
+    let j = judges-rules modes.Headers _ _ frames before c.args.unit.now h c.begins-begins.result _ _ _ _ placed _ _ k.sets named b c.judge_rules.new.decoder
+    _ _ plays enters in
     let entered = rw same at (c.in_ok-judge_rules.ensures.entered before [] placed.ended begun) in
     let filled = rw same at c.in_ok-judge_rules.ensures.filled in
     let marked = c.in_ok-read_slice_unit.ensures.marked c.requires.fits in
-    joins-made modes.Headers frames _ _ _ before _ _ _ j.made j.same (λ _. contents.OfSlice h []) _ _ _ _ _ (c.in_ok-read_slice_unit.ensures.plays j.made before c.args.unit.now k.sets c.requires.header c.requires.rbsp) j.plays (record {
+    joins-made modes.Headers frames _ _ _ before _ _ _ j.made j.same (λ _. contents.OfSlice h []) _ _ _ _ _
+    (c.in_ok-read_slice_unit.ensures.plays j.made before c.args.unit.now k.sets c.requires.header c.requires.rbsp) j.plays (record {
       units = units-with before (record { unit = c.args.unit.now; content = contents.OfSlice h [] }) _ _ refl (c.in_ok-place_slice.ensures.units ∙ k.units);
       sets = c.in_ok-place_slice.ensures.sets ∙ ap (λ m. maps_with m (contents.OfSlice h [])) k.sets;
-      slices = keeps-slice modes.Headers _ _ frames before c.args.unit.now h c.begins-begins.result _ _ _ _ placed _ _ k.sets named b [] c.judge_rules.new.slices marked usable entered c.in_ok-judge_rules.ensures.due filled;
+      slices = keeps-slice modes.Headers _ _ frames before c.args.unit.now h c.begins-begins.result _ _ _ _ placed _ _ k.sets named b []
+          c.judge_rules.new.slices marked usable entered c.in_ok-judge_rules.ensures.due filled;
       decoder = header-decoder _ _ _ enters;
     })

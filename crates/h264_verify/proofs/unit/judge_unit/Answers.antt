@@ -38,15 +38,25 @@ module _ {S : Type 0} (terms : Terms) (took : S → List Call → Type 0) (failu
   abbrev ends : Bool
   ends = ends_picture kind
 
-  turns-by : (mid : Option Decoder) (new : State) (s0 s1 s2 s3 : S) (x y z w : Unit {0}) (r : Result (Unit {0}) Stop) → (let a : Result (Unit {0}) Stop = Ok x in a ≡ emulation_checked unit.from unit.body) → (let a : Result (Unit {0}) Stop = Ok y in a ≡ judged (header_demands (8 * unit.from) (header_of unit))) → ((made : ℕ → Frame) → Plays (span (took_with made took) failures s0 s1) (λ (q : Unit {0}). q) (tells (Said (unit_call unit.from (header_of unit) (length unit.body)))) (Ok z)) → (e : EndsFrames terms.mode (frame_span took failures frames s1 s2) (closing (goes_on before) ends (runs_of before)) (steps_outcome (close_steps terms.mode ends before)) mid (Ok w)) → Joins {X = Unit {0}} terms.mode (frame_span took failures e.made s2 s3) (length (ended_pictures (goes_on before) ends (runs_of before))) (joined_by terms kind before unit) new r → Turns {X = Unit {0}} terms (frame_span took failures frames s0 s3) before unit new r
+  turns-by : (mid : Option Decoder) (new : State) (s0 s1 s2 s3 : S) (x y z w : Unit {0}) (r : Result (Unit {0}) Stop) →
+      (let a : Result (Unit {0}) Stop = Ok x in a ≡ emulation_checked unit.from unit.body) →
+      (let a : Result (Unit {0}) Stop = Ok y in a ≡ judged (header_demands (8 * unit.from) (header_of unit))) →
+      ((made : ℕ → Frame) → Plays (span (took_with made took) failures s0 s1) (λ (q : Unit {0}). q)
+      (tells (Said (unit_call unit.from (header_of unit) (length unit.body)))) (Ok z)) →
+      (e : EndsFrames terms.mode (frame_span took failures frames s1 s2) (closing (goes_on before) ends (runs_of before))
+      (steps_outcome (close_steps terms.mode ends before)) mid (Ok w)) →
+      Joins {X = Unit {0}} terms.mode (frame_span took failures e.made s2 s3) (length (ended_pictures (goes_on before) ends (runs_of before)))
+      (joined_by terms kind before unit) new r → Turns {X = Unit {0}} terms (frame_span took failures frames s0 s3) before unit new r
   unfolding unit_by_steps
   turns-by mid new s0 s1 s2 s3 x y z w r sound header told e j =
       let n = length (ended_pictures (goes_on before) ends (runs_of before)) in
-      let ended = plays-agree took n e.made j.made failures (λ (q : Unit {0}). q) (steps_outcome (close_steps terms.mode ends before)) s1 s2 (Ok w) j.same (closing-all ends terms.mode before) e.plays in
+      let ended = plays-agree took n e.made j.made failures (λ (q : Unit {0}). q) (steps_outcome (close_steps terms.mode ends before)) s1 s2 (Ok w) j.same
+      (closing-all ends terms.mode before) e.plays in
       let view : Unit {0} → History = λ q. j.after in
       record {
         made = j.made;
-        same = agree-then (ended_in before) frames e.made j.made e.same (agree-less (ended_in before) n e.made j.made (ended-grows (goes_on before) ends (runs_of before)) j.same);
+        same = agree-then (ended_in before) frames e.made j.made e.same
+            (agree-less (ended_in before) n e.made j.made (ended-grows (goes_on before) ends (runs_of before)) j.same);
         after = j.after;
         plays = plays-course (took_with j.made took) failures view terms before unit s0 s3 r
             (answer-on (took_with j.made took) failures view _ _ s0 s3 x r (ap answers (sym sound))
@@ -57,11 +67,21 @@ module _ {S : Type 0} (terms : Terms) (took : S → List Call → Type 0) (failu
       }
 
   -- a unit that stops at its bytes, at its header, at the sink, or at the end of the picture before it
-  stops-sound : (new : State) (s : S) (e : Stop) → (let a : Result (Unit {0}) Stop = Err e in a ≡ emulation_checked unit.from unit.body) → IsNamed e → Turns {X = Unit {0}} terms (frame_span took failures frames s s) before unit new (Err e)
+  stops-sound : (new : State) (s : S) (e : Stop) → (let a : Result (Unit {0}) Stop = Err e in a ≡ emulation_checked unit.from unit.body) → IsNamed e →
+      Turns {X = Unit {0}} terms (frame_span took failures frames s s) before unit new (Err e)
   unfolding unit_by_steps
-  stops-sound new s e sound named = record { made = frames; same = λ n h. refl; after = []; plays = plays-course (took_with frames took) failures (λ (q : Unit {0}). []) terms before unit s s (Err e) (answer-stops (took_with frames took) failures (λ (q : Unit {0}). []) _ _ s e (ap answers (sym sound)) named); keeps = tt }
+  stops-sound new s e sound named = record {
+    made = frames;
+    same = λ n h. refl;
+    after = [];
+    plays = plays-course (took_with frames took) failures (λ (q : Unit {0}). []) terms before unit s s (Err e)
+        (answer-stops (took_with frames took) failures (λ (q : Unit {0}). []) _ _ s e (ap answers (sym sound)) named);
+    keeps = tt;
+  }
 
-  stops-header : (new : State) (s : S) (x : Unit {0}) (e : Stop) → (let a : Result (Unit {0}) Stop = Ok x in a ≡ emulation_checked unit.from unit.body) → (let a : Result (Unit {0}) Stop = Err e in a ≡ judged (header_demands (8 * unit.from) (header_of unit))) → Turns {X = Unit {0}} terms (frame_span took failures frames s s) before unit new (Err e)
+  stops-header : (new : State) (s : S) (x : Unit {0}) (e : Stop) → (let a : Result (Unit {0}) Stop = Ok x in a ≡ emulation_checked unit.from unit.body) →
+      (let a : Result (Unit {0}) Stop = Err e in a ≡ judged (header_demands (8 * unit.from) (header_of unit))) →
+      Turns {X = Unit {0}} terms (frame_span took failures frames s s) before unit new (Err e)
   unfolding unit_by_steps
   stops-header new s x e sound header =
       let view : Unit {0} → History = λ q. [] in
@@ -71,11 +91,15 @@ module _ {S : Type 0} (terms : Terms) (took : S → List Call → Type 0) (failu
         after = [];
         plays = plays-course (took_with frames took) failures view terms before unit s s (Err e)
             (answer-on (took_with frames took) failures view _ _ s s x (Err e) (ap answers (sym sound))
-            (answer-stops (took_with frames took) failures view _ _ s e (ap answers (sym header)) (err-named (header_demands (8 * unit.from) (header_of unit)) e (sym header))));
+            (answer-stops (took_with frames took) failures view _ _ s e (ap answers (sym header))
+            (err-named (header_demands (8 * unit.from) (header_of unit)) e (sym header))));
         keeps = tt;
       }
 
-  stops-told : (new : State) (s s' : S) (x y : Unit {0}) (e : Stop) → (let a : Result (Unit {0}) Stop = Ok x in a ≡ emulation_checked unit.from unit.body) → (let a : Result (Unit {0}) Stop = Ok y in a ≡ judged (header_demands (8 * unit.from) (header_of unit))) → Plays (span (took_with frames took) failures s s') (λ (q : Unit {0}). q) (tells (Said (unit_call unit.from (header_of unit) (length unit.body)))) (Err e) → Turns {X = Unit {0}} terms (frame_span took failures frames s s') before unit new (Err e)
+  stops-told : (new : State) (s s' : S) (x y : Unit {0}) (e : Stop) → (let a : Result (Unit {0}) Stop = Ok x in a ≡ emulation_checked unit.from unit.body) →
+      (let a : Result (Unit {0}) Stop = Ok y in a ≡ judged (header_demands (8 * unit.from) (header_of unit))) →
+      Plays (span (took_with frames took) failures s s') (λ (q : Unit {0}). q) (tells (Said (unit_call unit.from (header_of unit) (length unit.body))))
+      (Err e) → Turns {X = Unit {0}} terms (frame_span took failures frames s s') before unit new (Err e)
   unfolding unit_by_steps
   stops-told new s s' x y e sound header told =
       let view : Unit {0} → History = λ q. [] in
@@ -90,7 +114,14 @@ module _ {S : Type 0} (terms : Terms) (took : S → List Call → Type 0) (failu
         keeps = tt;
       }
 
-  stops-closing : (mid : Option Decoder) (new : State) (s0 s1 s2 : S) (x y z : Unit {0}) (stop : Stop) → (let a : Result (Unit {0}) Stop = Ok x in a ≡ emulation_checked unit.from unit.body) → (let a : Result (Unit {0}) Stop = Ok y in a ≡ judged (header_demands (8 * unit.from) (header_of unit))) → ((made : ℕ → Frame) → Plays (span (took_with made took) failures s0 s1) (λ (q : Unit {0}). q) (tells (Said (unit_call unit.from (header_of unit) (length unit.body)))) (Ok z)) → EndsFrames terms.mode (frame_span took failures frames s1 s2) (closing (goes_on before) ends (runs_of before)) (steps_outcome (close_steps terms.mode ends before)) mid (Err stop) → Turns {X = Unit {0}} terms (frame_span took failures frames s0 s2) before unit new (Err stop)
+  stops-closing : (mid : Option Decoder) (new : State) (s0 s1 s2 : S) (x y z : Unit {0}) (stop : Stop) →
+      (let a : Result (Unit {0}) Stop = Ok x in a ≡ emulation_checked unit.from unit.body) →
+      (let a : Result (Unit {0}) Stop = Ok y in a ≡ judged (header_demands (8 * unit.from) (header_of unit))) →
+      ((made : ℕ → Frame) → Plays (span (took_with made took) failures s0 s1) (λ (q : Unit {0}). q)
+      (tells (Said (unit_call unit.from (header_of unit) (length unit.body)))) (Ok z)) →
+      EndsFrames terms.mode (frame_span took failures frames s1 s2) (closing (goes_on before) ends (runs_of before))
+      (steps_outcome (close_steps terms.mode ends before)) mid (Err stop) →
+      Turns {X = Unit {0}} terms (frame_span took failures frames s0 s2) before unit new (Err stop)
   unfolding unit_by_steps
   stops-closing mid new s0 s1 s2 x y z stop sound header told e =
       let view : Unit {0} → History = λ q. [] in
@@ -114,29 +145,38 @@ pub close_if-requires-clause-room : goal.close_if-requires-clause-room
 close_if-requires-clause-room g c = subst (λ (n : ℕ). n < 2 ^ 64 - 1) (sym (c.in_ok-tell_unit.ensures.plays c.requires.kept.frames).plays.2) c.requires.count
 
 pub join-requires-clause-room : goal.join-requires-clause-room
-join-requires-clause-room g c = subst (λ (n : ℕ). n < 2 ^ 64 - 1) (sym (c.in_ok-close_if.ensures.kept ∙ (c.in_ok-tell_unit.ensures.plays c.requires.kept.frames).plays.2)) c.requires.count
+join-requires-clause-room g c = subst (λ (n : ℕ). n < 2 ^ 64 - 1)
+    (sym (c.in_ok-close_if.ensures.kept ∙ (c.in_ok-tell_unit.ensures.plays c.requires.kept.frames).plays.2)) c.requires.count
 
 pub join-requires-clause-fits : goal.join-requires-clause-fits
 join-requires-clause-fits g c = (first-met _ _ _ (first-met _ _ _ c.in_ok-check_header.ensures).1).0
 
 pub returns-clause-kept : goal.returns-clause-kept
-returns-clause-kept g c = kept-on c.join.result _ _ _ (c.in_ok-close_if.ensures.kept ∙ (c.in_ok-tell_unit.ensures.plays c.requires.kept.frames).plays.2) c.join.ensures.kept
+returns-clause-kept g c = kept-on c.join.result _ _ _ (c.in_ok-close_if.ensures.kept ∙ (c.in_ok-tell_unit.ensures.plays c.requires.kept.frames).plays.2)
+    c.join.ensures.kept
 
 pub close_if-requires-clause-kept : goal.close_if-requires-clause-kept
-close_if-requires-clause-kept g c = let k = c.requires.kept in record { mode = c.args.terms.mode; frames = k.frames; before = k.before; slices_are = k.keeps.slices; keeps = k.keeps.decoder }
+close_if-requires-clause-kept g c = let k = c.requires.kept in
+    record { mode = c.args.terms.mode; frames = k.frames; before = k.before; slices_are = k.keeps.slices; keeps = k.keeps.decoder }
 
 pub join-requires-clause-kept : goal.join-requires-clause-kept
 join-requires-clause-kept g c =
     let k = c.requires.kept in
     let ended = c.in_ok-close_if.ensures.ended k.before k.keeps.slices in
     let e = c.in_ok-close_if.ensures.closes c.args.terms.mode k.frames k.before k.keeps.slices k.keeps.decoder in
-    record { frames = e.made; before = k.before; keeps = within {mode = c.args.terms.mode} {frames = k.frames} {made = e.made} {before = k.before} c.args.state.now c.close_if.new.slices c.close_if.new.decoder k.keeps (rw (c.ends_picture-ends.ensures, c.of.ensures) at ended) (rw (c.ends_picture-ends.ensures, c.of.ensures) at e.keeps) }
+    record {
+      frames = e.made;
+      before = k.before;
+      keeps = within {mode = c.args.terms.mode} {frames = k.frames} {made = e.made} {before = k.before} c.args.state.now c.close_if.new.slices
+          c.close_if.new.decoder k.keeps (rw (c.ends_picture-ends.ensures, c.of.ensures) at ended) (rw (c.ends_picture-ends.ensures, c.of.ensures) at e.keeps);
+    }
 
 pub returns-in_err-check_emulation-clause-turns : goal.returns-in_err-check_emulation-clause-turns
 returns-in_err-check_emulation-clause-turns g c =
     let p = err_from_is_err_and c.from_residual.result c.from_residual.ensures.1 in
     let n = c.in_err-check_emulation.ensures.err in
-    rw (p.1, p.2) (λ frames before k. stops-sound c.args.terms _ _ frames before c.args.unit.now _ _ _ c.in_err-check_emulation.ensures.value (named-by _ _ _ n.1))
+    rw (p.1, p.2) (λ frames before k. stops-sound c.args.terms _ _ frames before c.args.unit.now _ _ _ c.in_err-check_emulation.ensures.value
+    (named-by _ _ _ n.1))
 
 pub returns-in_err-check_header-clause-turns : goal.returns-in_err-check_header-clause-turns
 returns-in_err-check_header-clause-turns g c =
@@ -149,7 +189,8 @@ returns-in_err-tell_unit-clause-turns g c =
     let p = err_from_is_err_and c.from_residual-in_err-tell_unit.result c.from_residual-in_err-tell_unit.ensures.1 in
     let header = rw (c.from-from.ensures.value, c.body-body.ensures.value) at c.in_ok-check_header.ensures in
     let says = rw (c.from-from.ensures.value, c.body-body.ensures.value) at c.in_err-tell_unit.ensures.plays in
-    rw (p.1, p.2) (λ frames before k. stops-told c.args.terms _ _ frames before c.args.unit.now _ _ _ _ _ _ c.in_ok-check_emulation.ensures.value header (says frames))
+    rw (p.1, p.2) (λ frames before k. stops-told c.args.terms _ _ frames before c.args.unit.now _ _ _ _ _ _ c.in_ok-check_emulation.ensures.value header
+    (says frames))
 
 pub returns-in_err-close_if-clause-turns : goal.returns-in_err-close_if-clause-turns
 returns-in_err-close_if-clause-turns g c =
@@ -157,7 +198,8 @@ returns-in_err-close_if-clause-turns g c =
     let header = rw (c.from-from.ensures.value, c.body-body.ensures.value) at c.in_ok-check_header.ensures in
     let says = rw (c.from-from.ensures.value, c.body-body.ensures.value) at c.in_ok-tell_unit.ensures.plays in
     let closes = rw (c.ends_picture-ends.ensures, c.of.ensures, c.body-body.ensures.value) at c.in_err-close_if.ensures.closes in
-    rw (p.1, p.2) (λ frames before k. stops-closing c.args.terms _ _ frames before c.args.unit.now _ _ _ _ _ _ _ _ _ c.in_ok-check_emulation.ensures.value header says (closes c.args.terms.mode frames before k.slices k.decoder))
+    rw (p.1, p.2) (λ frames before k. stops-closing c.args.terms _ _ frames before c.args.unit.now _ _ _ _ _ _ _ _ _ c.in_ok-check_emulation.ensures.value
+    header says (closes c.args.terms.mode frames before k.slices k.decoder))
 
 pub returns-clause-turns : goal.returns-clause-turns
 returns-clause-turns g c =
@@ -168,7 +210,8 @@ returns-clause-turns g c =
     λ frames before k.
     let slices = rw (c.ends_picture-ends.ensures, c.of.ensures, c.body-body.ensures.value) at (c.in_ok-close_if.ensures.ended before k.slices) in
     let e = closes c.args.terms.mode frames before k.slices k.decoder in
-    let j = joins e.made before (within {mode = c.args.terms.mode} {frames = frames} {made = e.made} {before = before} c.args.state.now c.close_if.new.slices c.close_if.new.decoder k slices e.keeps) in
+    let j = joins e.made before (within {mode = c.args.terms.mode} {frames = frames} {made = e.made} {before = before} c.args.state.now c.close_if.new.slices
+    c.close_if.new.decoder k slices e.keeps) in
     turns-by c.args.terms _ _ frames before c.args.unit.now _ _ _ _ _ _ _ _ _ _ _ c.in_ok-check_emulation.ensures.value header says e j
 
 pub returns-in_err-check_emulation-clause-no_memory : goal.returns-in_err-check_emulation-clause-no_memory
@@ -181,7 +224,8 @@ pub returns-in_err-check_header-clause-no_memory : goal.returns-in_err-check_hea
 returns-in_err-check_header-clause-no_memory g c =
     let p = err_from_is_err_and c.from_residual-in_err-check_header.result c.from_residual-in_err-check_header.ensures.1 in
     let header = rw (c.from-from.ensures.value, c.body-body.ensures.value) at c.in_err-check_header.ensures in
-    rw (p.1, p.2) (λ frames before k m. absurd (named-memory _ (err-named (header_demands (8 * c.args.unit.now.from) (header_of c.args.unit.now)) _ (sym header)) m))
+    rw (p.1, p.2) (λ frames before k m. absurd
+    (named-memory _ (err-named (header_demands (8 * c.args.unit.now.from) (header_of c.args.unit.now)) _ (sym header)) m))
 
 pub returns-in_err-tell_unit-clause-no_memory : goal.returns-in_err-tell_unit-clause-no_memory
 returns-in_err-tell_unit-clause-no_memory g c =
@@ -200,4 +244,5 @@ returns-clause-no_memory g c =
     λ frames before k m.
     let slices = rw (c.ends_picture-ends.ensures, c.of.ensures, c.body-body.ensures.value) at (c.in_ok-close_if.ensures.ended before k.slices) in
     let e = closes c.args.terms.mode frames before k.slices k.decoder in
-    joins e.made before (within {mode = c.args.terms.mode} {frames = frames} {made = e.made} {before = before} c.args.state.now c.close_if.new.slices c.close_if.new.decoder k slices e.keeps) m
+    joins e.made before (within {mode = c.args.terms.mode} {frames = frames} {made = e.made} {before = before} c.args.state.now c.close_if.new.slices
+    c.close_if.new.decoder k slices e.keeps) m

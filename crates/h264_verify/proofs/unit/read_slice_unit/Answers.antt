@@ -10,7 +10,9 @@ use Rattle.h264_verify.proofs.unit.read_slice_unit.Goals as goal
 
 pub returns-clause-plays : goal.returns-clause-plays
 unfolding slice_outcome
-returns-clause-plays g c = λ frames before unit m h b. rw (← b, ← m, ← h, ← c.slice_unit-slice_unit.ensures) (plays-gives _ _ (λ _. c.read_header.new.header) (λ h. contents.OfSlice h []) _ _ _ _ (meets-plays frames _ _ _ (header (sets_of c.args.sets.now) _) _ _ _ _ _ _ c.new-bits.ensures c.read_header.ensures.meets c.read_header.ensures.answers))
+returns-clause-plays g c = λ frames before unit m h b. rw (← b, ← m, ← h, ← c.slice_unit-slice_unit.ensures)
+    (plays-gives _ _ (λ _. c.read_header.new.header) (λ h. contents.OfSlice h []) _ _ _ _
+    (meets-plays frames _ _ _ (header (sets_of c.args.sets.now) _) _ _ _ _ _ _ c.new-bits.ensures c.read_header.ensures.meets c.read_header.ensures.answers))
 
 pub returns-clause-marked : goal.returns-clause-marked
 returns-clause-marked g c = λ fits. read-marked _ _ _ _ c.args.header _ _ _ _ _ _ c.slice_unit-slice_unit.ensures fits c.read_header.ensures.meets

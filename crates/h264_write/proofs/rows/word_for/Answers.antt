@@ -10,7 +10,13 @@ returns-in_default-clause-none c = lacks-all c.loop-i.i c.args.table c.args.valu
 pub returns-then-word-value-clause-some : goal.returns-then-word-value-clause-some
 returns-then-word-value-clause-some c =
     let r = word-row c.args.table c.loop-i.i c.in-Some.word c.in-Some.ensures in
-    record { row = r.0; is_row = row-at (rows_of c.args.table) c.loop-i.i r.0 r.1; word_is = sym r.2; value_is = ap (λ (w : CodeWord). w.value) r.2 ∙ c.if-word-value.true }
+    record {
+      row = r.0;
+      is_row = row-at (rows_of c.args.table) c.loop-i.i r.0 r.1;
+      word_is = sym r.2;
+      value_is = ap (λ (w : CodeWord). w.value) r.2 ∙
+          c.if-word-value.true;
+    }
 
 pub returns-clause-none : goal.returns-clause-none
 returns-clause-none c = let few = rows_of-few c.args.table in lacks-all c.loop-i.i c.args.table c.args.value (omega arith) c.loop-i.invariant

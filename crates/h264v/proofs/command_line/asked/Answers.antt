@@ -27,11 +27,13 @@ found-by matches words app e h =
 
 pub returns-in-Some-clause-words : goal.returns-in-Some-clause-words
 returns-in-Some-clause-words c =
-    of-words (map (λ w. string_bytes w) c.args.words.now) _ (Some c.in-Some.request) (found-by _ _ _ c.in_ok-command.ensures c.in_ok-matches.ensures.matches) (rw c.in-Some.is at c.request_of.ensures)
+    of-words (map (λ w. string_bytes w) c.args.words.now) _ (Some c.in-Some.request) (found-by _ _ _ c.in_ok-command.ensures c.in_ok-matches.ensures.matches)
+    (rw c.in-Some.is at c.request_of.ensures)
 
 pub returns-clause-words : goal.returns-clause-words
 returns-clause-words c =
-    of-words (map (λ w. string_bytes w) c.args.words.now) _ None (found-by _ _ _ c.in_ok-command.ensures c.in_ok-matches.ensures.matches) (rw c.in-None.is at c.request_of.ensures)
+    of-words (map (λ w. string_bytes w) c.args.words.now) _ None (found-by _ _ _ c.in_ok-command.ensures c.in_ok-matches.ensures.matches)
+    (rw c.in-None.is at c.request_of.ensures)
 
 pub returns-in-Some-clause-matches : goal.returns-in-Some-clause-matches
 returns-in-Some-clause-matches c =

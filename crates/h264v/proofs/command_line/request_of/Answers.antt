@@ -18,20 +18,26 @@ pair-of None a b p q = absurd (none-some a p)
 pair-of (Some (x, y)) a b p q = ap₂ (λ u v. Some (u, v)) (ap (λ o. unwrap_or o a) p) (ap (λ o. unwrap_or o b) q)
 
 -- the subcommand's name, and the FILE among its rows
-named : (m : ArgMatches) (name : Text) (rows : List Row) → option_map (λ p. p.0) (subcommand_rows_of m) ≡ Some name → option_map (λ p. p.1) (subcommand_rows_of m) ≡ Some rows → found_by m ≡ Some (name, first_of (codes "FILE") rows)
-named m name rows p q = let pick : Text × List Row → Text × Option Text = λ p. (p.0, first_of (codes "FILE") p.1) in ap (option_map pick) (pair-of (subcommand_rows_of m) name rows p q)
+named : (m : ArgMatches) (name : Text) (rows : List Row) → option_map (λ p. p.0) (subcommand_rows_of m) ≡ Some name →
+    option_map (λ p. p.1) (subcommand_rows_of m) ≡ Some rows → found_by m ≡ Some (name, first_of (codes "FILE") rows)
+named m name rows p q = let pick : Text × List Row → Text × Option Text = λ p. (p.0, first_of (codes "FILE") p.1) in
+    ap (option_map pick) (pair-of (subcommand_rows_of m) name rows p q)
 
 second : (p q : Text × Option Text) → Some p ≡ Some q → p.1 ≡ q.1
 second p q e = ap (λ o. unwrap_or (option_map (λ (r : Text × Option Text). r.1) o) None) e
 
 pub returns-in_err-file : goal.returns-in_err-file
 returns-in_err-file c =
-    let at = named c.args.matches.now c.in_ok-name.name.now (rows_of (found_of c.in_ok-name.found.now)) (fused _ _ _ ∙ sym c.in_ok-name.ensures.name) (sym c.in_ok-name.ensures.rows) in
+    let at = named c.args.matches.now c.in_ok-name.name.now (rows_of (found_of c.in_ok-name.found.now)) (fused _ _ _ ∙ sym c.in_ok-name.ensures.name)
+    (sym c.in_ok-name.ensures.rows) in
     let none = sym (first_value-rows (found_of c.in_ok-name.found.now) (codes "FILE")) ∙ sym c.in_err-file.ensures in
-    rw c.from_residual-in_err-file.ensures (λ task file e. none-some file (sym none ∙ second (c.in_ok-name.name.now, first_of (codes "FILE") (rows_of (found_of c.in_ok-name.found.now))) (name_of task, Some file) (sym at ∙ e)))
+    rw c.from_residual-in_err-file.ensures (λ task file e. none-some file
+    (sym none ∙ second (c.in_ok-name.name.now, first_of (codes "FILE") (rows_of (found_of c.in_ok-name.found.now))) (name_of task, Some file)
+    (sym at ∙ e)))
 
 pub returns : goal.returns
 returns c =
-    let at = named c.args.matches.now c.in_ok-name.name.now (rows_of (found_of c.in_ok-name.found.now)) (fused _ _ _ ∙ sym c.in_ok-name.ensures.name) (sym c.in_ok-name.ensures.rows) in
+    let at = named c.args.matches.now c.in_ok-name.name.now (rows_of (found_of c.in_ok-name.found.now)) (fused _ _ _ ∙ sym c.in_ok-name.ensures.name)
+    (sym c.in_ok-name.ensures.rows) in
     let file = sym (first_value-rows (found_of c.in_ok-name.found.now) (codes "FILE")) ∙ sym c.in_ok-file.ensures in
     at ∙ ap₂ (λ (n : Text) (f : Option Text). Some (n, f)) (sym c.in_ok-task.ensures.task) file

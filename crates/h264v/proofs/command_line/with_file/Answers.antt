@@ -5,7 +5,8 @@ use Rattle.h264v.proofs.command_line.with_file.Goals as goal
 
 pub returns-clause-app : goal.returns-clause-app
 returns-clause-app c =
-    IfOk-weaker c.subcommand.result _ _ (λ r h. h.shape c.in_ok-added.ensures.local ∙ ap (λ (a : App). with_subcommand (app_of c.args.command) a.top) c.in_ok-added.ensures.app) c.subcommand.ensures
+    IfOk-weaker c.subcommand.result _ _ (λ r h. h.shape c.in_ok-added.ensures.local ∙
+    ap (λ (a : App). with_subcommand (app_of c.args.command) a.top) c.in_ok-added.ensures.app) c.subcommand.ensures
 
 pub returns-clause-local : goal.returns-clause-local
 returns-clause-local c =

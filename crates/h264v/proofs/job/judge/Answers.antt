@@ -5,11 +5,13 @@ use Rattle.h264v.proofs.Answered.{answered, took-calls}
 use Rattle.h264v.proofs.job.judge.Goals as goal
 
 pub returns-clause-answer : goal.returns-clause-answer
-returns-clause-answer g c = answered c.args.job.now.task c.args.job.now.options.target _ _ _ c.mode_of-mode.ensures c.run-answer.ensures.verdict c.run-answer.ensures.some.0 c.run-answer.ensures.some.4
+returns-clause-answer g c = answered c.args.job.now.task c.args.job.now.options.target _ _ _ c.mode_of-mode.ensures c.run-answer.ensures.verdict
+    c.run-answer.ensures.some.0 c.run-answer.ensures.some.4
 
 pub returns-clause-took : goal.returns-clause-took
 returns-clause-took g c none =
-    rw c.tell_end.ensures (took-calls {s' = c.run-answer.new.sink} c.args.job.now.task c.args.job.now.options.target _ _ _ c.mode_of-mode.ensures c.run-answer.ensures.verdict c.run-answer.ensures.some.0 c.run-answer.ensures.some.4 none)
+    rw c.tell_end.ensures (took-calls {s' = c.run-answer.new.sink} c.args.job.now.task c.args.job.now.options.target _ _ _ c.mode_of-mode.ensures
+    c.run-answer.ensures.verdict c.run-answer.ensures.some.0 c.run-answer.ensures.some.4 none)
 
 pub returns-clause-some : goal.returns-clause-some
 returns-clause-some g c none =

@@ -8,15 +8,18 @@ use Rattle.h264v.proofs.Answered.{answered, chosen-calls, took-calls}
 use Rattle.h264v.proofs.job.judge_chosen.Goals as goal
 
 pub returns-clause-answer : goal.returns-clause-answer
-returns-clause-answer g c = answered c.args.job.now.task c.args.job.now.options.target _ _ _ c.mode_of-mode.ensures c.run-answer.ensures.verdict c.run-answer.ensures.some.0 c.run-answer.ensures.some.4
+returns-clause-answer g c = answered c.args.job.now.task c.args.job.now.options.target _ _ _ c.mode_of-mode.ensures c.run-answer.ensures.verdict
+    c.run-answer.ensures.some.0 c.run-answer.ensures.some.4
 
 pub returns-clause-took : goal.returns-clause-took
 returns-clause-took g c none =
-    chosen-calls _ _ _ _ _ _ _ _ _ _ (took-calls {s' = c.run-answer.new.sink} c.args.job.now.task c.args.job.now.options.target _ _ _ c.mode_of-mode.ensures c.run-answer.ensures.verdict c.run-answer.ensures.some.0 c.run-answer.ensures.some.4
+    chosen-calls _ _ _ _ _ _ _ _ _ _ (took-calls {s' = c.run-answer.new.sink} c.args.job.now.task c.args.job.now.options.target _ _ _ c.mode_of-mode.ensures
+    c.run-answer.ensures.verdict c.run-answer.ensures.some.0 c.run-answer.ensures.some.4
     (c.new-narrowed.ensures.choice ∙ c.requires.choice, c.new-narrowed.ensures.took none))
 
 pub returns-clause-some : goal.returns-clause-some
 returns-clause-some g c none =
     let n = c.run-answer.new.sink in
-    let a = accounts {s' = n} (c.run-answer.ensures.some.4 (λ k. no_frame)) (c.new-narrowed.ensures.choice ∙ c.requires.choice, c.new-narrowed.ensures.took none) in
+    let a = accounts {s' = n} (c.run-answer.ensures.some.4 (λ k. no_frame))
+    (c.new-narrowed.ensures.choice ∙ c.requires.choice, c.new-narrowed.ensures.took none) in
     left-some g.S.Elements.took n.choice n.broke_off n.reading (pending_call n.pending) n.sink (calls_in a.0) a.1.1

@@ -12,11 +12,15 @@ use Rattle.h264v.proofs.job.judge_further.Goals as goal
 
 pub returns-then-not-is_surveyed-clause-answer : goal.returns-then-not-is_surveyed-clause-answer
 returns-then-not-is_surveyed-clause-answer g c =
-    rw c.judged_further.ensures.answer (answered c.args.job.now.task c.args.job.now.options.target _ (left_of g.F.Read.remaining c.args.file.now.reader) c.judge_strictly-judgement.result.answer c.mode_of-mode.ensures c.judge_strictly-judgement.ensures.verdict c.judge_strictly-judgement.ensures.units.0 c.judge_strictly-judgement.ensures.units.4)
+    rw c.judged_further.ensures.answer (answered c.args.job.now.task c.args.job.now.options.target _ (left_of g.F.Read.remaining c.args.file.now.reader)
+    c.judge_strictly-judgement.result.answer c.mode_of-mode.ensures c.judge_strictly-judgement.ensures.verdict c.judge_strictly-judgement.ensures.units.0
+    c.judge_strictly-judgement.ensures.units.4)
 
 pub returns-clause-answer : goal.returns-clause-answer
 returns-clause-answer g c =
-    rw c.judged_further-2.ensures.answer (answered c.args.job.now.task c.args.job.now.options.target _ (left_of g.F.Read.remaining c.args.file.now.reader) c.judge_strictly-judgement-2.result.answer c.mode_of-mode.ensures c.judge_strictly-judgement-2.ensures.verdict c.judge_strictly-judgement-2.ensures.units.0 c.judge_strictly-judgement-2.ensures.units.4)
+    rw c.judged_further-2.ensures.answer (answered c.args.job.now.task c.args.job.now.options.target _ (left_of g.F.Read.remaining c.args.file.now.reader)
+    c.judge_strictly-judgement-2.result.answer c.mode_of-mode.ensures c.judge_strictly-judgement-2.ensures.verdict
+    c.judge_strictly-judgement-2.ensures.units.0 c.judge_strictly-judgement-2.ensures.units.4)
 
 pub returns-then-not-is_surveyed-clause-read : goal.returns-then-not-is_surveyed-clause-read
 returns-then-not-is_surveyed-clause-read g c e = c.judge_strictly-judgement.ensures.read (sym c.judged_further.ensures.answer ∙ e)
@@ -26,8 +30,10 @@ returns-then-not-is_surveyed-clause-further g c =
     let u = c.judge_strictly-judgement.ensures.units in
     let none = subst (λ s. g.S.Elements.took s []) (sym c.new-sink.ensures.sink) c.requires.none in
     let tells = subst (λ (units : UnitsRead). TellsOfBytes units.extent u.1 units.found units.lack u.0) (sym c.judged_further.ensures.units) u.5 in
-    rw c.judged_further.ensures.answer (judged _ (mode_of c.args.job.now.task) c.args.job.now.options.target (left_of g.F.Read.remaining c.args.file.now.reader) c.judge_strictly-judgement.result.answer c.judged_further.result.further
-    c.mode_of-mode.ensures u.0 u.1 u.2 u.3 (u.4 (λ k. no_frame)) (none, c.new-sink.ensures.strict) (λ calls t. subst (λ s. TookStrict s calls) (sym c.judged_further.ensures.strict) t.1) tells)
+    rw c.judged_further.ensures.answer (judged _ (mode_of c.args.job.now.task) c.args.job.now.options.target
+    (left_of g.F.Read.remaining c.args.file.now.reader) c.judge_strictly-judgement.result.answer c.judged_further.result.further
+    c.mode_of-mode.ensures u.0 u.1 u.2 u.3 (u.4 (λ k. no_frame)) (none, c.new-sink.ensures.strict)
+    (λ calls t. subst (λ s. TookStrict s calls) (sym c.judged_further.ensures.strict) t.1) tells)
 
 pub returns-clause-read : goal.returns-clause-read
 returns-clause-read g c e = c.judge_strictly-judgement-2.ensures.read (sym c.judged_further-2.ensures.answer ∙ e)
@@ -37,5 +43,8 @@ returns-clause-further g c =
     let u = c.judge_strictly-judgement-2.ensures.units in
     let none = subst (λ s. g.S.Elements.took s []) (sym c.new-sink.ensures.sink) c.requires.none in
     let tells = subst (λ (units : UnitsRead). TellsOfBytes units.extent u.1 units.found units.lack u.0) (sym c.judged_further-2.ensures.units) u.5 in
-    rw c.judged_further-2.ensures.answer (judged _ (mode_of c.args.job.now.task) c.args.job.now.options.target (left_of g.F.Read.remaining c.args.file.now.reader) c.judge_strictly-judgement-2.result.answer c.judged_further-2.result.further
-    c.mode_of-mode.ensures u.0 u.1 u.2 u.3 (u.4 (λ k. no_frame)) (none, c.new-sink.ensures.strict) (λ calls t. subst (λ s. TookStrict s calls) (ap (λ (s : StrictSink g.row.S.Denot). s.strict) (sym c.tell_end.ensures) ∙ sym c.judged_further-2.ensures.strict) t.1) tells)
+    rw c.judged_further-2.ensures.answer (judged _ (mode_of c.args.job.now.task) c.args.job.now.options.target
+    (left_of g.F.Read.remaining c.args.file.now.reader) c.judge_strictly-judgement-2.result.answer c.judged_further-2.result.further
+    c.mode_of-mode.ensures u.0 u.1 u.2 u.3 (u.4 (λ k. no_frame)) (none, c.new-sink.ensures.strict)
+    (λ calls t. subst (λ s. TookStrict s calls)
+    (ap (λ (s : StrictSink g.row.S.Denot). s.strict) (sym c.tell_end.ensures) ∙ sym c.judged_further-2.ensures.strict) t.1) tells)

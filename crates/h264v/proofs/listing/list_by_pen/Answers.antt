@@ -6,10 +6,16 @@ use Rattle.h264v.proofs.listing.list_by_pen.Goals as goal
 
 pub returns-clause-same_reference : goal.returns-clause-same_reference
 returns-clause-same_reference g c =
-    let none = none-lines (c.new-sink.ensures.same_reference ∙ c.requires.name) (ap opening_of c.new-sink.ensures.form ∙ c.requires.opening) (c.new-sink.ensures.listing ∙ c.listing_of-listing.ensures ∙ c.requires.listing) (ap g.W.Device.contents c.new-sink.ensures.unwritten ∙ c.requires.start) (ap g.W.Device.has_failed c.new-sink.ensures.unwritten ∙ c.requires.was_failed) c.new-sink.ensures.frames c.new-sink.ensures.whole in
+    let none = none-lines (c.new-sink.ensures.same_reference ∙ c.requires.name) (ap opening_of c.new-sink.ensures.form ∙ c.requires.opening)
+    (c.new-sink.ensures.listing ∙ c.listing_of-listing.ensures ∙ c.requires.listing)
+    (ap g.W.Device.contents c.new-sink.ensures.unwritten ∙ c.requires.start)
+    (ap g.W.Device.has_failed c.new-sink.ensures.unwritten ∙ c.requires.was_failed) c.new-sink.ensures.frames c.new-sink.ensures.whole in
     c.into_pen.ensures.same_reference ∙ (c.judge-surveyed.ensures.some none).1.same_reference
 
 pub returns-clause-text : goal.returns-clause-text
 returns-clause-text g c =
-    let none = none-lines (c.new-sink.ensures.same_reference ∙ c.requires.name) (ap opening_of c.new-sink.ensures.form ∙ c.requires.opening) (c.new-sink.ensures.listing ∙ c.listing_of-listing.ensures ∙ c.requires.listing) (ap g.W.Device.contents c.new-sink.ensures.unwritten ∙ c.requires.start) (ap g.W.Device.has_failed c.new-sink.ensures.unwritten ∙ c.requires.was_failed) c.new-sink.ensures.frames c.new-sink.ensures.whole in
+    let none = none-lines (c.new-sink.ensures.same_reference ∙ c.requires.name) (ap opening_of c.new-sink.ensures.form ∙ c.requires.opening)
+    (c.new-sink.ensures.listing ∙ c.listing_of-listing.ensures ∙ c.requires.listing)
+    (ap g.W.Device.contents c.new-sink.ensures.unwritten ∙ c.requires.start)
+    (ap g.W.Device.has_failed c.new-sink.ensures.unwritten ∙ c.requires.was_failed) c.new-sink.ensures.frames c.new-sink.ensures.whole in
     rw c.into_pen.ensures.kept (of-map _ _ _ (λ bytes t. takes-lines _ _ t) (c.judge-surveyed.ensures.took none))

@@ -13,20 +13,24 @@ use Rattle.h264v.proofs.more.do_file.Goals as goal
 
 pub returns-clause-answer : goal.returns-clause-answer
 returns-clause-answer g c =
-    let k = subst (λ name. Keeps (g.O.Opener.holds c.args.files.now.opener name) (left_of g.O.File.Read.remaining c.open.new.self.file.reader)) c.system_name.ensures
+    let k = subst (λ name. Keeps (g.O.Opener.holds c.args.files.now.opener name) (left_of g.O.File.Read.remaining c.open.new.self.file.reader))
+    c.system_name.ensures
     (opened c.open.result _ (sym c.is_err.ensures.value ∙ c.if-is_err.false) c.open.ensures.opened) in
-    of-kept _ _ (λ bytes. IsAnswer (terms_of (mode_of c.args.job.now.task) c.args.job.now.options.target) bytes c.judge_opened.result.ending.answer) k c.judge_opened.ensures.answer
+    of-kept _ _ (λ bytes. IsAnswer (terms_of (mode_of c.args.job.now.task) c.args.job.now.options.target) bytes c.judge_opened.result.ending.answer) k
+    c.judge_opened.ensures.answer
 
 pub returns-clause-broken : goal.returns-clause-broken
 returns-clause-broken g c =
-    let k = subst (λ name. Keeps (g.O.Opener.holds c.args.files.now.opener name) (left_of g.O.File.Read.remaining c.open.new.self.file.reader)) c.system_name.ensures
+    let k = subst (λ name. Keeps (g.O.Opener.holds c.args.files.now.opener name) (left_of g.O.File.Read.remaining c.open.new.self.file.reader))
+    c.system_name.ensures
     (opened c.open.result _ (sym c.is_err.ensures.value ∙ c.if-is_err.false) c.open.ensures.opened) in
     broken-kept _ _ _ _ c.judge_opened.result k c.judge_opened.ensures.broken
 
 pub returns-clause-read : goal.returns-clause-read
 returns-clause-read g c e =
     let well = sym c.is_err.ensures.value ∙ c.if-is_err.false in
-    read-since (was_read_by c.judge_opened.new.file.reads c.judge_opened.new.file.failures) (opened c.open.result _ well c.open.ensures.kept) (opened c.open.result _ well c.open.ensures.reads)
+    read-since (was_read_by c.judge_opened.new.file.reads c.judge_opened.new.file.failures) (opened c.open.result _ well c.open.ensures.kept)
+    (opened c.open.result _ well c.open.ensures.reads)
     (c.judge_opened.ensures.read e)
 
 pub returns-clause-read_told : goal.returns-clause-read_told
@@ -35,6 +39,7 @@ returns-clause-read_told g c =
 
 pub returns-clause-text : goal.returns-clause-text
 returns-clause-text g c =
-    let k = subst (λ name. Keeps (g.O.Opener.holds c.args.files.now.opener name) (left_of g.O.File.Read.remaining c.open.new.self.file.reader)) c.system_name.ensures
+    let k = subst (λ name. Keeps (g.O.Opener.holds c.args.files.now.opener name) (left_of g.O.File.Read.remaining c.open.new.self.file.reader))
+    c.system_name.ensures
     (opened c.open.result _ (sym c.is_err.ensures.value ∙ c.if-is_err.false) c.open.ensures.opened) in
     text-kept _ _ _ k c.judge_opened.ensures.text

@@ -40,10 +40,18 @@ loop-name-preserved g c =
     let whole = sym c.did_fail.ensures ∙ c.if-did_fail.false in
     let unread = c.close.ensures.unread ∙ ap (one_more _) d.ensures.unread in
     let written : IsWritten job.task job.options (λ n. g.O.Opener.holds c.args.files.now.opener n) f =
-    written-of job.task job.options (λ n. g.O.Opener.holds c.loop-name.files.opener n) (λ n. g.O.Opener.holds c.args.files.now.opener n) f (i.9 (system_name f.name))
-    (record { answer = d.ensures.answer; broken = d.ensures.broken; no_write = λ e. ⊎_elim (λ f. absurd (true≢false (sym f ∙ whole))) (λ y. y) (d.ensures.failures.write e); written = not-false _ c.if-not-done.false; text = d.ensures.text.is_text }) in (
+    written-of job.task job.options (λ n. g.O.Opener.holds c.loop-name.files.opener n) (λ n. g.O.Opener.holds c.args.files.now.opener n) f
+    (i.9 (system_name f.name))
+    (record {
+      answer = d.ensures.answer;
+      broken = d.ensures.broken;
+      no_write = λ e. ⊎_elim (λ f. absurd (true≢false (sym f ∙ whole))) (λ y. y) (d.ensures.failures.write e);
+      written = not-false _ c.if-not-done.false;
+      text = d.ensures.text.is_text;
+    }) in (
       i.0 ++ f ∷ [],
-      map-append (λ (e : FileDone). e.name) i.0 (f ∷ []) ∙ ap (λ l. l ++ name ∷ []) i.1 ∙ sym (one-more (λ (n : Bor (List ℕ)). n.now) c.args.names.now c.loop-name.name-index none c.loop-name-test.true),
+      map-append (λ (e : FileDone). e.name) i.0 (f ∷ []) ∙ ap (λ l. l ++ name ∷ []) i.1 ∙
+          sym (one-more (λ (n : Bor (List ℕ)). n.now) c.args.names.now c.loop-name.name-index none c.loop-name-test.true),
       All-push (IsWritten job.task job.options (λ n. g.O.Opener.holds c.args.files.now.opener n)) i.0 f i.2 written,
       c.add.ensures.worst ∙ ap (λ w. max w c.status.result) i.3 ∙ ap (max (worst i.0)) c.status.ensures ∙ sym (worst-more i.0 f),
       λ e. absurd (true≢false (sym e ∙ whole)),
@@ -63,6 +71,7 @@ returns g c =
     let at : length names ≡ c.loop-name.name-index = let t = c.loop-name-test.false in let a = c.loop-name.auto.name-index-end in omega arith in
     let all = take_all c.loop-name.name-index names (omega (arith, at)) in
     let texts : List (Bor (List ℕ)) → List (List ℕ) = map (λ (n : Bor (List ℕ)). n.now) in
-    each-written job.task job.options (λ n. g.O.Opener.holds c.args.files.now.opener n) _ _ i.0 (texts names) _ _ _ _ (i.1 ∙ ap texts all) (λ e. c.requires.several (sym (length-map names (λ (n : Bor (List ℕ)). n.now)) ∙ e)) i.2 i.5 i.3
+    each-written job.task job.options (λ n. g.O.Opener.holds c.args.files.now.opener n) _ _ i.0 (texts names) _ _ _ _ (i.1 ∙ ap texts all)
+    (λ e. c.requires.several (sym (length-map names (λ (n : Bor (List ℕ)). n.now)) ∙ e)) i.2 i.5 i.3
     (λ e. i.4 (sym (c.put_text.ensures.quiet c.if-not-put_text.false) ∙ e)) (c.put_text.ensures.handed_over c.if-not-put_text.false)
     c.as_str.result.now (λ none. sends-more i.10 (taken c.put_text.result _ c.put_text.ensures.text c.put_text.ensures.failed none))

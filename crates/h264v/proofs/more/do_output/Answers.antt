@@ -12,14 +12,16 @@ use Rattle.h264v.proofs.more.do_output.Goals as goal
 
 pub returns-clause-answer : goal.returns-clause-answer
 returns-clause-answer g c =
-    let k = subst (λ name. Keeps (g.O.Opener.holds c.args.files.now.opener name) (left_of g.O.File.Read.remaining c.open.new.self.file.reader)) c.system_name.ensures
+    let k = subst (λ name. Keeps (g.O.Opener.holds c.args.files.now.opener name) (left_of g.O.File.Read.remaining c.open.new.self.file.reader))
+    c.system_name.ensures
     (opened c.open.result _ (sym c.is_err.ensures.value ∙ c.if-is_err.false) c.open.ensures.opened) in
     of-kept _ _ (λ bytes. IsAnswer (terms_of (mode_of c.args.job.now.task) c.args.job.now.options.target) bytes c.judge_opened-done.result.ending.answer) k
     (rw c.make.ensures at c.judge_opened-done.ensures.answer)
 
 pub returns-clause-broken : goal.returns-clause-broken
 returns-clause-broken g c =
-    let k = subst (λ name. Keeps (g.O.Opener.holds c.args.files.now.opener name) (left_of g.O.File.Read.remaining c.open.new.self.file.reader)) c.system_name.ensures
+    let k = subst (λ name. Keeps (g.O.Opener.holds c.args.files.now.opener name) (left_of g.O.File.Read.remaining c.open.new.self.file.reader))
+    c.system_name.ensures
     (opened c.open.result _ (sym c.is_err.ensures.value ∙ c.if-is_err.false) c.open.ensures.opened) in
     broken-kept _ _ _ _ c.judge_opened-done.result k (rw c.make.ensures at c.judge_opened-done.ensures.broken)
 

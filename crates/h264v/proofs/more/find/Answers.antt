@@ -15,4 +15,5 @@ pub returns-in-Report-clause-text : goal.returns-in-Report-clause-text
 returns-in-Report-clause-text g c = report-text c.report_file.result _ _ _ _ _ _ c.in-Report.is c.report_file.ensures.text
 
 pub returns-in_default-clause-text : goal.returns-in_default-clause-text
-returns-in_default-clause-text g c = list-text c.list_file.result _ _ _ _ _ _ c.in_default.not-Check c.in_default.not-Decode c.in_default.not-Info c.in_default.not-Report c.list_file.ensures.text
+returns-in_default-clause-text g c = list-text c.list_file.result _ _ _ _ _ _ c.in_default.not-Check c.in_default.not-Decode c.in_default.not-Info
+    c.in_default.not-Report c.list_file.ensures.text

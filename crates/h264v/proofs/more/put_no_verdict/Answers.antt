@@ -13,4 +13,6 @@ pub returns-then-answers_aside-clause-text : goal.returns-then-answers_aside-cla
 returns-then-answers_aside-clause-text g c none = end-aside _ (sym c.answers_aside.ensures ∙ c.if-answers_aside.true)
 
 pub returns-clause-text : goal.returns-clause-text
-returns-clause-text g c none = end-here c.put_unjudged-2.result.ending.written _ _ c.put_unjudged-2.ensures.text.0 (sym c.answers_aside.ensures ∙ c.if-answers_aside.false) c.put_unjudged-2.ensures.text.1 (c.put_unjudged-2.ensures.text.2 none) c.put_unjudged-2.ensures.failed
+returns-clause-text g c none = end-here c.put_unjudged-2.result.ending.written _ _ c.put_unjudged-2.ensures.text.0
+    (sym c.answers_aside.ensures ∙ c.if-answers_aside.false) c.put_unjudged-2.ensures.text.1 (c.put_unjudged-2.ensures.text.2 none)
+    c.put_unjudged-2.ensures.failed

@@ -32,4 +32,7 @@ returns c =
     let all = ap (count_by is) (take_all c.loop-file.file-index c.args.files.now (omega (arith, at))) in
     let every = count-map (λ t. bytes_eq t c.args.name.now) (λ f. f.now) c.args.files.now in
     let i = c.loop-file.invariant in
-    record { once = ((λ h. omega (arith, i, all, every, h)), (λ h. omega (arith, i, all, every, h))); again = ((λ h. omega (arith, i, all, every, h)), (λ h. omega (arith, i, all, every, h))) }
+    record {
+      once = ((λ h. omega (arith, i, all, every, h)), (λ h. omega (arith, i, all, every, h)));
+      again = ((λ h. omega (arith, i, all, every, h)), (λ h. omega (arith, i, all, every, h)));
+    }

@@ -15,4 +15,5 @@ pub returns-in-More : goal.returns-in-More
 returns-in-More g c =
     let comes = c.in-More.ensures.comes in
     let request = c.in-More.wanted.request in
-    More _ request.task request.file.now comes.0 (moved comes.1 comes.2 comes.3 (rw (c.command.ensures.kept c.in-More.wanted c.in-More.is) at c.run_more.ensures))
+    More _ request.task request.file.now comes.0
+    (moved comes.1 comes.2 comes.3 (rw (c.command.ensures.kept c.in-More.wanted c.in-More.is) at c.run_more.ensures))

@@ -19,7 +19,14 @@ pub returns-in-Ok-None-clause-some : goal.returns-in-Ok-None-clause-some
 returns-in-Ok-None-clause-some g c = ([], NotText c.not_text.ensures.status refl)
 
 pub returns-in-Err-clause-known : goal.returns-in-Err-clause-known
-returns-in-Err-clause-known g c words e = NoWords c.put_memory.result.written (c.status.ensures ∙ ap (λ answer. status_of c.put_memory.result.written answer) c.put_memory.ensures.answer) c.put_memory.ensures.handed_over c.put_memory.ensures.text
+returns-in-Err-clause-known g c words e =
+    NoWords c.put_memory.result.written (c.status.ensures ∙ ap (λ answer. status_of c.put_memory.result.written answer) c.put_memory.ensures.answer)
+    c.put_memory.ensures.handed_over c.put_memory.ensures.text
 
 pub returns-in-Err-clause-some : goal.returns-in-Err-clause-some
-returns-in-Err-clause-some g c = ([], NoWords c.put_memory.result.written (c.status.ensures ∙ ap (λ answer. status_of c.put_memory.result.written answer) c.put_memory.ensures.answer) c.put_memory.ensures.handed_over c.put_memory.ensures.text)
+returns-in-Err-clause-some g c = (
+  [],
+  NoWords c.put_memory.result.written
+      (c.status.ensures ∙ ap (λ answer. status_of c.put_memory.result.written answer) c.put_memory.ensures.answer) c.put_memory.ensures.handed_over
+      c.put_memory.ensures.text,
+)

@@ -11,7 +11,8 @@ returns c whole =
       opened.0,
       (
         filled.1.0,
-        object-closed (text_on c.args.page.now) (codes "{\"file\":" ++ quoted c.args.job.now.file.now) (text_field (codes "kind") (codes "verdict")) (answer_fields c.args.found.now.answer) filled.1.0 (codes "}\n")
+        object-closed (text_on c.args.page.now) (codes "{\"file\":" ++ quoted c.args.job.now.file.now) (text_field (codes "kind") (codes "verdict"))
+            (answer_fields c.args.found.now.answer) filled.1.0 (codes "}\n")
             _ _ _ opened.1 filled.1.1 closed.1,
       ),
     )

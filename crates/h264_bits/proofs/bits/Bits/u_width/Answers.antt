@@ -15,7 +15,8 @@ pub returns-in-Ok-clause-word : goal.returns-in-Ok-clause-word
 returns-in-Ok-clause-word c =
     let r = c.args.self.now in
     let fits = rw c.next_bits-value.ensures.kept at c.in-Ok.ensures.fits in
-    rw (c.in-Ok.ensures.end, c.next_bits-value.ensures.kept, c.next_bits-value.ensures.value) (value-reads (Fixed c.args.n) r.body.bytes r.at _ (r.at + c.args.n) (fixed-inside c.args.n r.body.bytes r.at fits))
+    rw (c.in-Ok.ensures.end, c.next_bits-value.ensures.kept, c.next_bits-value.ensures.value)
+    (value-reads (Fixed c.args.n) r.body.bytes r.at _ (r.at + c.args.n) (fixed-inside c.args.n r.body.bytes r.at fits))
 
 pub returns-in-Ok-clause-small : goal.returns-in-Ok-clause-small
 returns-in-Ok-clause-small c = rw c.next_bits-value.ensures.value (peek-below c.args.n c.args.self.now.body.bytes c.args.self.now.at)

@@ -9,7 +9,8 @@ use Rattle.h264_dpb.proofs.output.Output.places_taken.Goals as goal
 
 -- under their names as many places are taken
 same-taken : (b : Buffered Shown) (kept : Buffered Placed) → SameBuffer b kept → places_taken kept ≡ places_taken b
-same-taken b kept same = sym (ap (λ n. n + b.missing) (ap (λ es. length es) same.entries ∙ length-map kept.entries (renamed shown_at)) ∙ ap (λ m. length kept.entries + m) same.missing)
+same-taken b kept same = sym (ap (λ n. n + b.missing) (ap (λ es. length es) same.entries ∙ length-map kept.entries (renamed shown_at)) ∙
+    ap (λ m. length kept.entries + m) same.missing)
 
 pub returns : goal.returns
 returns c = λ b written next k o. c.places_taken.ensures o.within ∙ same-taken b c.args.self.now.buffer k.same

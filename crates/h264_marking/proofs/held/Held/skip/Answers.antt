@@ -8,5 +8,7 @@ use Rattle.h264_marking.proofs.held.Held.skip.Goals as goal
 pub returns : goal.returns
 returns c =
     all-moved c.args.numbering.now c.args.last c.args.self.now c.requires.steady c.args.count
-    ∙ ap (λ (r : References). let o : Option References = Some (record r { frames = map (moved c.args.numbering.now.max_frame_num c.args.count) r.frames }) in o) (sym c.self.view_is)
-    ∙ ap (λ (frames : List ReferenceFrame). let o : Option References = Some (record { frames = frames; max_long_term_frame_idx_plus1 = c.self.inside.max_long_term_frame_idx_plus1 }) in o) (sym c.move_all.ensures)
+    ∙ ap (λ (r : References). let o : Option References = Some (record r { frames = map (moved c.args.numbering.now.max_frame_num c.args.count) r.frames }) in
+    o) (sym c.self.view_is)
+    ∙ ap (λ (frames : List ReferenceFrame). let o : Option References =
+    Some (record { frames = frames; max_long_term_frame_idx_plus1 = c.self.inside.max_long_term_frame_idx_plus1 }) in o) (sym c.move_all.ensures)

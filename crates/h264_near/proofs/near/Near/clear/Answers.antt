@@ -10,4 +10,5 @@ returns c =
     let w = c.args.self.now.within in
     let all : c.fill.new.self.items ≡ replicate (vec_len c.args.self.now.above) none = c.fill.ensures.items (search rules) in
     let row = c.begin_row.ensures in
-    starts (vec_len c.args.self.now.above) c.begin_row.new.self (omega arith) (rw row.above c.fill.ensures.len) row.column row.left row.corner (λ k h. rw (row.above, all) (get_or-replicate (vec_len c.args.self.now.above) k None None h))
+    starts (vec_len c.args.self.now.above) c.begin_row.new.self (omega arith) (rw row.above c.fill.ensures.len) row.column row.left row.corner
+    (λ k h. rw (row.above, all) (get_or-replicate (vec_len c.args.self.now.above) k None None h))

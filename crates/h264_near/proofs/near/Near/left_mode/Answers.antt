@@ -7,10 +7,13 @@ pub returns-in-Some : goal.returns-in-Some
 returns-in-Some c width picture k =
     let some : 0 < width = let w = c.args.self.now.within in let s = k.sized in omega arith in
     let p = c.in-Some.ensures.some in
-    rw c.in-Some.ensures.here (mode-own width picture c.args.slice some c.args.constrained c.args.modes.now c.args.b (column_of c.args.b - 1) (row_of c.args.b) _ _ (omega arith) refl (let h = within-column c.args.b in omega arith) (within-row c.args.b c.requires) (left-earlier c.args.b c.requires p) (omega arith))
+    rw c.in-Some.ensures.here (mode-own width picture c.args.slice some c.args.constrained c.args.modes.now c.args.b (column_of c.args.b - 1)
+    (row_of c.args.b) _ _ (omega arith) refl (let h = within-column c.args.b in omega arith) (within-row c.args.b c.requires)
+    (left-earlier c.args.b c.requires p) (omega arith))
 
 pub returns-in-None : goal.returns-in-None
 returns-in-None c width picture k =
     let some : 0 < width = let w = c.args.self.now.within in let s = k.sized in omega arith in
     let z : column_of c.args.b ≡ 0 = c.in-None.ensures.none refl in
-    rw (c.mode_along.ensures, c.row.ensures.here) (mode-left width picture c.args.slice some c.args.constrained c.args.self.now _ _ (row_of c.args.b) _ k z refl (within-row c.args.b c.requires))
+    rw (c.mode_along.ensures, c.row.ensures.here)
+    (mode-left width picture c.args.slice some c.args.constrained c.args.self.now _ _ (row_of c.args.b) _ k z refl (within-row c.args.b c.requires))

@@ -9,11 +9,14 @@ unfolding chroma_number_of
 returns-then-b-gt0 c width picture k =
     let some : 0 < width = let w = c.args.self.now.within in let s = k.sized in omega arith in
     let b = c.args.b in let r = c.requires in let t = c.if-b-gt0.true in
-    chroma-own width picture c.args.slice some c.args.totals.now b (b / 4) (b % 2) (b / 2 % 2 - 1) _ _ (b - 2) refl (omega arith) (omega arith) (omega arith) (omega arith) (omega arith) (omega arith)
+    chroma-own width picture c.args.slice some c.args.totals.now b (b / 4) (b % 2) (b / 2 % 2 - 1) _ _ (b - 2) refl (omega arith) (omega arith) (omega arith)
+    (omega arith) (omega arith) (omega arith)
 
 pub returns : goal.returns
 returns c width picture k =
     let some : 0 < width = let w = c.args.self.now.within in let s = k.sized in omega arith in
     let b = c.args.b in let r = c.requires in let f = c.if-b-gt0.false in
-    let e = c.index.ensures ∙ get_or_default c.args.self.now.above.items c.args.self.now.column _ None (let n = c.args.self.now.above.ok.0 in let w = c.args.self.now.within in omega arith) in
-    rw (c.chroma_along.ensures, e) (chroma-upper width picture c.args.slice some c.args.self.now _ (b / 4) (b % 2) _ k (omega arith) (omega arith) (omega arith))
+    let e = c.index.ensures ∙ get_or_default c.args.self.now.above.items c.args.self.now.column _ None
+    (let n = c.args.self.now.above.ok.0 in let w = c.args.self.now.within in omega arith) in
+    rw (c.chroma_along.ensures, e) (chroma-upper width picture c.args.slice some c.args.self.now _ (b / 4) (b % 2) _ k (omega arith) (omega arith)
+    (omega arith))

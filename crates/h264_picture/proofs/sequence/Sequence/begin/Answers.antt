@@ -4,10 +4,12 @@ use Rattle.h264_picture.proofs.Sound.{begun}
 use Rattle.h264_picture.proofs.sequence.Sequence.begin.Goals as goal
 
 pub invariant_of-self-clause-sound : goal.invariant_of-self-clause-sound
-invariant_of-self-clause-sound c = begun _ _ _ _ _ c.args.self.now.frames c.begin.new.self (c.begin.ensures.size _ _ c.args.self.now.sound.frames) c.begin.ensures.count c.args.self.now.sound
+invariant_of-self-clause-sound c = begun _ _ _ _ _ c.args.self.now.frames c.begin.new.self (c.begin.ensures.size _ _ c.args.self.now.sound.frames)
+    c.begin.ensures.count c.args.self.now.sound
 
 pub returns-clause-made : goal.returns-clause-made
-returns-clause-made c width size making v = record { holds = begun-holds width size c.args.self.now _ v c.clear.ensures refl refl refl; samples = nothing-made making _ }
+returns-clause-made c width size making v =
+    record { holds = begun-holds width size c.args.self.now _ v c.clear.ensures refl refl refl; samples = nothing-made making _ }
 
 pub returns-clause-count : goal.returns-clause-count
 returns-clause-count c = c.begin.ensures.count

@@ -44,7 +44,8 @@ pub go_on-requires-clause-qp : goal.go_on-requires-clause-qp
 go_on-requires-clause-qp c = rw c.new.ensures.read c.requires.qp
 
 pub invariant_of-self-2-clause-sound : goal.invariant_of-self-2-clause-sound
-invariant_of-self-2-clause-sound c = made _ _ _ _ _ c.args.self.now.sound c.requires.next _ _ c.go_on.ensures.lines c.args.self.now.frames.within.0 c.go_on.ensures.size refl refl
+invariant_of-self-2-clause-sound c = made _ _ _ _ _ c.args.self.now.sound c.requires.next _ _ c.go_on.ensures.lines c.args.self.now.frames.within.0
+    c.go_on.ensures.size refl refl
 
 pub returns-clause-range : goal.returns-clause-range
 returns-clause-range c coded r =
@@ -64,13 +65,17 @@ returns-clause-samples c t width size (Some making) picture coded h s m r e p =
     let context = slice.context in
     let w = h.columns in
     let n : length picture ≡ old.picture.position.row * old.across + old.picture.position.column = sym h.next ∙ old.sound.next in
-    let n' : length picture ≡ old.picture.position.row * width + old.picture.position.column = subst (λ x. length picture ≡ old.picture.position.row * x + old.picture.position.column) w n in
+    let n' : length picture ≡ old.picture.position.row * width + old.picture.position.column =
+    subst (λ x. length picture ≡ old.picture.position.row * x + old.picture.position.column) w n in
     let i : old.picture.position.column < width = subst (λ x. old.picture.position.column < x) w old.sound.column in
     let fits : SFits w32 context.chroma_qp_index_offset = search rules in
     let levels = rw (kept32 context.chroma_qp_index_offset fits) at c.new.ensures.levels coded r in
-    let is = ap (coded_as c.given_within-m.result) levels ∙ c.given_within-m.ensures.given width picture making.place coded w h.keeps n' i r e p slice.usable.places m.placed in
+    let is = ap (coded_as c.given_within-m.result) levels ∙
+    c.given_within-m.ensures.given width picture making.place coded w h.keeps n' i r e p slice.usable.places m.placed in
     if-ok c.go_on.result (sym c.is_ok.ensures.value ∙ t) c.go_on.ensures.held
-    (setting_of old) making.place making.slices picture coded n old.sound.column (in-rows _ _ _ _ _ old.sound c.requires.next) (are-shown old _ c.requires.places _ c.given_within-m.ensures.points)
-    (possible width context picture making.place (weights_by slice.weights) context.chroma_qp_index_offset coded old.picture.position.column old.picture.position.row _ n' i e p is)
+    (setting_of old) making.place making.slices picture coded n old.sound.column (in-rows _ _ _ _ _ old.sound c.requires.next)
+    (are-shown old _ c.requires.places _ c.given_within-m.ensures.points)
+    (possible width context picture making.place (weights_by slice.weights) context.chroma_qp_index_offset coded old.picture.position.column
+    old.picture.position.row _ n' i e p is)
     (given-by old.across width picture making slice coded _ w m e is) (c.partition.ensures coded r)
     (subst (λ x. Keeps x picture old.picture.near) (sym w) h.keeps) r.contexts (filter-by making slice coded m e) m.offsets s

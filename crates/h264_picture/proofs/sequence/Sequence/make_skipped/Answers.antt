@@ -11,7 +11,9 @@ use Rattle.h264_picture.proofs.Room.{in-rows, is-small, own-room, are-usable, y-
 use Rattle.h264_picture.proofs.sequence.Sequence.make_skipped.Goals as goal
 
 pub go_on_skipped-requires-clause-usable : goal.go_on_skipped-requires-clause-usable
-go_on_skipped-requires-clause-usable c = are-usable _ _ _ _ _ c.args.self.now.sound c.requires.next _ c.requires.places (prediction_by c.args.skipped.now c.args.slice.now.places) (skip-points c.args.skipped.now c.args.slice.now.places)
+go_on_skipped-requires-clause-usable c =
+    are-usable _ _ _ _ _ c.args.self.now.sound c.requires.next _ c.requires.places (prediction_by c.args.skipped.now c.args.slice.now.places)
+    (skip-points c.args.skipped.now c.args.slice.now.places)
 
 pub go_on_skipped-requires-clause-y : goal.go_on_skipped-requires-clause-y
 go_on_skipped-requires-clause-y c = (own-room _ _ _ _ _ c.args.self.now.sound c.requires.next c.args.self.now.frames.within.0).y
@@ -35,7 +37,8 @@ pub go_on_skipped-requires-clause-small : goal.go_on_skipped-requires-clause-sma
 go_on_skipped-requires-clause-small c = is-small _ _ _ _ _ c.args.self.now.sound c.requires.next
 
 pub invariant_of-self-2-clause-sound : goal.invariant_of-self-2-clause-sound
-invariant_of-self-2-clause-sound c = made _ _ _ _ _ c.args.self.now.sound c.requires.next _ _ c.go_on_skipped.ensures.lines c.args.self.now.frames.within.0 c.go_on_skipped.ensures.size refl refl
+invariant_of-self-2-clause-sound c = made _ _ _ _ _ c.args.self.now.sound c.requires.next _ _ c.go_on_skipped.ensures.lines c.args.self.now.frames.within.0
+    c.go_on_skipped.ensures.size refl refl
 
 pub returns-clause-samples : goal.returns-clause-samples
 returns-clause-samples c width size None picture coded h s m r e p a = tt
@@ -46,7 +49,11 @@ returns-clause-samples c width size (Some making) picture coded h s m r e p a =
     let skipped = c.args.skipped.now in
     let w = h.columns in
     let n : length picture ≡ old.picture.position.row * old.across + old.picture.position.column = sym h.next ∙ old.sound.next in
-    let is = skip-given context slice.places making.place width picture (weights_by slice.weights) context.constrained_intra context.chroma_qp_index_offset skipped coded r slice.usable.places m.placed p in
-    c.go_on_skipped.ensures.held (setting_of old) making.place making.slices picture coded (levels_of context.chroma_qp_index_offset coded) n old.sound.column (in-rows _ _ _ _ _ old.sound c.requires.next) (are-shown old _ c.requires.places (prediction_by skipped slice.places) (skip-points skipped slice.places)) (none-residuals (levels_of context.chroma_qp_index_offset coded) a)
+    let is = skip-given context slice.places making.place width picture (weights_by slice.weights) context.constrained_intra context.chroma_qp_index_offset
+    skipped coded r slice.usable.places m.placed p in
+    c.go_on_skipped.ensures.held (setting_of old) making.place making.slices picture coded (levels_of context.chroma_qp_index_offset coded) n old.sound.column
+    (in-rows _ _ _ _ _ old.sound c.requires.next)
+    (are-shown old _ c.requires.places (prediction_by skipped slice.places) (skip-points skipped slice.places))
+    (none-residuals (levels_of context.chroma_qp_index_offset coded) a)
     (given-by old.across width picture making slice coded _ w m e is)
     (subst (λ x. Keeps x picture old.picture.near) (sym w) h.keeps) r (filter-by making slice coded m e) m.offsets s

@@ -12,7 +12,8 @@ unfolding next
 returns g c =
     let e = c.read_unskipped.ensures in
     record {
-      meets = λ width size making picture k. bind _ c.look-ahead.ensures (rw (is-true _ c.if-not-ahead.false) (c.read_unskipped.ensures.meets width size making picture k));
+      meets = λ width size making picture k. bind _ c.look-ahead.ensures
+          (rw (is-true _ c.if-not-ahead.false) (c.read_unskipped.ensures.meets width size making picture k));
       quiet = e.quiet;
       within = e.within;
       moves = e.moves;

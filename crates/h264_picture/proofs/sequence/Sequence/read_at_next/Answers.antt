@@ -13,7 +13,9 @@ unfolding next by_slice_type
 returns-in-I g c =
     let e = c.read_unskipped.ensures in
     record {
-      meets = λ width size making picture k. bind _ c.look-ahead.ensures (rw (is-true _ c.if-not-ahead.false) (next-typed _ slice_type.I _ width c.args.slice.now.context _ picture c.in-I.is (e.meets width size making picture k)));
+      meets = λ width size making picture k. bind _ c.look-ahead.ensures
+          (rw (is-true _ c.if-not-ahead.false) (next-typed _ slice_type.I _ width c.args.slice.now.context _ picture c.in-I.is
+          (e.meets width size making picture k)));
       quiet = e.quiet;
       within = e.within;
       moves = e.moves;
@@ -27,7 +29,9 @@ unfolding next by_slice_type
 returns-in-P g c =
     let e = c.read_run.ensures in
     record {
-      meets = λ width size making picture k. bind _ c.look-ahead.ensures (rw (is-true _ c.if-not-ahead.false) (next-typed _ slice_type.P _ width c.args.slice.now.context _ picture c.in-P.is (e.meets width size making picture k)));
+      meets = λ width size making picture k. bind _ c.look-ahead.ensures
+          (rw (is-true _ c.if-not-ahead.false) (next-typed _ slice_type.P _ width c.args.slice.now.context _ picture c.in-P.is
+          (e.meets width size making picture k)));
       quiet = e.quiet;
       within = e.within;
       moves = e.moves;

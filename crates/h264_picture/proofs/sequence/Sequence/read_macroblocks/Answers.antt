@@ -10,7 +10,11 @@ use Rattle.h264_picture.proofs.sequence.Sequence.read_macroblocks.Goals as goal
 
 pub loop-turn-init : goal.loop-turn-init
 loop-turn-init g c = record {
-  rest = λ width size making picture k. (picture, k, turns-start (transform_fits c.args.slice.now.context) width c.args.slice.now.context c.args.left Next picture _ _);
+  rest = λ width size making picture k. (
+    picture,
+    k,
+    turns-start (transform_fits c.args.slice.now.context) width c.args.slice.now.context c.args.left Next picture _ _,
+  );
   within = c.requires.qp;
   refers = tt;
   standing_is = tt;
@@ -25,13 +29,17 @@ pub returns-in_err-read_next-clause-meets : goal.returns-in_err-read_next-clause
 returns-in_err-read_next-clause-meets g c width size making picture k =
     let r = c.loop-turn.invariant.rest width size making picture k in
     let p = err_from_is_err_and c.from_residual.result c.from_residual.ensures.1 in
-    rw (p.1, p.2) (turn-stop (transform_fits c.args.slice.now.context) width c.args.slice.now.context c.args.left c.loop-turn.turn r.0 (λ p. Reads width size making c.args.slice.now p c.read_next.new.self) c.loop-turn.standing c.loop-turn-test.true r.2 (c.in_err-read_next.ensures.meets width size making r.0 r.1))
+    rw (p.1, p.2) (turn-stop (transform_fits c.args.slice.now.context) width c.args.slice.now.context c.args.left c.loop-turn.turn r.0
+    (λ p. Reads width size making c.args.slice.now p c.read_next.new.self) c.loop-turn.standing c.loop-turn-test.true r.2
+    (c.in_err-read_next.ensures.meets width size making r.0 r.1))
 
 pub returns-in-None-clause-meets : goal.returns-in-None-clause-meets
 returns-in-None-clause-meets g c width size making picture k =
     let r = c.loop-turn.invariant.rest width size making picture k in
     let m = rw c.in-None.is at (c.in_ok-read_next.ensures.meets width size making r.0 r.1) in
-    turn-end (transform_fits c.args.slice.now.context) width c.args.slice.now.context c.args.left c.loop-turn.turn r.0 (λ p. Reads width size making c.args.slice.now p c.read_next.new.self) c.loop-turn.standing c.loop-turn-test.true (λ p h. record { holds = h.holds; samples = h.samples }) r.2 m
+    turn-end (transform_fits c.args.slice.now.context) width c.args.slice.now.context c.args.left c.loop-turn.turn r.0
+    (λ p. Reads width size making c.args.slice.now p c.read_next.new.self) c.loop-turn.standing c.loop-turn-test.true
+    (λ p h. record { holds = h.holds; samples = h.samples }) r.2 m
 
 pub loop-turn-preserved : goal.loop-turn-preserved
 loop-turn-preserved g c =
@@ -42,7 +50,8 @@ loop-turn-preserved g c =
       rest = λ width size making picture k.
           let r = c.loop-turn.invariant.rest width size making picture k in
           let m = rw c.in-Some.is at (c.in_ok-read_next.ensures.meets width size making r.0 r.1) in
-          turn-next (transform_fits c.args.slice.now.context) width c.args.slice.now.context c.args.left c.loop-turn.turn r.0 (λ p. Reads width size making c.args.slice.now p c.read_next.new.self) c.loop-turn.standing t r.2 m;
+          turn-next (transform_fits c.args.slice.now.context) width c.args.slice.now.context c.args.left c.loop-turn.turn r.0
+          (λ p. Reads width size making c.args.slice.now p c.read_next.new.self) c.loop-turn.standing t r.2 m;
       within = c.in_ok-read_next.ensures.within;
       refers = rw c.in-Some.is at c.in_ok-read_next.ensures.refers;
       standing_is = within-on _ _ _ (omega arith) v.2;
@@ -57,9 +66,13 @@ pub returns-in_err-_end-clause-meets : goal.returns-in_err-_end-clause-meets
 returns-in_err-_end-clause-meets g c width size making picture k =
     let r = c.loop-turn.invariant.rest width size making picture k in
     let p = err_from_is_err_and c.from_residual-in_err-_end.result c.from_residual-in_err-_end.ensures.1 in
-    rw (p.1, p.2) (over-stop (transform_fits c.args.slice.now.context) width c.args.slice.now.context c.args.left c.loop-turn.turn r.0 (λ p. Reads width size making c.args.slice.now p c.read_next-2.new.self) c.loop-turn.standing (omega arith) r.2 (c.in_err-_end.ensures.meets width size making r.0 r.1))
+    rw (p.1, p.2) (over-stop (transform_fits c.args.slice.now.context) width c.args.slice.now.context c.args.left c.loop-turn.turn r.0
+    (λ p. Reads width size making c.args.slice.now p c.read_next-2.new.self) c.loop-turn.standing (omega arith) r.2
+    (c.in_err-_end.ensures.meets width size making r.0 r.1))
 
 pub returns-clause-meets : goal.returns-clause-meets
 returns-clause-meets g c width size making picture k =
     let r = c.loop-turn.invariant.rest width size making picture k in
-    turns-over (transform_fits c.args.slice.now.context) width c.args.slice.now.context c.args.left c.loop-turn.turn r.0 (λ p. Reads width size making c.args.slice.now p c.read_next-2.new.self) c.loop-turn.standing (omega arith) (λ p h. record { holds = h.holds; samples = h.samples }) r.2 (c.in_ok-_end.ensures.meets width size making r.0 r.1)
+    turns-over (transform_fits c.args.slice.now.context) width c.args.slice.now.context c.args.left c.loop-turn.turn r.0
+    (λ p. Reads width size making c.args.slice.now p c.read_next-2.new.self) c.loop-turn.standing (omega arith)
+    (λ p h. record { holds = h.holds; samples = h.samples }) r.2 (c.in_ok-_end.ensures.meets width size making r.0 r.1)

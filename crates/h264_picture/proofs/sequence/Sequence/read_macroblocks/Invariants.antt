@@ -11,7 +11,10 @@ use Rattle.h264_picture.proofs.sequence.Sequence.read_macroblocks.Given as goal
 
 abbrev pub invariant-loop-turn : goal.invariant-loop-turn
 invariant-loop-turn g l = record {
-  rest : (width size : ℕ) (making : Option Making) (picture : List CodedMacroblock) → Reads width size making l.slice picture l.fn.self → (now : List CodedMacroblock) × Reads width size making l.slice now l.self × Leads g.S.Elements.took g.S.Elements.failures (macroblocks (transform_fits l.slice.context) width l.slice.context l.left Next picture) (macroblocks (transform_fits l.slice.context) width l.slice.context (l.left - l.turn) l.standing now) l.fn.bits l.bits l.fn.sink l.sink;
+  rest : (width size : ℕ) (making : Option Making) (picture : List CodedMacroblock) → Reads width size making l.slice picture l.fn.self →
+      (now : List CodedMacroblock) × Reads width size making l.slice now l.self ×
+      Leads g.S.Elements.took g.S.Elements.failures (macroblocks (transform_fits l.slice.context) width l.slice.context l.left Next picture)
+      (macroblocks (transform_fits l.slice.context) width l.slice.context (l.left - l.turn) l.standing now) l.fn.bits l.bits l.fn.sink l.sink;
   within : l.self.mb.qp ≤ 51;
   refers : RefersOn l.slice.context l.standing;
   standing_is : IsWithin (l.left - l.turn) l.standing;

@@ -34,7 +34,11 @@ pub returns-else-more-eq0 : goal.returns-else-more-eq0
 returns-else-more-eq0 g c =
     let e = c.skip.ensures in
     record {
-      meets = λ width size making picture k. rw (c.in-Skipping.is, next-some (transform_fits c.args.slice.now.context) width c.args.slice.now.context c.args.left picture _ _ c.if-more-eq0.false) (c.skip.ensures.meets width size making picture k);
+      meets = λ width size making picture k. rw (
+        c.in-Skipping.is,
+        next-some (transform_fits c.args.slice.now.context) width c.args.slice.now.context c.args.left picture _ _ c.if-more-eq0.false,
+      )
+          (c.skip.ensures.meets width size making picture k);
       quiet = on-ok {P = g.S.Elements.failures c.args.sink.now ≡ g.S.Elements.failures c.args.sink.now} c.skip.result refl;
       within = e.within;
       moves = e.moves;

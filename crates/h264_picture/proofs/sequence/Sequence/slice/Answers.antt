@@ -9,14 +9,17 @@ use Rattle.h264_picture.proofs.sequence.Sequence.slice.Goals as goal
 
 pub returns-in_err-check-clause-meets : goal.returns-in_err-check-clause-meets
 unfolding slice_data
-returns-in_err-check-clause-meets g c width size making picture h n m = let p = err_from_is_err_and c.from_residual.result c.from_residual.ensures.1 in rw (p.1, p.2) (bind _ c.look-ahead.ensures (stop _ (checked _ _ _ _ c.in_err-check.ensures)))
+returns-in_err-check-clause-meets g c width size making picture h n m = let p = err_from_is_err_and c.from_residual.result c.from_residual.ensures.1 in
+    rw (p.1, p.2) (bind _ c.look-ahead.ensures (stop _ (checked _ _ _ _ c.in_err-check.ensures)))
 
 pub returns-clause-meets : goal.returns-clause-meets
 unfolding slice_data
 returns-clause-meets g c width size making picture h n m =
     let k = h.holds in
     let context = c.args.context.now in
-    bind _ c.look-ahead.ensures (bind _ (checked _ _ _ _ c.in_ok-check.ensures) (left-is _ _ (transform_fits context) width context Next picture (let a = k.macroblocks in let b = k.next in omega arith) (c.read_macroblocks.ensures.meets width size making picture (record {
+    bind _ c.look-ahead.ensures (bind _ (checked _ _ _ _ c.in_ok-check.ensures)
+    (left-is _ _ (transform_fits context) width context Next picture (let a = k.macroblocks in let b = k.next in omega arith)
+    (c.read_macroblocks.ensures.meets width size making picture (record {
       holds = moved width size picture _ _ k refl refl refl refl;
       first = omega arith;
       predicted = qp-first context picture n k.past;

@@ -16,7 +16,8 @@ returns-clause-kept c r p some =
     let new = frames c.replace.new.dest in
     let before : lent_of base was c.args.self.now.older p ≡ lent_of base was None p = ap (λ (o : Option Frames). lent_of base was o p) r in
     let older : c.frames_of.result ≡ was = c.frames_of.ensures ∙ ap frames c.replace.ensures.value in
-    ap (λ (o : Option Frames). lent_of (17 - base) new o p) older ∙ turned base was new p c.args.self.now.within.0 c.args.self.now.within.1 (λ e. some (before ∙ e)) ∙ sym before
+    ap (λ (o : Option Frames). lent_of (17 - base) new o p) older ∙
+    turned base was new p c.args.self.now.within.0 c.args.self.now.within.1 (λ e. some (before ∙ e)) ∙ sym before
 
 pub returns-clause-older : goal.returns-clause-older
 returns-clause-older c r p some =

@@ -9,7 +9,9 @@ pub returns-in-Some-clause-samples : goal.returns-in-Some-clause-samples
 returns-in-Some-clause-samples c width size making h = c.begin.ensures.made width size (Some making) (rw c.in-Some.is at h)
 
 pub returns-in-Some-clause-kept : goal.returns-in-Some-clause-kept
-returns-in-Some-clause-kept c = rw c.in-Some.is (lent-others c.args.self.now.base c.in-Some.sequence.frames c.begin.new.self.frames c.args.self.now.older c.args.place c.requires.from c.begin.ensures.others)
+returns-in-Some-clause-kept c = rw c.in-Some.is
+    (lent-others c.args.self.now.base c.in-Some.sequence.frames c.begin.new.self.frames c.args.self.now.older c.args.place c.requires.from
+    c.begin.ensures.others)
 
 pub returns-in-Some-clause-places : goal.returns-in-Some-clause-places
 returns-in-Some-clause-places c = rw c.in-Some.is c.begin.ensures.count

@@ -15,10 +15,13 @@ returns-in-Some-clause-decoded c width size place making picture h n b =
     let s = c.in-Some.sequence in
     let at = rw c.in-Some.is at b in
     let made = c.end.ensures.decoded width size making picture (rw c.in-Some.is at h) n in
-    rw c.in-Some.is (subst (IsMadeOf (setting_of s) making picture) (sym (lent-begun c.args.self.now.base place s.frames.place c.end.new.self.frames c.args.self.now.older at.1 (let i = s.frames.within in omega arith))) made)
+    rw c.in-Some.is (subst (IsMadeOf (setting_of s) making picture)
+    (sym (lent-begun c.args.self.now.base place s.frames.place c.end.new.self.frames c.args.self.now.older at.1 (let i = s.frames.within in omega arith)))
+    made)
 
 pub returns-in-Some-clause-kept : goal.returns-in-Some-clause-kept
-returns-in-Some-clause-kept c = rw c.in-Some.is (lent-kept c.args.self.now.base c.in-Some.sequence.frames c.end.new.self.frames c.args.self.now.older c.end.ensures.frames)
+returns-in-Some-clause-kept c = rw c.in-Some.is
+    (lent-kept c.args.self.now.base c.in-Some.sequence.frames c.end.new.self.frames c.args.self.now.older c.end.ensures.frames)
 
 pub returns-in-Some-clause-places : goal.returns-in-Some-clause-places
 returns-in-Some-clause-places c = rw c.in-Some.is c.end.ensures.count
@@ -31,7 +34,8 @@ returns-in-Some-clause-ended c width height place h b =
     let s = c.in-Some.sequence in
     let size = rw c.in-Some.is at h in
     let at = rw c.in-Some.is at b in
-    subst (IsFrameOf width height) (sym (lent-begun c.args.self.now.base place s.frames.place c.end.new.self.frames c.args.self.now.older at.1 (let i = s.frames.within in omega arith))) (rw (size.0, size.1) at c.end.ensures.ended)
+    subst (IsFrameOf width height) (sym (lent-begun c.args.self.now.base place s.frames.place c.end.new.self.frames c.args.self.now.older at.1
+    (let i = s.frames.within in omega arith))) (rw (size.0, size.1) at c.end.ensures.ended)
 
 pub returns-in-None-clause-ended : goal.returns-in-None-clause-ended
 returns-in-None-clause-ended c width height place h b = absurd (rw c.in-None.is at h)

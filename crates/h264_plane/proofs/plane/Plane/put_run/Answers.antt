@@ -11,4 +11,5 @@ returns c =
     let start = a.y * f.width + a.x in
     let count : start + length a.run.now - start ≡ length a.run.now = omega arith in
     rw (← c.self.view_is)
-    (run_put f.width f.height a.x a.y f.samples c.as_mut_slice-samples.result.now c.copy_from_slice.new.self a.run.now _ c.self.invariant.whole columns row c.as_mut_slice-samples.ensures.value count c.copy_from_slice.ensures.after)
+    (run_put f.width f.height a.x a.y f.samples c.as_mut_slice-samples.result.now c.copy_from_slice.new.self a.run.now _ c.self.invariant.whole columns row
+    c.as_mut_slice-samples.ensures.value count c.copy_from_slice.ensures.after)

@@ -12,8 +12,10 @@ returns c =
     let byte = c.args.i / 8 in
     let items = c.as_slice.ensures in
     let by : IsPartitionedBy (λ d. nat_le d byte) c.as_slice.result.now =
-    subst (IsPartitionedBy (λ (d : ℕ). nat_le d byte)) (sym items) (IsPartitionedBy-leb (λ (d : ℕ). d) c.self.inside.dropped.items byte c.self.invariant.sorted) in
-    let at = IsPartitionPoint-from_clause (λ (d : ℕ). nat_le d byte) c.as_slice.result.now c.partition_point-dropped.result c.partition_point-dropped.ensures.partitioned by (search rules) in
+    subst (IsPartitionedBy (λ (d : ℕ). nat_le d byte)) (sym items)
+    (IsPartitionedBy-leb (λ (d : ℕ). d) c.self.inside.dropped.items byte c.self.invariant.sorted) in
+    let at = IsPartitionPoint-from_clause (λ (d : ℕ). nat_le d byte) c.as_slice.result.now c.partition_point-dropped.result
+    c.partition_point-dropped.ensures.partitioned by (search rules) in
     let n = count-point (λ (d : ℕ). nat_le d byte) c.as_slice.result.now c.partition_point-dropped.result at c.partition_point-dropped.ensures.bound in
     ap (λ k. c.self.inside.first + c.args.i + 8 * k) (sym n ∙ ap (count_by (λ (d : ℕ). nat_le d byte)) items)
     ∙ ap (λ b. place b c.args.i) c.self.view_is

@@ -3,7 +3,8 @@ use Rattle.h264_report.proofs.Givens.{given-decoding}
 use Rattle.h264_report.proofs.decoder.Decoder.finish.Goals as goal
 
 pub returns-in-Running-clause-grows : goal.returns-in-Running-clause-grows
-returns-in-Running-clause-grows c terms bytes v = c.conclude_queue-answer.ensures.grows terms bytes (given-decoding (sym c.replace-open.ensures.value ∙ c.in-Running.is) v)
+returns-in-Running-clause-grows c terms bytes v =
+    c.conclude_queue-answer.ensures.grows terms bytes (given-decoding (sym c.replace-open.ensures.value ∙ c.in-Running.is) v)
 
 pub returns-in-Running-clause-answered : goal.returns-in-Running-clause-answered
 returns-in-Running-clause-answered c terms bytes v = record {

@@ -6,7 +6,8 @@ use Rattle.h264_report.proofs.decoder.Decoder.take_frame.Goals as goal
 pub returns-clause-given : goal.returns-clause-given
 returns-clause-given c terms bytes v =
     let d = v.decoding in
-    let w = waits-after (calls_of d.frames d.told) c.take_frame.result c.take_frame.ensures.first c.take_frame.ensures.counted c.take_frame.ensures.kept d.waits in
+    let w = waits-after (calls_of d.frames d.told) c.take_frame.result c.take_frame.ensures.first c.take_frame.ensures.counted c.take_frame.ensures.kept
+    d.waits in
     record { session = v.session; runs = v.runs; decoding = record { frames = d.frames; told = d.told; fed = d.fed; decoded = d.decoded; waits = w } }
 
 pub returns-clause-answered : goal.returns-clause-answered

@@ -12,9 +12,11 @@ returns-in_err-one-clause-read c =
 
 pub loop-n-preserved : goal.loop-n-preserved
 loop-n-preserved c =
-    let next = times-next c.args.count c.loop-n._n (group c.args.group) c.loop-n.bits.body.bytes c.loop-n.bits.at c.one.new.bits.at c.loop-n-test.true c.in_ok-one.ensures.read in
+    let next = times-next c.args.count c.loop-n._n (group c.args.group) c.loop-n.bits.body.bytes c.loop-n.bits.at c.one.new.bits.at c.loop-n-test.true
+    c.in_ok-one.ensures.read in
     record {
-      rest = c.loop-n.invariant.rest ∙ next ∙ ap (λ (b : Body). times (c.args.count - (c.loop-n._n + 1)) (group c.args.group) b.bytes c.one.new.bits.at) (sym c.in_ok-one.ensures.body);
+      rest = c.loop-n.invariant.rest ∙ next ∙ ap (λ (b : Body). times (c.args.count - (c.loop-n._n + 1)) (group c.args.group) b.bytes c.one.new.bits.at)
+          (sym c.in_ok-one.ensures.body);
       body = c.in_ok-one.ensures.body ∙ c.loop-n.invariant.body;
     }
 

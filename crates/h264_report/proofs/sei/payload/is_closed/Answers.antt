@@ -1,7 +1,8 @@
 use Rattle.std.proofs.Common.{◌≡◌, ◌≢◌, ◌-◌, ap, ap₂, ◌∙◌, sym, arith}
 use Rattle.h264_base.specs.Body.{Body, place}
 use Rattle.h264_report.proofs.SeiClosing.{closed-here, left-is, outside-before, outside-after, open-before, open-after, closed-none, closed-some}
-use Rattle.h264_report.proofs.sei.payload.is_closed.Goals.{then-bit-last_byte-via-then-bit-last_byte, then-bit-last_byte-via-else-bit-last_byte+then-bit-last_byte-ge8}
+use Rattle.h264_report.proofs.sei.payload.is_closed.Goals.{then-bit-last_byte-via-then-bit-last_byte}
+use Rattle.h264_report.proofs.sei.payload.is_closed.Goals.{then-bit-last_byte-via-else-bit-last_byte+then-bit-last_byte-ge8}
 use Rattle.h264_report.proofs.sei.payload.is_closed.Goals as goal
 
 pub returns-then-bit-stream_bit : goal.returns-then-bit-stream_bit

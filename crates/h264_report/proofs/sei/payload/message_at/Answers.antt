@@ -6,7 +6,8 @@ pub payload_start-requires-clause-whole : goal.payload_start-requires-clause-who
 payload_start-requires-clause-whole c = (message-inside _ _ (sym c.in_ok-end.ensures.value)).0
 
 pub overflow_add-from : goal.overflow_add-from
-overflow_add-from c = let m = message-inside _ _ (sym c.in_ok-end.ensures.value) in let p = c.payload_start.ensures in let w = c.in_ok-end.ensures.within in omega arith
+overflow_add-from c = let m = message-inside _ _ (sym c.in_ok-end.ensures.value) in let p = c.payload_start.ensures in let w = c.in_ok-end.ensures.within in
+    omega arith
 
 pub payload_value-payload_type-requires-clause-whole : goal.payload_value-payload_type-requires-clause-whole
 payload_value-payload_type-requires-clause-whole c = (message-inside _ _ (sym c.in_ok-end.ensures.value)).0

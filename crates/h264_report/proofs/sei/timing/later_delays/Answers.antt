@@ -20,7 +20,8 @@ loop-i-preserved c =
     record {
       rest = c.loop-i.invariant.rest
           ∙ delays-next hrd n c.loop-i.i c.loop-i.bits.body.bytes c.loop-i.bits.at c.initial_delay.new.bits.at _ few c.in_ok-initial_delay.ensures.read
-          ∙ ap (λ (b : Body). delays_from hrd (n - (c.loop-i.i + 1)) (c.loop-i.i + 1) b.bytes c.initial_delay.new.bits.at) (sym c.in_ok-initial_delay.ensures.body);
+          ∙ ap (λ (b : Body). delays_from hrd (n - (c.loop-i.i + 1)) (c.loop-i.i + 1) b.bytes c.initial_delay.new.bits.at)
+          (sym c.in_ok-initial_delay.ensures.body);
       body = c.in_ok-initial_delay.ensures.body ∙ c.loop-i.invariant.body;
     }
 

@@ -12,9 +12,12 @@ returns-in_err-clock_timestamp-clause-read c =
 
 pub loop-n-preserved : goal.loop-n-preserved
 loop-n-preserved c =
-    let next = times-next c.args.count c.loop-n._n (clock_timestamp c.args.offset) c.loop-n.bits.body.bytes c.loop-n.bits.at c.clock_timestamp.new.bits.at c.loop-n-test.true c.in_ok-clock_timestamp.ensures.read in
+    let next = times-next c.args.count c.loop-n._n (clock_timestamp c.args.offset) c.loop-n.bits.body.bytes c.loop-n.bits.at c.clock_timestamp.new.bits.at
+    c.loop-n-test.true c.in_ok-clock_timestamp.ensures.read in
     record {
-      rest = c.loop-n.invariant.rest ∙ next ∙ ap (λ (b : Body). times (c.args.count - (c.loop-n._n + 1)) (clock_timestamp c.args.offset) b.bytes c.clock_timestamp.new.bits.at) (sym c.in_ok-clock_timestamp.ensures.body);
+      rest = c.loop-n.invariant.rest ∙ next ∙ ap
+          (λ (b : Body). times (c.args.count - (c.loop-n._n + 1)) (clock_timestamp c.args.offset) b.bytes c.clock_timestamp.new.bits.at)
+          (sym c.in_ok-clock_timestamp.ensures.body);
       body = c.in_ok-clock_timestamp.ensures.body ∙ c.loop-n.invariant.body;
     }
 

@@ -13,7 +13,8 @@ returns c =
     let mid = c.note_two.new.self in
     let new : Strict = record { standing = c.note_unit.new.self; found = c.note.new.self.found } in
     unit-advances old mid new c.args.byte (type_number c.args.kind) c.args.nal_ref_idc c.args.length
-    (c.note_unit.ensures ∙ ap (λ s. after_unit s (type_number c.args.kind) c.args.nal_ref_idc c.args.length) (c.note.ensures.standing ∙ c.note_two.ensures.standing))
+    (c.note_unit.ensures ∙ ap (λ s. after_unit s (type_number c.args.kind) c.args.nal_ref_idc c.args.length)
+    (c.note.ensures.standing ∙ c.note_two.ensures.standing))
     (λ r. c.note_two.ensures.found r
     ∙ ap (λ bit. with_places (found_of old r) (bits_for r bit (listed c.by_order-order.result ++ listed c.broken_if.result))) c.first_bit-bit.ensures
     ∙ ap₂ (λ order other. with_places (found_of old r) (bits_for r (first_bit c.args.byte) (listed order ++ listed other))) c.by_order-order.ensures

@@ -10,4 +10,7 @@ returns-clause-ok g c =
     let f : SFits w64 c.args.value = search rules in
     let took = simp to_z-of_z at c.in_ok-element.ensures.ok in
     let noted = simp to_z-of_z at c.note_element.ensures in
-    record { told = both-more g.S.Elements.took old.sink c.element.new.self (OfElement c.args.name c.args.bit c.args.value) old.strict c.note_element.new.self took noted }
+    record {
+      told = both-more g.S.Elements.took old.sink c.element.new.self (OfElement c.args.name c.args.bit c.args.value) old.strict c.note_element.new.self
+          took noted;
+    }

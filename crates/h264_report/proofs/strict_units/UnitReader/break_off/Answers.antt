@@ -9,4 +9,5 @@ use Rattle.h264_report.proofs.strict_units.UnitReader.break_off.Goals as goal
 pub returns : goal.returns
 returns c bytes t =
     let s = c.args.self in
-    subst₂ (λ (r : Extent) (l : Option Lack). TellsOfBytes r false s.noted.found l bytes) (sym c.cut_off.ensures) (sym c.lack-lack.ensures) (tells-cut s.splitter s.extent s.noted bytes t)
+    subst₂ (λ (r : Extent) (l : Option Lack). TellsOfBytes r false s.noted.found l bytes) (sym c.cut_off.ensures) (sym c.lack-lack.ensures)
+    (tells-cut s.splitter s.extent s.noted bytes t)

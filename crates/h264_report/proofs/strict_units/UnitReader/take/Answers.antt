@@ -16,7 +16,8 @@ loop-rest-preserved c =
     let done = c.loop-rest.invariant.0 in
     let more = take c.take_some-n.result rest in (
       done ++ more,
-      c.loop-rest.invariant.1 ∙ ap (λ l. done ++ l) (parts-of c.take_some-n.result rest ∙ ap (λ l. more ++ l) (sym c.after-rest.ensures)) ∙ sym (append_assoc done more c.after-rest.result.now),
+      c.loop-rest.invariant.1 ∙ ap (λ l. done ++ l) (parts-of c.take_some-n.result rest ∙ ap (λ l. more ++ l) (sym c.after-rest.ensures)) ∙
+          sym (append_assoc done more c.after-rest.result.now),
       λ before t. subst (λ (l : List ℕ). TookBytes s.splitter s.extent s.noted l) (append_assoc before done more)
           (c.take_some-n.ensures.took (before ++ done) (c.loop-rest.invariant.2 before t)),
     )

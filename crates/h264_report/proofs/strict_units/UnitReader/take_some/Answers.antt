@@ -32,5 +32,6 @@ returns-in-Some-clause-took c before t =
     let later = c.note_unit-looked.new.noted in
     let going = subst (λ (r : Extent). TookBytes s.splitter r s.noted before) c.requires.goes t in
     subst (λ (r : Extent). TookBytes c.take_unit.new.self r later (before ++ take c.in-Ok.n piece)) (sym c.extent_of-self.ensures)
-    (took-unit s.splitter c.push.new.self s.noted before piece c.in-Ok.n going c.in-Ok.ensures.ok c.take_unit.new.self c.in-Some.unit c.in-Some.ensures.some s.runs.1
+    (took-unit s.splitter c.push.new.self s.noted before piece c.in-Ok.n going c.in-Ok.ensures.ok c.take_unit.new.self c.in-Some.unit c.in-Some.ensures.some
+    s.runs.1
     c.note_unit-looked.result later c.note_unit-looked.ensures.noted c.note_unit-looked.ensures.unnoted)

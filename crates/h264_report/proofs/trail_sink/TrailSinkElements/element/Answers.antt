@@ -12,4 +12,7 @@ returns-clause-ok c =
     let e = elements_in (OfElement c.args.name c.args.bit c.args.value) in
     let f : SFits w64 c.args.value = search rules in
     let noted = simp to_z-of_z at c.note.ensures in
-    record { told = λ before h. noted ∙ ap (λ l. keep_last 16 (l ++ e)) h ∙ keep-keep 16 (elements_of before) e ∙ ap (keep_last 16) (sym (elements-more before (OfElement c.args.name c.args.bit c.args.value))) }
+    record {
+      told = λ before h. noted ∙ ap (λ l. keep_last 16 (l ++ e)) h ∙ keep-keep 16 (elements_of before) e ∙
+          ap (keep_last 16) (sym (elements-more before (OfElement c.args.name c.args.bit c.args.value)));
+    }

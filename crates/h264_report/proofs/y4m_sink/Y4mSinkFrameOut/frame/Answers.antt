@@ -18,11 +18,20 @@ returns-in_default-clause-ok g c =
     let more : 0 < length (framed_in call) = omega arith in
     let whole = c.is_stopped.ensures.whole c.if-is_stopped.false in
     let sized : HasSize c.head_for-head.result call = (sym c.head_for-head.ensures.width, sym c.head_for-head.ensures.height) in
-    on-ok-three c.put_first.result (λ e s b. record { told = λ before h. first-frame c.args.self.now.head c.put_first.new.self.head c.head_for-head.result c.args.self.now.broke_off c.put_first.new.self.broke_off before call c.put_first.ensures.same_reference (is-none c.args.self.now.head c.in_default.not-Some) e whole more sized s b h }) c.put_first.ensures.headed c.put_first.ensures.ok c.put_first.ensures.blamed
+    on-ok-three c.put_first.result (λ e s b. record {
+      told =
+          λ before h. first-frame c.args.self.now.head c.put_first.new.self.head c.head_for-head.result c.args.self.now.broke_off c.put_first.new.self.broke_off
+          before call c.put_first.ensures.same_reference (is-none c.args.self.now.head c.in_default.not-Some) e whole more sized s b h;
+    })
+    c.put_first.ensures.headed c.put_first.ensures.ok c.put_first.ensures.blamed
 
 pub returns-in_default-clause-refused : goal.returns-in_default-clause-refused
 returns-in_default-clause-refused g c =
-    err-map c.put_first.result (λ u. record { told = λ before h. unsent-y4m c.put_first.ensures.same_reference u.0 u.1 (ap g.W.Device.has_failed u.2) (ap g.W.Device.contents u.2) h }) c.put_first.ensures.unsent
+    err-map c.put_first.result (λ u. record {
+      told =
+          λ before h. unsent-y4m c.put_first.ensures.same_reference u.0 u.1 (ap g.W.Device.has_failed u.2) (ap g.W.Device.contents u.2) h;
+    })
+    c.put_first.ensures.unsent
 
 pub returns-in-Ok-clause-ok : goal.returns-in-Ok-clause-ok
 returns-in-Ok-clause-ok g c =
@@ -31,7 +40,10 @@ returns-in-Ok-clause-ok g c =
     let broke = c.args.self.now.broke_off in
     let same = c.has_size_of.ensures.yes c.if-not-has_size_of.false in
     let sized : HasSize c.in-Some.first call = (sym c.head_for-head.ensures.width ∙ same.0, sym c.head_for-head.ensures.height ∙ same.1) in
-    record { told = λ before h. later-frame c.args.self.now.head c.in-Some.first broke broke before call refl c.in-Some.is whole sized (rw whole c.in-Ok.ensures.ok) (rw whole c.in-Ok.ensures.quiet) h }
+    record {
+      told = λ before h. later-frame c.args.self.now.head c.in-Some.first broke broke before call refl c.in-Some.is whole sized
+          (rw whole c.in-Ok.ensures.ok) (rw whole c.in-Ok.ensures.quiet) h;
+    }
 
 pub returns-in-Err-clause-ok : goal.returns-in-Err-clause-ok
 returns-in-Err-clause-ok g c =
@@ -39,4 +51,7 @@ returns-in-Err-clause-ok g c =
     let whole = c.is_stopped.ensures.whole c.if-is_stopped.false in
     let same = c.has_size_of.ensures.yes c.if-not-has_size_of.false in
     let sized : HasSize c.in-Some.first call = (sym c.head_for-head.ensures.width ∙ same.0, sym c.head_for-head.ensures.height ∙ same.1) in
-    record { told = λ before h. later-frame c.args.self.now.head c.in-Some.first c.args.self.now.broke_off true before call refl c.in-Some.is whole sized c.in-Err.ensures.front c.in-Err.ensures.failed h }
+    record {
+      told = λ before h. later-frame c.args.self.now.head c.in-Some.first c.args.self.now.broke_off true before call refl c.in-Some.is whole sized
+          c.in-Err.ensures.front c.in-Err.ensures.failed h;
+    }

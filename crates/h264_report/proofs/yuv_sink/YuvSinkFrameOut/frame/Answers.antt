@@ -10,7 +10,10 @@ pub returns-in-Ok-clause-ok : goal.returns-in-Ok-clause-ok
 returns-in-Ok-clause-ok g c =
     let call = frame_call c.args._count c.args.frame.now c.args.rectangle in
     let broke = c.args.self.now.broke_off in
-    record { told = λ before h. take-frame broke broke before call refl c.if-self.false (rw c.if-self.false c.in-Ok.ensures.ok) (rw c.if-self.false c.in-Ok.ensures.quiet) h }
+    record {
+      told = λ before h. take-frame broke broke before call refl c.if-self.false (rw c.if-self.false c.in-Ok.ensures.ok)
+          (rw c.if-self.false c.in-Ok.ensures.quiet) h;
+    }
 
 pub returns-in-Err-clause-ok : goal.returns-in-Err-clause-ok
 returns-in-Err-clause-ok g c =

@@ -8,7 +8,8 @@ use Rattle.h264_units.proofs.splitter.Splitter.take_unit.Goals.{then-code, else-
 made : ℕ → List ℕ → NalUnit
 made from body = record { from = from; body = body }
 
-made-is : (from : ℕ) (body body' : List ℕ) (unit : NalUnit) → unit ≡ record { from = from; body = body } → body ≡ body' → unit ≡ record { from = from; body = body' }
+made-is : (from : ℕ) (body body' : List ℕ) (unit : NalUnit) → unit ≡ record { from = from; body = body } → body ≡ body' →
+    unit ≡ record { from = from; body = body' }
 unfolding made
 made-is from body body' unit e b = e ∙ ap (made from) b
 

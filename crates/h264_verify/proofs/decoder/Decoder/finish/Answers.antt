@@ -10,7 +10,8 @@ pub finish-requires-clause-ready : goal.finish-requires-clause-ready
 finish-requires-clause-ready g c = gap-ready _ c.requires.kept
 
 pub returns-clause-plays : goal.returns-clause-plays
-returns-clause-plays g c = λ frames t next k. writes-plays frames _ _ (last_turn t.buffer).written _ _ _ (c.finish.ensures.writes frames t.buffer _ k.output.buffer k.output.frames_are)
+returns-clause-plays g c = λ frames t next k. writes-plays frames _ _ (last_turn t.buffer).written _ _ _
+    (c.finish.ensures.writes frames t.buffer _ k.output.buffer k.output.frames_are)
 
 pub returns-clause-no_memory : goal.returns-clause-no_memory
 returns-clause-no_memory g c =

@@ -10,10 +10,12 @@ pub miss-requires-clause-ready : goal.miss-requires-clause-ready
 miss-requires-clause-ready g c = gap-ready _ c.requires.kept
 
 pub returns-clause-plays : goal.returns-clause-plays
-returns-clause-plays g c = λ frames t next k. writes-plays frames _ _ (missing_turn c.args.held.now t.buffer).written _ _ _ (c.miss.ensures.writes frames t.buffer _ k.output.buffer k.output.frames_are)
+returns-clause-plays g c = λ frames t next k. writes-plays frames _ _ (missing_turn c.args.held.now t.buffer).written _ _ _
+    (c.miss.ensures.writes frames t.buffer _ k.output.buffer k.output.frames_are)
 
 pub returns-clause-keeps : goal.returns-clause-keeps
-returns-clause-keeps g c = λ frames t next k. gap-filled frames t next c.args.held.now c.args.self.now _ _ k (c.miss.ensures.keeps t.buffer _ k.output.buffer) (c.miss.ensures.frames frames k.output.frames_are) (c.miss.ensures.ordered next k.output.ordered) c.miss.ensures.ready
+returns-clause-keeps g c = λ frames t next k. gap-filled frames t next c.args.held.now c.args.self.now _ _ k (c.miss.ensures.keeps t.buffer _ k.output.buffer)
+    (c.miss.ensures.frames frames k.output.frames_are) (c.miss.ensures.ordered next k.output.ordered) c.miss.ensures.ready
 
 pub returns-clause-kept : goal.returns-clause-kept
 returns-clause-kept g c =

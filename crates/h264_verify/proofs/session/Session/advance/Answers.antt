@@ -22,7 +22,12 @@ pub invariant_of-self : goal.invariant_of-self
 invariant_of-self g c =
     let none = ap (λ (p : Progress). p.stop) c.self.view_is ∙ c.requires.runs in
     let ready = ready-of _ _ _ _ none c.self.invariant in
-    session-of _ _ _ _ none (c.in-Ok.ensures.runs, c.in-Ok.ensures.counted, c.in-Ok.ensures.pictures, on-keeps (c.in-Ok.ensures.goes ready.3.frames ready.3.before ready.3.keeps))
+    session-of _ _ _ _ none (
+      c.in-Ok.ensures.runs,
+      c.in-Ok.ensures.counted,
+      c.in-Ok.ensures.pictures,
+      on-keeps (c.in-Ok.ensures.goes ready.3.frames ready.3.before ready.3.keeps),
+    )
 
 pub returns-in-Err-clause-write_told : goal.returns-in-Err-clause-write_told
 returns-in-Err-clause-write_told g c =

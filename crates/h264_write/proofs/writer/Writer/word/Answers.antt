@@ -19,4 +19,6 @@ spell-requires c =
 pub returns-clause-ok : goal.returns-clause-ok
 returns-clause-ok c =
     let b = rw (c.from.ensures, c.from-2.ensures) at c.in-Ok.ensures in
-    rw (← c.self.view_is) (written (Words (code_table c.args.table)) (pos c.args.value) c.self.inside.bits.items (spelled c.in-Some.word.length c.in-Some.word.bits) c.spell.new.bits.items (row-written c.args.table c.args.value c.in-Some.word c.in-Some.ensures.some) b)
+    rw (← c.self.view_is) (written (Words (code_table c.args.table)) (pos c.args.value) c.self.inside.bits.items
+    (spelled c.in-Some.word.length c.in-Some.word.bits) c.spell.new.bits.items
+    (row-written c.args.table c.args.value c.in-Some.word c.in-Some.ensures.some) b)

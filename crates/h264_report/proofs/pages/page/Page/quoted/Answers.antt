@@ -9,7 +9,8 @@ use Rattle.h264_report.proofs.pages.page.Page.quoted.Goals as goal
 pub returns : goal.returns
 unfolding escaped
 returns c short =
-    let end = YieldsList-end (YieldsList-from_chars c.args.text.now c.utf8.text cc) c.loop-c.yielded _ c.loop-c.yielded_by _ _ c.in-None.is c.next.ensures.steps in
+    let end = YieldsList-end (YieldsList-from_chars c.args.text.now c.utf8.text cc) c.loop-c.yielded _ c.loop-c.yielded_by _ _ c.in-None.is
+    c.next.ensures.steps in
     let all = sym (map-id c.loop-c.yielded) ∙ end.0 in
     let closed = c.put-2.ensures short in
     let so_far = c.loop-c.invariant closed.0 in

@@ -11,14 +11,29 @@ returns-then-not-is_chosen-clause-ok g c =
     let s = c.args.self.now in
     let goes = rw (to_z-of_z w64 c.args.value c.ranges.value) at c.note_element-2.ensures in
     let chosen = ap (is_chosen s.choice) (sym goes) ∙ sym c.is_chosen.ensures ∙ c.if-not-is_chosen.true in
-    rw (c.if-self.false, goes) (record { told = λ before h. (h.0, element-passed g.S.Elements.took s.choice s.reading (pending_call s.pending) s.sink before c.args.name c.args.bit c.args.value chosen h.1) })
+    rw (c.if-self.false, goes) (record {
+      told =
+          λ before h. (
+            h.0,
+            element-passed g.S.Elements.took s.choice s.reading (pending_call s.pending) s.sink before c.args.name c.args.bit c.args.value
+                chosen h.1,
+          );
+    })
 
 pub returns-in-Err-clause-refused : goal.returns-in-Err-clause-refused
 returns-in-Err-clause-refused g c =
     let s = c.args.self.now in
     let goes = rw (to_z-of_z w64 c.args.value c.ranges.value) at c.note_element-2.ensures in
     let chosen = ap (is_chosen s.choice) (sym goes) ∙ sym c.is_chosen.ensures ∙ c.if-not-is_chosen.false in
-    rw c.if-self.false (record { told = λ before h. (h.0, element-refused g.S.Elements.took s.choice s.reading (pending_call s.pending) s.sink c.put_pending.new.sink before [] (held (pending_call s.pending) ++ OfElement c.args.name c.args.bit c.args.value ∷ []) c.args.name c.args.bit c.args.value chosen refl c.in-Err.ensures.refused.told h.1) })
+    rw c.if-self.false (record {
+      told = λ before
+          h. (
+            h.0,
+            element-refused g.S.Elements.took s.choice s.reading (pending_call s.pending) s.sink c.put_pending.new.sink before []
+                (held (pending_call s.pending) ++ OfElement c.args.name c.args.bit c.args.value ∷ []) c.args.name c.args.bit c.args.value chosen refl
+                c.in-Err.ensures.refused.told h.1,
+          );
+    })
 
 pub returns-in-Ok-element-clause-ok : goal.returns-in-Ok-element-clause-ok
 returns-in-Ok-element-clause-ok g c =
@@ -27,11 +42,29 @@ returns-in-Ok-element-clause-ok g c =
     let chosen = ap (is_chosen s.choice) (sym goes) ∙ sym c.is_chosen.ensures ∙ c.if-not-is_chosen.false in
     let fits : SFits w64 c.args.value = c.ranges.value in
     let told = simp to_z-of_z at c.in-Ok-element.ensures.ok in
-    rw (c.if-self.false, goes) (record { told = λ before h. (h.0, element-taken g.S.Elements.took s.choice s.reading (pending_call s.pending) s.sink c.element.new.self before c.args.name c.args.bit c.args.value chosen (λ b t. subst (g.S.Elements.took c.element.new.self) (append_assoc b (held (pending_call s.pending)) (OfElement c.args.name c.args.bit c.args.value ∷ [])) (told.told (b ++ held (pending_call s.pending)) (c.in-Ok.ensures.ok.told b t))) h.1) })
+    rw (c.if-self.false, goes) (record {
+      told =
+          λ before h. (
+            h.0,
+            element-taken g.S.Elements.took s.choice s.reading (pending_call s.pending) s.sink c.element.new.self before c.args.name c.args.bit
+                c.args.value chosen (λ b t. subst (g.S.Elements.took c.element.new.self)
+                (append_assoc b (held (pending_call s.pending)) (OfElement c.args.name c.args.bit c.args.value ∷ []))
+                (told.told (b ++ held (pending_call s.pending)) (c.in-Ok.ensures.ok.told b t))) h.1,
+          );
+    })
 
 pub returns-in-Err-element-clause-refused : goal.returns-in-Err-element-clause-refused
 returns-in-Err-element-clause-refused g c =
     let s = c.args.self.now in
     let goes = rw (to_z-of_z w64 c.args.value c.ranges.value) at c.note_element-2.ensures in
     let chosen = ap (is_chosen s.choice) (sym goes) ∙ sym c.is_chosen.ensures ∙ c.if-not-is_chosen.false in
-    rw c.if-self.false (record { told = λ before h. (h.0, element-refused g.S.Elements.took s.choice s.reading (pending_call s.pending) s.sink c.element.new.self before (held (pending_call s.pending)) (OfElement c.args.name c.args.bit c.args.value ∷ []) c.args.name c.args.bit c.args.value chosen refl (λ b t. subst (g.S.Elements.took c.element.new.self) (append-nil (b ++ held (pending_call s.pending))) (c.in-Err-element.ensures.refused.told (b ++ held (pending_call s.pending)) (c.in-Ok.ensures.ok.told b t))) h.1) })
+    rw c.if-self.false (record {
+      told = λ before
+          h. (
+            h.0,
+            element-refused g.S.Elements.took s.choice s.reading (pending_call s.pending) s.sink c.element.new.self before
+                (held (pending_call s.pending)) (OfElement c.args.name c.args.bit c.args.value ∷ []) c.args.name c.args.bit c.args.value chosen refl
+                (λ b t. subst (g.S.Elements.took c.element.new.self) (append-nil (b ++ held (pending_call s.pending)))
+                (c.in-Err-element.ensures.refused.told (b ++ held (pending_call s.pending)) (c.in-Ok.ensures.ok.told b t))) h.1,
+          );
+    })

@@ -9,4 +9,5 @@ pub returns-clause-ok : goal.returns-clause-ok
 returns-clause-ok g c =
     let call = OfUnit c.args.byte (type_number c.args.nal_unit_type) c.args.nal_ref_idc c.args.length in
     let s = c.args.self.now in
-    rw (c.if-self.false, c.note_unit-2.ensures) (record { told = λ before h. (h.0, took-none g.S.Elements.took s.choice s.reading _ (pending_call s.pending) _ s.sink before call refl refl h.1) })
+    rw (c.if-self.false, c.note_unit-2.ensures)
+    (record { told = λ before h. (h.0, took-none g.S.Elements.took s.choice s.reading _ (pending_call s.pending) _ s.sink before call refl refl h.1) })

@@ -29,4 +29,5 @@ unfolding after_element
 returns-in_default-reach-2 c = rw (c.in-MbType.is, c.in_default-reach-2.is) refl
 
 pub returns-in_default : goal.returns-in_default
-returns-in_default c = sym (others-stay c.args.name c.args.value c.args.self.now c.in_default.not-FirstMbInSlice c.in_default.not-MbSkipRun c.in_default.not-MbType)
+returns-in_default c = sym (others-stay c.args.name c.args.value c.args.self.now c.in_default.not-FirstMbInSlice c.in_default.not-MbSkipRun
+    c.in_default.not-MbType)
