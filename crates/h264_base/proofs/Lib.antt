@@ -4,3 +4,4 @@ pub mod Words
 pub mod Steps
 pub mod Reading
 pub mod OneAnswer
+pub mod Plain

@@ -8,6 +8,7 @@ use Rattle.std.specs.Option.{option_map}
 use Rattle.h264_base.specs.Table.{Row, IsRow, is_prefix, is_apart, is_prefix_free}
 use Rattle.h264_base.specs.Word.{digit, bit_of, number_at, spells, rows_at}
 use Rattle.h264_base.proofs.Chains.{map-some, then-some}
+use Rattle.h264_base.proofs.Plain.{some-same}
 
 digit-small : (b : Bool) → digit b ≤ 1
 digit-small true = omega arith
@@ -52,9 +53,6 @@ nested (suc m) (suc n) x bytes i h e =
         let power : 2 ^ n ≡ 2 ^ m * 2 ^ (n - m) = ap (λ k. 2 ^ k) whole ∙ pow-add 2 m (n - m) in
         let sum : d * 2 ^ m * 2 ^ (n - m) + v ≡ x = ap (λ p. p + v) (sym (grouped d (2 ^ m) (2 ^ (n - m))) ∙ ap (λ p. d * p) (sym power)) ∙ e in
         rw (k, ← sum) (sym (mul-add-div_right (pow_pos (n - m)) (d * 2 ^ m) v))
-
-some-same : (a b : ℕ) → ◌≡◌ {A = Option ℕ} (Some a) (Some b) → a ≡ b
-some-same a b e = cc
 
 prefix : (q r : Row) (bytes : List ℕ) (i : ℕ) → q.length ≤ r.length → number_at q.length bytes i ≡ Some q.bits → number_at r.length bytes i ≡ Some r.bits →
     is_prefix q r ≡ true

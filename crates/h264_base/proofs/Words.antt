@@ -10,6 +10,7 @@ use Rattle.h264_base.specs.Word.{rows_at, value_at, closes_at, ends_at, no_zero_
 use Rattle.h264_base.proofs.Chains.{map-some, then-some}
 use Rattle.h264_base.proofs.Rows.{row-found, found-row}
 use Rattle.h264_base.specs.Grammar.{Ends, HasMore, IsClosed}
+use Rattle.std.proofs.lemmas.Bool.{and_parts}
 
 pub number-stands : (n : ℕ) (bytes : List ℕ) (i x : ℕ) → number_at n bytes i ≡ Some x → (w : Word) × (length w ≡ n) × (number w ≡ x) × StandsAt bytes i w
 unfolding number_at
@@ -166,13 +167,9 @@ bit-is true (Some false) e = absurd (cc)
 bit-is false (Some true) e = absurd (cc)
 bit-is false (Some false) e = refl
 
-and-parts : (a b : Bool) → (a && b) ≡ true → (a ≡ true) × (b ≡ true)
-and-parts true b e = (refl, e)
-and-parts false b e = absurd (cc)
-
 stands-from : (w : Word) (bytes : List ℕ) (i : ℕ) → stands_at bytes i w ≡ true → StandsAt bytes i w
 stands-from [] bytes i e = tt
-stands-from (b ∷ w) bytes i e = let p = and-parts _ _ e in (bit-is b _ p.0, stands-from w bytes (i + 1) p.1)
+stands-from (b ∷ w) bytes i e = let p = and_parts _ _ e in (bit-is b _ p.0, stands-from w bytes (i + 1) p.1)
 
 from-stands : (w : Word) (bytes : List ℕ) (i : ℕ) → StandsAt bytes i w → stands_at bytes i w ≡ true
 from-stands [] bytes i s = refl
@@ -191,7 +188,7 @@ ends-from bytes i n h =
 from-ends : (bytes : List ℕ) (i : ℕ) → ends_at bytes i ≡ true → (n : ℕ) × Ends bytes i n
 unfolding ends_at
 from-ends bytes i e =
-    let p = and-parts (nat_lt i (8 * length bytes)) (stands_at bytes i (true ∷ replicate (8 * length bytes - i - 1) false)) e in
+    let p = and_parts (nat_lt i (8 * length bytes)) (stands_at bytes i (true ∷ replicate (8 * length bytes - i - 1) false)) e in
     let below = ltb-true i (8 * length bytes) p.0 in
     (8 * length bytes - i - 1, (stands-from (true ∷ replicate (8 * length bytes - i - 1) false) bytes i p.1, omega arith))
 
@@ -213,7 +210,7 @@ more-one bytes i false h = ap not (sym (ends-from bytes i h.0 h.1))
 pub closed-from : (bytes : List ℕ) (i : ℕ) → closes_at bytes i ≡ true → IsClosed bytes i
 unfolding closes_at
 closed-from bytes i e =
-    let p = and-parts (nat_le (8 * length bytes) (i + 8)) (ends_at bytes i) e in
+    let p = and_parts (nat_le (8 * length bytes) (i + 8)) (ends_at bytes i) e in
     let near = leb-true (8 * length bytes) (i + 8) p.0 in
     let q = from-ends bytes i p.1 in
     let whole = q.1.1 in

@@ -12,6 +12,7 @@ use Rattle.h264_base.specs.Grammar.{Ends}
 use Rattle.h264_base.proofs.Words.{more-one, from-padded, from-unpadded}
 use Rattle.h264_bits.specs.Peek.{bit_or_zero, peek_at, IsLastOne}
 use Rattle.h264_bits.proofs.Peeks.{bit-inside, bit-below, no-bit, zero-bit, one-bit, Leads}
+use Rattle.h264_base.proofs.Plain.{differs}
 
 -- zeros that the next bits spell stand there
 pub zeros-stand : (n : ℕ) (bytes : List ℕ) (i : ℕ) → i + n ≤ 8 * length bytes → peek_at n bytes i ≡ 0 → StandsAt bytes i (replicate n false)
@@ -75,9 +76,6 @@ not-ended bytes i h = on (ends_at bytes i) (more-one bytes i true h)
 
 one-at : (bytes : List ℕ) (i n : ℕ) → Ends bytes i n → bit_or_zero bytes i ≡ 1
 one-at bytes i n e = let w = e.1 in bit-seen bytes i true (omega arith) e.0.0
-
-differs : (i k : ℕ) → i ≢ k → (i == k) ≡ false
-differs i k h = grind (arith, nat_tests)
 
 -- a 1 with zeros after it
 pub last-found : (bytes : List ℕ) (k : ℕ) → k < 8 * length bytes → bit_or_zero bytes k ≡ 1 → ((j : ℕ) → k < j → bit_or_zero bytes j ≡ 0) → IsLastOne bytes k

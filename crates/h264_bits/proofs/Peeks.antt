@@ -14,6 +14,7 @@ use Rattle.std.proofs.Math.Nat.{pow-le-pow_right, mod-eq_of_lt}
 use Rattle.h264_base.specs.Word.{Fixed, Unsigned, Signed, digit, signed, bit_of, number_at, zeros_at, golomb_at, value_at}
 use Rattle.h264_bits.specs.Peek.{bit_or_zero, peek_at}
 use Rattle.h264_tables.proofs.Prefixes.{spread}
+use Rattle.h264_tables.proofs.Entries.{le-pow}
 
 pow-two : (m : ℕ) → 2 ^ suc m ≡ 2 * 2 ^ m
 pow-two m = pow-succ' 2 m
@@ -209,9 +210,6 @@ zeros-none (suc n) bytes i z =
 -- ---- Exp-Golomb words
 quotient-zero : (x p : ℕ) → x < p → x / p ≡ 0
 quotient-zero x p h = let d : (0 * p + x) / p ≡ 0 = div-mul-add 0 p x h in let c : 0 * p + x ≡ x = omega arith in rw c at d
-
-le-pow : (k n : ℕ) → k ≤ n → 2 ^ k ≤ 2 ^ n
-le-pow k n h = pow-le-pow_right (omega arith) h
 
 small-left : (a p x : ℕ) → a * p + x < p → a ≡ 0
 small-left zero p x h = refl

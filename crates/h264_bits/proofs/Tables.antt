@@ -17,9 +17,7 @@ use Rattle.h264_tables.proofs.Rows.{rows_of-words, IsShort, row-short, front-row
 use Rattle.h264_tables.proofs.Prefixes.{one-row}
 use Rattle.h264_bits.specs.Peek.{peek_at}
 use Rattle.h264_bits.proofs.Peeks.{peek-top, number-inside, number-outside}
-
-some-same : (a b : ℕ) → ◌≡◌ {A = Option ℕ} (Some a) (Some b) → a ≡ b
-some-same a b e = cc
+use Rattle.h264_base.proofs.Plain.{some-same}
 
 -- bits that begin with a word of the bytes spell it
 begins-stands : (r : Row) (bytes : List ℕ) (i : ℕ) → r.length ≤ 16 → r.length ≤ 8 * length bytes - i → begins 16 r (peek_at 16 bytes i) ≡ true →

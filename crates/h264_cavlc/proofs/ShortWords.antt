@@ -2,7 +2,7 @@
 use Rattle.std.proofs.Common.{◌≡◌, ◌≢◌, ℕ, zero, suc, ◌+◌, ◌*◌, ◌-◌, ◌/◌, ◌^◌, ◌<◌, ◌≤◌, Bool, true, false, ◌&&◌, ◌||◌, List, [], ◌∷◌, length, take, drop}
 use Rattle.std.proofs.Common.{get_or, min, nat_lt, ◌==◌, Option, Some, None, inl, inr, lt-ltb, refl, ap, ◌∙◌, arith}
 use Rattle.std.specs.Option.{option_map}
-use Rattle.std.proofs.lemmas.Bool.{and_parts, eqb-true, ne_eqb, ltb-true, cases_lt}
+use Rattle.std.proofs.lemmas.Bool.{and_parts, eqb-true, ne_eqb, ltb-true, cases_lt, le-ltb}
 use Rattle.std.proofs.lemmas.List.{get_or-take, get_or-drop}
 use Rattle.h264_base.specs.Table.{Row}
 use Rattle.h264_tables.specs.Front.{front_of, found_of}
@@ -22,7 +22,6 @@ use Rattle.h264_cavlc.specs.declared.token_words.TheConstants as token
 use Rattle.h264_cavlc.specs.declared.totals.TheConstants as total
 use Rattle.h264_cavlc.specs.Token.{coeff_token_table}
 use Rattle.h264_cavlc.specs.Zeros.{run_before_table, total_zeros_table}
-use Rattle.h264_cavlc.proofs.Sizes.{not-below}
 
 -- entry k on: each is the word that its number begins with, where s bits follow
 unfoldable all_fit : ℕ → ℕ → List ℕ → List ℕ → List Row → Bool
@@ -258,11 +257,11 @@ pub token-found : (nc n y : ℕ) → y < 2 ^ 16 → (nc < 2 → n ≡ 0) → (2 
 unfolding part some_fit entry_fits agrees coeff_token_nc0 coeff_token_nc2 coeff_token_nc4 coeff_token_nc8
 token-found nc n y h one three seven more some = elim (cases_lt nc 2) [
   | inl below ↦ rw (lt-ltb nc 2 below) (eight-bits 0 n y coeff_token_nc0 (one below) h refl refl some)
-  | inr two ↦ rw (not-below nc 2 (omega arith)) (elim (cases_lt nc 4) [
+  | inr two ↦ rw (le-ltb nc 2 (omega arith)) (elim (cases_lt nc 4) [
     | inl below ↦ rw (lt-ltb nc 4 below) (eight-bits 256 n y coeff_token_nc2 (three (omega arith) below) h refl refl some)
-    | inr four ↦ rw (not-below nc 4 (omega arith)) (elim (cases_lt nc 8) [
+    | inr four ↦ rw (le-ltb nc 4 (omega arith)) (elim (cases_lt nc 8) [
       | inl below ↦ rw (lt-ltb nc 8 below) (eight-bits 512 n y coeff_token_nc4 (seven (omega arith) below) h refl refl some)
-      | inr eight ↦ rw (not-below nc 8 (omega arith)) (eight-bits 768 n y coeff_token_nc8 (more (omega arith)) h refl refl some)
+      | inr eight ↦ rw (le-ltb nc 8 (omega arith)) (eight-bits 768 n y coeff_token_nc8 (more (omega arith)) h refl refl some)
     ])
   ])
 ]

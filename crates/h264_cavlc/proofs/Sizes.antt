@@ -11,9 +11,6 @@ use Rattle.h264_cavlc.specs.Level.{level_suffix}
 pub unequal : (a b : ℕ) → (a ≡ b → ⊥) → (a == b) ≡ false
 unequal a b h = grind (arith, nat_tests)
 
-pub not-below : (a b : ℕ) → b ≤ a → nat_lt a b ≡ false
-not-below a b h = grind (arith, nat_tests)
-
 -- a suffix of at most 12 bits
 pub suffix-small : (v n : ℕ) → v < 2 ^ n → n ≤ 12 → v < 4096
 suffix-small v n h few = let one : 0 < 2 = omega arith in let p = pow-le-pow_right one few in omega arith

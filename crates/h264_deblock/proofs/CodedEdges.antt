@@ -20,7 +20,7 @@ use Rattle.h264_near.specs.declared.context.Edge.{Edge}
 use Rattle.h264_near.specs.declared.motion.Motion.{Motion}
 use Rattle.h264_near.specs.declared.motion.Vector.{Vector}
 use Rattle.h264_near.proofs.Neighbours.{last-above}
-use Rattle.h264_near.proofs.Places.{quotient, remainder}
+use Rattle.h264_near.proofs.Places.{quotient, remainder, number-below}
 use Rattle.h264_deblock.specs.Filtering.{is_chroma, PlaneEdges, edges_of}
 use Rattle.h264_deblock.specs.Strength.{Side, side_part, far, moves_apart, strength_of}
 use Rattle.h264_deblock.specs.declared.filtering.Edges.{Edges}
@@ -36,10 +36,6 @@ use Rattle.h264_deblock.specs.Steps.{LiesAlong, block_beside, number_at, inter_s
 use Rattle.h264_deblock.specs.Steps.{is_steady, side_qp, parameters, border_of, border_edge, inner_edge}
 
 -- ---- blocks
-
-few : (x y : ℕ) → x < 4 → y < 4 → number_of x y < 16
-unfolding number_of
-few x y h k = omega arith
 
 -- a block of the macroblock beside, by its number
 side-is : (luma : ℕ → ℕ) (chroma : ℕ → ℕ → ℕ) (x y k : ℕ) (e : Edge) (m : CodedMacroblock) → k < 4 → luma k ≡ number_of x y → Borders luma chroma e m →
@@ -92,8 +88,8 @@ three v q a b c e f g = rw (e, f, g) refl
 -- ---- blocks of which none is intra
 
 pub few-at : (v : Bool) (line k : ℕ) → line < 4 → k < 4 → number_at v line k < 16
-few-at true line k h g = few line k h g
-few-at false line k h g = few k line g h
+few-at true line k h g = number-below line k h g
+few-at false line k h g = number-below k line g h
 
 -- a block that is not intra
 abbrev inter-side : Bool → Option Motion → Side
@@ -112,7 +108,7 @@ inter-is o a b p q = go (a || b) (moves_apart p q) refl refl
 own-side : (c : Contexts) (m : CodedMacroblock) (x y : ℕ) → AreContexts c m → c.intra ≡ false → x < 4 → y < 4 →
     side_part x y m ≡ Some (inter-side (nat_lt 0 (get_or c.totals (number_of x y) 0)) (get_or c.motions (number_of x y) None))
 unfolding side_part
-own-side c m x y s i h k = let n = few x y h k in rw (s.intra, i, s.totals, s.motions (number_of x y) n) refl
+own-side c m x y s i h k = let n = number-below x y h k in rw (s.intra, i, s.totals, s.motions (number_of x y) n) refl
 
 own-block : (v : Bool) (c : Contexts) (m : CodedMacroblock) (line k : ℕ) → AreContexts c m → c.intra ≡ false → line < 4 → k < 4 →
     block_at v line k m ≡ Some (inter-side (nat_lt 0 (get_or c.totals (number_at v line k) 0)) (get_or c.motions (number_at v line k) None))

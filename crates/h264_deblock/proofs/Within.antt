@@ -7,22 +7,11 @@ use Rattle.h264_plane.specs.declared.frame.Component.{Component}
 use Rattle.h264_plane.specs.declared.frame.Component.TheVariants.{Y, Cb, Cr}
 use Rattle.h264_near.specs.Coded.{CodedMacroblock}
 use Rattle.h264_near.specs.Raster.{before, last_in, last_left}
-use Rattle.h264_near.proofs.Neighbours.{last-above}
+use Rattle.h264_near.proofs.Neighbours.{last-above, above-there, left-there}
 use Rattle.h264_near.proofs.Places.{quotient, remainder}
 use Rattle.h264_deblock.specs.Filtering.{AreInside}
 use Rattle.h264_deblock.specs.declared.slice_filter.SliceFilter.{SliceFilter}
 use Rattle.h264_deblock.specs.CodedEdges.{border, edges_along, coded_edges}
-
-some-before : {A : Type 0} (n : ℕ) (f : ℕ → Option A) → IsTrue (is_some (option_and_then f (before n))) → 0 < n
-some-before zero f h = absurd (grind (arith, h))
-some-before (suc n) f h = omega arith
-
-left-there : {M : Type 0} (w : ℕ) (xs : List M) → IsTrue (is_some (last_left w xs)) → 0 < length xs % w
-unfolding last_left
-left-there w xs h = some-before (length xs % w) _ h
-
-above-there : {M : Type 0} (w : ℕ) (xs : List M) (c : ℕ) → length xs % w ≤ c → IsTrue (is_some (last_in w xs c)) → 0 < length xs / w
-above-there w xs c k h = some-before (length xs / w) (λ r. slice_get xs (r * w + c)) (rw (last-above w xs c k) at h)
 
 first : (slices : ℕ → SliceFilter) (p : Component) (v : Bool) (o : Option CodedMacroblock) (q : CodedMacroblock) →
     IsTrue (is_some (get_or (edges_along slices p v o q) 0 None)) → IsTrue (is_some o)

@@ -11,12 +11,10 @@ use Rattle.h264_dpb.specs.Bumping.{marked, marked_by, is_in_use}
 use Rattle.std.specs.List.{filter}
 use Rattle.h264_dpb.specs.Buffered.{AreReady, is_ready}
 use Rattle.h264_dpb.proofs.Out.{chosen}
+use Rattle.std.proofs.lemmas.Bool.{le-ltb}
 
 is-lt : (m n : ℕ) → m < n → nat_lt m n ≡ true
 is-lt m n h = grind (arith, nat_tests)
-
-not-lt : (m n : ℕ) → n ≤ m → nat_lt m n ≡ false
-not-lt m n h = grind (arith, nat_tests)
 
 lt-of : (m n : ℕ) → nat_lt m n ≡ true → m < n
 lt-of m n h = grind (arith, nat_tests)
@@ -30,7 +28,7 @@ module _ {N : Type 0} where
   pub made_room-next : (n m places : ℕ) (es : List (Entry N)) → n ≡ suc m → places ≤ length es →
       made_room n places es ≡ and_then (bumped es) (made_room m places)
   unfolding made_room
-  made_room-next n m places es e h = ap (λ k. made_room k places es) e ∙ chosen (nat_lt (length es) places) false _ _ (not-lt (length es) places h)
+  made_room-next n m places es e h = ap (λ k. made_room k places es) e ∙ chosen (nat_lt (length es) places) false _ _ (le-ltb (length es) places h)
 
   pub made_room-last : (n places : ℕ) (es : List (Entry N)) → n ≡ 0 → made_room n places es ≡ leaves es
   unfolding made_room
@@ -45,19 +43,19 @@ module _ {N : Type 0} where
       (let s : Step N = record { written = e ∷ []; entries = es } in placed n places e es ≡ s)
   unfolding placed
   placed-once zero places e es s h b = absurd (omega (arith, s))
-  placed-once (suc n) places e es s h b = chosen (nat_lt (length es) places) false _ _ (not-lt (length es) places h) ∙
+  placed-once (suc n) places e es s h b = chosen (nat_lt (length es) places) false _ _ (le-ltb (length es) places h) ∙
       chosen (is_below e.count (least_count es)) true _ _ b
 
   pub placed-next : (n m places : ℕ) (e : Entry N) (es : List (Entry N)) → n ≡ suc m → places ≤ length es → is_below e.count (least_count es) ≡ false →
       placed n places e es ≡ and_then (bumped es) (placed m places e)
   unfolding placed
-  placed-next n m places e es i h b = ap (λ k. placed k places e es) i ∙ chosen (nat_lt (length es) places) false _ _ (not-lt (length es) places h) ∙
+  placed-next n m places e es i h b = ap (λ k. placed k places e es) i ∙ chosen (nat_lt (length es) places) false _ _ (le-ltb (length es) places h) ∙
       chosen (is_below e.count (least_count es)) false _ _ b
 
   pub placed-last : (n places : ℕ) (e : Entry N) (es : List (Entry N)) → n ≡ 0 → places ≤ length es →
       (let s : Step N = record { written = e ∷ []; entries = es } in placed n places e es ≡ s)
   unfolding placed
-  placed-last n places e es i h = ap (λ k. placed k places e es) i ∙ chosen (nat_lt (length es) places) false _ _ (not-lt (length es) places h)
+  placed-last n places e es i h = ap (λ k. placed k places e es) i ∙ chosen (nat_lt (length es) places) false _ _ (le-ltb (length es) places h)
 
 -- what waits is still at its place
 ready-left : (lent : ℕ → Option Frame) (e : Entry Placed) (es : List (Entry Placed)) (b : Bool) → e.reference ≡ b → AreReady lent es →

@@ -12,8 +12,8 @@ use Rattle.h264_dpb.specs.Renamed.{all_renamed, renamed}
 use Rattle.h264_dpb.specs.Turns.{Shown, Turn, turn_of, stays, names, still, missing_turn}
 use Rattle.h264_dpb.specs.Kept.{SameBuffer, shown_at}
 use Rattle.h264_dpb.specs.Steady.{is_marked, is_steady}
-use Rattle.h264_marking.proofs.Moving.{both}
 use Rattle.h264_dpb.proofs.Renaming.{marked-renamed}
+use Rattle.std.proofs.lemmas.Bool.{and_parts}
 
 same-by : (a b : Bool) → beq a b ≡ true → b ≡ a
 same-by true true h = refl
@@ -25,8 +25,8 @@ module _ {N : Type 0} (held : N → Bool) where
   marks-same : (es : List (Entry N)) → list_all (is_marked held) es ≡ true → filter is_in_use (map (marked_by held) es) ≡ es
   marks-same [] h = refl
   marks-same (e ∷ es) h =
-      let p = both (is_marked held e) (list_all (is_marked held) es) h in
-      let q = both (beq e.reference (held e.of)) (is_in_use e) p.0 in
+      let p = and_parts (is_marked held e) (list_all (is_marked held) es) h in
+      let q = and_parts (beq e.reference (held e.of)) (is_in_use e) p.0 in
       let rest = filter is_in_use (map (marked_by held) es) in
       ap (λ (r : Bool). let m : Entry N = record e { reference = r } in cond (is_in_use m) (m ∷ rest) rest) (same-by e.reference (held e.of) q.0)
       ∙ ap (λ (b : Bool). cond b (e ∷ rest) rest) q.1
@@ -47,9 +47,9 @@ pub steady-turn : (refs : References) (b : Buffered Shown) (kept : Buffered Plac
 unfolding missing_turn
 steady-turn refs b kept same h =
     let missing = missing_in (names refs) in
-    let p = both (kept.missing == missing && nat_lt (length kept.entries) (kept.size - (missing - 1)))
+    let p = and_parts (kept.missing == missing && nat_lt (length kept.entries) (kept.size - (missing - 1)))
     (list_all (is_marked (λ n. is_held (names refs) n.picture)) kept.entries) h in
-    let q = both (kept.missing == missing) (nat_lt (length kept.entries) (kept.size - (missing - 1))) p.0 in
+    let q = and_parts (kept.missing == missing) (nat_lt (length kept.entries) (kept.size - (missing - 1))) p.0 in
     let stay : marked (still refs) b.entries ≡ b.entries = ap (marked (still refs)) same.entries ∙ marked-renamed shown_at (still refs) kept.entries ∙
     ap (all_renamed shown_at) (marked-same (λ n. still refs (shown_at n)) kept.entries p.1) ∙ sym same.entries in
     let lengths : length b.entries ≡ length kept.entries = ap length same.entries ∙ length-map kept.entries (renamed shown_at) in

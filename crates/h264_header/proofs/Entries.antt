@@ -28,11 +28,6 @@ pub where-ok : {X E P Q : Type 0} (r : Result X E) → (P → Q) → OnOk r P �
 where-ok (Ok x) f p = f p
 where-ok (Err e) f p = tt
 
--- a flag as a digit
-pub digit-is : (b : Bool) → (digit b == 1) ≡ b
-digit-is true = refl
-digit-is false = refl
-
 -- a part that is read last, seen otherwise
 pub seen-last : {X A B S : Type 0} {took : S → List Call → Type 0} {failures : S → ℕ} {R : X → A → Type 0} {R' : X → B → Type 0} {g : Grammar A} (f : A → B)
     {old new : Reader} {s s' : S} (r : Result X Stop) → ((x : X) (v : A) → R x v → R' x (f v)) → Meets (span took failures s s') R g old new r →

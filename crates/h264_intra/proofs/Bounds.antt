@@ -3,7 +3,7 @@ use Rattle.std.proofs.lemmas.Int.{ints}
 use Rattle.std.proofs.lemmas.Nat.{mul-le}
 use lib.Signed.{shr_z}
 use borrow.Author.Differences.{up, down}
-use Rattle.h264_intra.specs.Sides.{IsIn}
+use Rattle.h264_plane.specs.Clip.{IsIn}
 
 -- a shift by six places, for omega
 shr6_low : (z : ℤ) → 64 * up (shr_z z 64) + down z ≤ up z + 64 * down (shr_z z 64)
@@ -16,12 +16,6 @@ shr6_high (negsuc n) = omega arith
 
 pub in_shr6 : (n : ℕ) (z : ℤ) → IsIn (64 * n) z → IsIn n (shr_z z 64)
 in_shr6 n z h = record { low = omega (arith, ints, shr6_low, shr6_high); high = omega (arith, ints, shr6_low, shr6_high) }
-
-pub in_more : (m n : ℕ) (z : ℤ) → m ≤ n → IsIn m z → IsIn n z
-in_more m n z p h = record { low = omega (arith, ints); high = omega (arith, ints) }
-
-pub in_sum : (m n : ℕ) (x y : ℤ) → IsIn m x → IsIn n y → IsIn (m + n) (x +ℤ y)
-in_sum m n x y p q = record { low = omega (arith, ints); high = omega (arith, ints) }
 
 pub in_product : (m n : ℕ) (x y : ℤ) → IsIn m x → IsIn n y → IsIn (m * n) (x *ℤ y)
 in_product m n (pos a) (pos b) p q =

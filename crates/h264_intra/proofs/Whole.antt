@@ -12,6 +12,7 @@ use Rattle.h264_intra.specs.declared.luma16.Intra16x16PredMode.TheVariants as lu
 use Rattle.h264_intra.specs.declared.chroma.NeighboursChroma.{NeighboursChroma}
 use Rattle.h264_intra.specs.declared.chroma.IntraChromaPredMode.TheVariants as chroma
 use Rattle.h264_intra.proofs.Totals.{beside_row, beside_column}
+use Rattle.h264_plane.proofs.Below.{below_2}
 
 -- a side that is there
 side_is : (o : Option (List ℕ)) (s z : List ℕ) → IsTrue (is_some o) → s ≡ unwrap_or o z → s ≡ unwrap_or o []
@@ -103,19 +104,13 @@ pub flat16 : (n : Neighbours16) (left above out : List ℕ) (flat : ℕ) (t : Sl
 unfolding predicted16
 flat16 n left above out flat t e has = record { each = λ x y i j. has.each x y i j ∙ e }
 
--- the four blocks of a chroma plane
-by_two : (P : ℕ → Type 0) → P 0 → P 1 → (k : ℕ) → k < 2 → P k
-by_two P a b zero p = a
-by_two P a b (suc zero) p = b
-by_two P a b (suc (suc k)) p = absurd (let f : ⊥ = omega arith in f)
-
 block_is : (f : ℕ → ℕ → ℕ) (a b c d : ℕ) → a ≡ f 0 0 → b ≡ f 1 0 → c ≡ f 0 1 → d ≡ f 1 1 → (i j : ℕ) → i < 2 → j < 2 →
     slice_index (a ∷ b ∷ c ∷ d ∷ []) (2 * j + i) ≡ f i j
 block_is f a b c d p q r s i j k l =
     let xs = a ∷ b ∷ c ∷ d ∷ [] in
-    by_two (λ v. slice_index xs (2 * v + i) ≡ f i v)
-    (by_two (λ u. slice_index xs (2 * 0 + u) ≡ f u 0) p q i k)
-    (by_two (λ u. slice_index xs (2 * 1 + u) ≡ f u 1) r s i k)
+    below_2 (λ v. slice_index xs (2 * v + i) ≡ f i v)
+    (below_2 (λ u. slice_index xs (2 * 0 + u) ≡ f u 0) p q i k)
+    (below_2 (λ u. slice_index xs (2 * 1 + u) ≡ f u 1) r s i k)
     j l
 
 pub flat_chroma : (n : NeighboursChroma) (left above out : List ℕ) (d e f g : ℕ) (t : Slopes) →

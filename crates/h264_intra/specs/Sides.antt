@@ -1,6 +1,7 @@
 -- The sides of a macroblock: which of them are available (Sides), and the samples there. A working form.
 pub use Rattle.h264_intra.specs.declared.sides.Sides.{Sides}
 use Rattle.std.specs.Prelude.{◌≡◌, ◌+◌, ◌<◌, IsTrue, ℕ, ◌-◌, ◌==◌, if◌then◌else◌, List, [], slice_index, Option, unwrap_or, ℤ, pos, neg_ℤ, ◌≤ℤ◌}
+use Rattle.h264_plane.specs.Clip.{IsIn}
 
 -- a side with the corner before it
 abbrev pub with_corner : ℕ → List ℕ → ℕ → ℕ
@@ -10,11 +11,6 @@ with_corner corner side k = if k == 0 then corner else slice_index side (k - 1)
 abbrev pub beside : Option (List ℕ) → Option (List ℕ) → Option ℕ → ℕ → ℕ → ℕ
 beside left above corner x y =
     if y == 0 then with_corner (unwrap_or corner 0) (unwrap_or above []) x else slice_index (unwrap_or left []) (y - 1)
-
--- a number lies in -n .. n
-pub record IsIn (n : ℕ) (z : ℤ) : Type 0 where
-  pub low : neg_ℤ (pos n) ≤ℤ z
-  pub high : z ≤ℤ pos n
 
 -- a, b and c of plane prediction are small
 pub record IsGentle (a b c : ℤ) : Type 0 where

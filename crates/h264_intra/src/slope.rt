@@ -1,6 +1,7 @@
 ghost use Rattle.std.specs.Prelude.{◌≡◌, ◌+◌, ◌-◌, ◌*◌, ◌<◌, ◌≤◌, length, slice_index, ℤ, pos, ◌*ℤ◌, ◌-ℤ◌};
 ghost use Rattle.h264_intra.specs.Slope.{gradient as gradient_of, slope as slope_of, plane_sample};
-ghost use Rattle.h264_intra.specs.Sides.{with_corner, IsIn, IsGentle};
+ghost use Rattle.h264_intra.specs.Sides.{with_corner, IsGentle};
+ghost use Rattle.h264_plane.specs.Clip.{IsIn};
 
 use h264_plane::clip1;
 

@@ -7,6 +7,7 @@ use Rattle.std.proofs.lemmas.Bool.{leb-true, leb-false}
 use Rattle.h264_marking.specs.declared.frame.Numbering.{Numbering}
 use Rattle.h264_marking.specs.Gaps.{numbers_from, gap_before, unused_short_term_frame_nums, last_or}
 use Rattle.h264_marking.specs.Unused.{Succeed, Avoid, IsGap}
+use Rattle.h264_base.proofs.Plain.{differs}
 
 -- the number after another
 module _ (m : ℕ) where
@@ -123,14 +124,11 @@ module _ (m : ℕ) where
       avoid = subst (λ x. Avoid p x (numbers_from g ((p + 1) % m) m)) (sym e) (avoids p 0 g s);
     }
 
-ne-false : (a b : ℕ) → a ≢ b → (a == b) ≡ false
-ne-false a b h = ne_eqb a b h
-
 pub is-gap : (prev : ℕ) (n : Numbering) → prev < n.max_frame_num → n.frame_num < n.max_frame_num → n.frame_num ≢ prev →
     IsGap prev n (unused_short_term_frame_nums false prev n)
 is-gap prev n p f ne =
     let g : gap_before false prev n ≡ (n.frame_num + n.max_frame_num - (prev + 1)) % n.max_frame_num =
-    ap (λ b. if b then 0 else (n.frame_num + n.max_frame_num - (prev + 1)) % n.max_frame_num) (ne-false n.frame_num prev ne) in
+    ap (λ b. if b then 0 else (n.frame_num + n.max_frame_num - (prev + 1)) % n.max_frame_num) (differs n.frame_num prev ne) in
     gap-by n.max_frame_num prev n.frame_num p f (gap_before false prev n) (starts n.max_frame_num prev n.frame_num p f (gap_before false prev n) g ne) n refl
     refl
 

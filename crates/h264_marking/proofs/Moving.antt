@@ -4,7 +4,7 @@ use Rattle.std.proofs.Common.{Some, None, List, [], ◌∷◌, ◌++◌, map, le
 use Rattle.std.proofs.Common.{length-append, eqb-true, ne_eqb, le-ltb, ltb-false, ltb-true, mod-lt, mod-eq_of_lt}
 use Rattle.std.proofs.Math.Nat.{add-mod_left, mod-add-mod}
 use Rattle.std.proofs.lemmas.Int.{ints, clamps}
-use Rattle.std.proofs.lemmas.Bool.{cases_lt}
+use Rattle.std.proofs.lemmas.Bool.{cases_lt, and_parts}
 use Rattle.std.proofs.lemmas.Bool.Decides.{Decides-int_eq}
 use Rattle.std.specs.List.{list_any}
 use Rattle.std.specs.Int.{int_min}
@@ -23,20 +23,16 @@ use Rattle.h264_marking.proofs.Missing.{following, Stands, step, not-f, avoids, 
 
 -- ---- from the tests
 
-pub both : (a b : Bool) → (a && b) ≡ true → (a ≡ true) × (b ≡ true)
-both true b h = (refl, h)
-both false b h = cc
-
 missing-by : (number : ℕ) (picture : Option ℕ) (frame_num : ℕ) (term : Term) → (is_short term && frame_num == number && is_none picture) ≡ true →
     (let f : ReferenceFrame = record { picture = picture; frame_num = frame_num; term = term } in f) ≡ missing_frame number
-missing-by number None frame_num Short h = ap missing_frame (eqb-true frame_num number (both (frame_num == number) true h).0)
-missing-by number (Some p) frame_num Short h = let no = (both (frame_num == number) false h).1 in cc
+missing-by number None frame_num Short h = ap missing_frame (eqb-true frame_num number (and_parts (frame_num == number) true h).0)
+missing-by number (Some p) frame_num Short h = let no = (and_parts (frame_num == number) false h).1 in cc
 missing-by number picture frame_num (Long i) h = cc
 
 missing-all : (n : Numbering) (before : ℕ) (fs : List ReferenceFrame) → are_missing n.max_frame_num before fs ≡ true → fs ≡ missing_after n (length fs) before
 missing-all n before [] h = refl
 missing-all n before (f ∷ fs) h =
-    let p = both (is_missing ((before + 1) % n.max_frame_num) f) (are_missing n.max_frame_num ((before + 1) % n.max_frame_num) fs) h in
+    let p = and_parts (is_missing ((before + 1) % n.max_frame_num) f) (are_missing n.max_frame_num ((before + 1) % n.max_frame_num) fs) h in
     ap₂ (λ (x : ReferenceFrame) (xs : List ReferenceFrame). x ∷ xs) (missing-by ((before + 1) % n.max_frame_num) f.picture f.frame_num f.term p.0)
     (missing-all n ((before + 1) % n.max_frame_num) fs p.1)
 
@@ -54,7 +50,7 @@ parts n before shorts (f ∷ fs) h = by (parts n before shorts fs) (is_short f.t
         cond short (length (f ∷ fs) == shorts && are_missing n.max_frame_num before (f ∷ fs)) (is_window n.max_frame_num before shorts fs) ≡ true →
         Parts n before shorts (f ∷ fs)
     by others true e h =
-        let p = both (length (f ∷ fs) == shorts) (are_missing n.max_frame_num before (f ∷ fs)) h in
+        let p = and_parts (length (f ∷ fs) == shorts) (are_missing n.max_frame_num before (f ∷ fs)) h in
         record {
           longs = [];
           are_long = tt;

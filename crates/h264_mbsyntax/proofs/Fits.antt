@@ -17,6 +17,7 @@ use Rattle.h264_vectors.specs.Agrees.{places_with, places_after}
 use Rattle.h264_vectors.specs.Inter.{part_motion, part_motions, one_part, two_parts, quarters, split_parts, motions_by, motions, is_inferred}
 use Rattle.h264_vectors.proofs.Parts.{places-with, quarter0, quarter1, quarter2, quarter3}
 use Rattle.h264_mbsyntax.specs.Fit.{motion_fits, all_fit}
+use Rattle.std.proofs.lemmas.Bool.{and_parts}
 
 -- no block of the part is derived, and it has a block
 abbrev apart : List Bool → Part → Bool
@@ -25,11 +26,6 @@ apart places p = list_all (λ n. not (is_inside p n && get_or places n false)) (
 abbrev apart_all : List Bool → List Part → Bool
 apart_all places [] = true
 apart_all places (p ∷ parts) = apart places p && apart_all (places_with places p) parts
-
-both : (a b : Bool) → (a && b) ≡ true → (a ≡ true) × (b ≡ true)
-both true true e = (refl, refl)
-both true false e = absurd (cc)
-both false b e = absurd (cc)
 
 inside : (f r a : Bool) → (f && (r && (not a || f))) ≡ (r && f)
 inside true true true = refl
@@ -61,7 +57,7 @@ module _ (limit : ℕ) (old : List (Option Motion)) (p : Part) (m : Motion) wher
       list_all following ns ≡ (list_all before ns && (not (list_any (is_inside p) ns) || motion_fits limit (Some m)))
   one-more [] e = refl
   one-more (n ∷ ns) e =
-      let b = both (free n) (list_all free ns) e in
+      let b = and_parts (free n) (list_all free ns) e in
       go (is_inside p n) refl (get_or old n None) b.0 (one-more ns b.1)
     where
       go : (t : Bool) → is_inside p n ≡ t → (o : Option Motion) → not (is_inside p n && is_some o) ≡ true →
@@ -79,7 +75,7 @@ module _ (width : ℕ) (slice : SliceContext) (picture : List CodedMacroblock) w
       list_all (λ n. not (is_inside p n && get_or places n false)) ns ≡ true → list_all (free slice.vector_limit d.motions p m) ns ≡ true
   free-by places d p m [] e h = refl
   free-by places d p m (n ∷ ns) e h =
-      let b = both (not (is_inside p n && get_or places n false)) _ h in
+      let b = and_parts (not (is_inside p n && get_or places n false)) _ h in
       let same : get_or places n false ≡ is_some (get_or d.motions n None) = ap (λ l. get_or l n false) (sym e) ∙ math.get_or-map is_some d.motions n None in
       rw (sym same, b.0) (free-by places d p m ns e b.1)
 
@@ -87,7 +83,7 @@ module _ (width : ℕ) (slice : SliceContext) (picture : List CodedMacroblock) w
       Good (places_with places p) (with_vector slice d p i v)
   unfolding with_vector with_part motion_of
   good-next places d p i v a g =
-      let b = both _ (list_any (is_inside p) (range_with_len 0 16)) a in
+      let b = and_parts _ (list_any (is_inside p) (range_with_len 0 16)) a in
       let more = one-more slice.vector_limit d.motions p (motion_of slice i v) (range_with_len 0 16)
       (free-by places d p (motion_of slice i v) (range_with_len 0 16) g.0 b.0) in (
         places-with d.motions p (motion_of slice i v) ∙ ap (λ s. places_with s p) g.0,
@@ -105,7 +101,7 @@ module _ (width : ℕ) (slice : SliceContext) (picture : List CodedMacroblock) w
       Gives (part_motions width slice picture i parts d) (Good (places_after places parts))
   unfolding part_motions
   gives-parts places i [] d a g = gives-done _ d g
-  gives-parts places i (p ∷ parts) d a g = let b = both (apart places p) (apart_all (places_with places p) parts) a in
+  gives-parts places i (p ∷ parts) d a g = let b = and_parts (apart places p) (apart_all (places_with places p) parts) a in
       gives-bind (Good (places_with places p)) _ _ _ (gives-part places p i d b.0 g) (λ next h. gives-parts (places_with places p) i parts next b.1 h)
 
   -- all sixteen blocks are derived, and the flag is that of all of them
@@ -123,8 +119,8 @@ module _ (width : ℕ) (slice : SliceContext) (picture : List CodedMacroblock) w
       places_with (places_with (replicate 16 false) p) q ≡ replicate 16 true → Gives (two_parts width slice picture inferred p q) Same
   unfolding two_parts
   gives-two inferred p q a whole =
-      let b = both (apart (replicate 16 false) p) _ a in
-      let c = both (apart (places_with (replicate 16 false) p) q) true b.1 in
+      let b = and_parts (apart (replicate 16 false) p) _ a in
+      let c = and_parts (apart (places_with (replicate 16 false) p) q) true b.1 in
       gives-bind _ Same _ _ (gives-any _) (λ i x. gives-bind _ Same _ _ (gives-any _)
       (λ j y. gives-bind (Good (places_with (replicate 16 false) p)) Same _ _ (gives-part (replicate 16 false) p i none_yet b.0 none-good)
       (λ d g. subst (λ l. Gives (part_motion width slice picture q j d) (Good l)) whole (gives-part (places_with (replicate 16 false) p) q j d c.0 g))))

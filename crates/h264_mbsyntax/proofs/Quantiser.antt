@@ -40,11 +40,3 @@ pub next-some : (fits : CodedMacroblock → Bool) (width : ℕ) (slice : SliceCo
 unfolding next
 next-some fits width slice left picture bit zero h = absurd (h refl)
 next-some fits width slice left picture bit (suc n) h = let e : n ≡ suc n - 1 = omega arith in ap (λ k. skip width slice picture bit k) e
-
-pub is-true : (b : Bool) → not b ≡ false → b ≡ true
-is-true true h = refl
-is-true false h = absurd (cc)
-
-pub is-false : (b : Bool) → not b ≡ true → b ≡ false
-is-false true h = absurd (cc)
-is-false false h = refl

@@ -9,6 +9,7 @@ use Rattle.h264_intra.specs.declared.luma4.Intra4x4PredMode.TheVariants.{Vertica
 use Rattle.h264_near.specs.Coded.{CodedMacroblock, number_of, chroma_number_of, total_part, chroma_part, mode_part, motion_part}
 use Rattle.h264_near.specs.Along.{edge_total, edge_chroma, edge_mode, edge_motion}
 use Rattle.h264_near.specs.Keeps.{AreContexts, Borders, IsEdge, Lower, Right}
+use Rattle.h264_plane.proofs.Below.{below_4}
 
 module _ (luma : ℕ → ℕ) (chroma : ℕ → ℕ → ℕ) where
   pub total-is : (slice x y k : ℕ) (edge : Option Edge) (m : Option CodedMacroblock) → k < 4 → luma k ≡ number_of x y → IsEdge (Borders luma chroma) edge m →
@@ -69,14 +70,6 @@ module _ (c : Contexts) (m : CodedMacroblock) (s : AreContexts c m) (all : lengt
     motions = λ k h. s.motions (luma k) (few k h) ∙ ap Some (sym (ev k h));
   }
 
--- four and two elements, one by one
-pub by-four : (P : ℕ → Type 0) → P 0 → P 1 → P 2 → P 3 → (k : ℕ) → k < 4 → P k
-by-four P a b c d zero h = a
-by-four P a b c d (suc zero) h = b
-by-four P a b c d (suc (suc zero)) h = c
-by-four P a b c d (suc (suc (suc zero))) h = d
-by-four P a b c d (suc (suc (suc (suc k)))) h = absurd (omega arith)
-
 pub by-two-two : (P : ℕ → ℕ → Type 0) → P 0 0 → P 0 1 → P 1 0 → P 1 1 → (c k : ℕ) → c < 2 → k < 2 → P c k
 by-two-two P a b c d zero zero g h = a
 by-two-two P a b c d zero (suc zero) g h = b
@@ -95,13 +88,13 @@ module _ (c : Contexts) (m : CodedMacroblock) (s : AreContexts c m) (all : lengt
       → Lower e m
   unfolding number_of chroma_number_of
   lower-edge e es ei eq et eb em ev = borders c m s all chroma (λ k. number_of k 3) (λ c k. chroma_number_of c k 1) e
-      (by-four (λ k. number_of k 3 < 16) (lit< tt) (lit< tt) (lit< tt) (lit< tt))
+      (below_4 (λ k. number_of k 3 < 16) (lit< tt) (lit< tt) (lit< tt) (lit< tt))
       (by-two-two (λ c k. chroma_number_of c k 1 < 8) (lit< tt) (lit< tt) (lit< tt) (lit< tt)) es ei eq
-      (by-four (λ k. get_or e.totals k 0 ≡ get_or c.totals (number_of k 3) 0) (rw et refl) (rw et refl) (rw et refl) (rw et refl))
+      (below_4 (λ k. get_or e.totals k 0 ≡ get_or c.totals (number_of k 3) 0) (rw et refl) (rw et refl) (rw et refl) (rw et refl))
       (by-two-two (λ b k. get_or e.chroma (b * 2 + k) 0 ≡ get_or c.chroma_totals (chroma_number_of b k 1) 0) (rw eb refl) (rw eb refl) (rw eb refl)
       (rw eb refl))
-      (by-four (λ k. get_or e.modes k Vertical ≡ get_or c.modes (number_of k 3) Vertical) (rw em refl) (rw em refl) (rw em refl) (rw em refl))
-      (by-four (λ k. get_or e.motions k None ≡ get_or c.motions (number_of k 3) None) (rw ev refl) (rw ev refl) (rw ev refl) (rw ev refl))
+      (below_4 (λ k. get_or e.modes k Vertical ≡ get_or c.modes (number_of k 3) Vertical) (rw em refl) (rw em refl) (rw em refl) (rw em refl))
+      (below_4 (λ k. get_or e.motions k None ≡ get_or c.motions (number_of k 3) None) (rw ev refl) (rw ev refl) (rw ev refl) (rw ev refl))
 
   pub right-edge : (e : Edge) → e.slice ≡ c.slice → e.intra ≡ c.intra → e.qp ≡ c.qp
       → e.totals ≡ get_or c.totals 5 0 ∷ get_or c.totals 7 0 ∷ get_or c.totals 13 0 ∷ get_or c.totals 15 0 ∷ []
@@ -111,13 +104,13 @@ module _ (c : Contexts) (m : CodedMacroblock) (s : AreContexts c m) (all : lengt
       → Right e m
   unfolding number_of chroma_number_of
   right-edge e es ei eq et eb em ev = borders c m s all chroma (λ k. number_of 3 k) (λ c k. chroma_number_of c 1 k) e
-      (by-four (λ k. number_of 3 k < 16) (lit< tt) (lit< tt) (lit< tt) (lit< tt))
+      (below_4 (λ k. number_of 3 k < 16) (lit< tt) (lit< tt) (lit< tt) (lit< tt))
       (by-two-two (λ c k. chroma_number_of c 1 k < 8) (lit< tt) (lit< tt) (lit< tt) (lit< tt)) es ei eq
-      (by-four (λ k. get_or e.totals k 0 ≡ get_or c.totals (number_of 3 k) 0) (rw et refl) (rw et refl) (rw et refl) (rw et refl))
+      (below_4 (λ k. get_or e.totals k 0 ≡ get_or c.totals (number_of 3 k) 0) (rw et refl) (rw et refl) (rw et refl) (rw et refl))
       (by-two-two (λ b k. get_or e.chroma (b * 2 + k) 0 ≡ get_or c.chroma_totals (chroma_number_of b 1 k) 0) (rw eb refl) (rw eb refl) (rw eb refl)
       (rw eb refl))
-      (by-four (λ k. get_or e.modes k Vertical ≡ get_or c.modes (number_of 3 k) Vertical) (rw em refl) (rw em refl) (rw em refl) (rw em refl))
-      (by-four (λ k. get_or e.motions k None ≡ get_or c.motions (number_of 3 k) None) (rw ev refl) (rw ev refl) (rw ev refl) (rw ev refl))
+      (below_4 (λ k. get_or e.modes k Vertical ≡ get_or c.modes (number_of 3 k) Vertical) (rw em refl) (rw em refl) (rw em refl) (rw em refl))
+      (below_4 (λ k. get_or e.motions k None ≡ get_or c.motions (number_of 3 k) None) (rw ev refl) (rw ev refl) (rw ev refl) (rw ev refl))
 
 -- an edge where there is a macroblock
 pub edge-there : (borders : Edge → CodedMacroblock → Type 0) (o : Option Edge) (m : CodedMacroblock) → IsEdge borders o (Some m) → (e : Edge) × (o ≡ Some e) ×

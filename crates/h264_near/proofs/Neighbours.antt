@@ -7,7 +7,8 @@ use Rattle.std.proofs.lemmas.Option.{slice_get_past}
 use Rattle.std.proofs.Math.Nat.{mod-lt}
 use Rattle.h264_near.specs.Place.{part_at, around}
 use Rattle.h264_near.specs.Raster.{before, last_in, last_left, last_corner}
-use Rattle.h264_near.proofs.Places.{front, seam, parts, quotient, remainder, not-below, part-below}
+use Rattle.h264_near.proofs.Places.{front, seam, parts, quotient, remainder, part-below}
+use Rattle.std.proofs.lemmas.Bool.{le-ltb}
 
 -- places outside the picture
 no-column : {M B : Type 0} (side : ℕ) (part : ℕ → ℕ → M → Option B) (width : ℕ) (whole : List M) (i j : ℕ) → i ≡ 0 → part_at side part width whole i j ≡ None
@@ -24,7 +25,7 @@ past-row : {M B : Type 0} (side : ℕ) (part : ℕ → ℕ → M → Option B) (
 unfolding part_at
 past-row side part width whole zero j h = refl
 past-row side part width whole (suc i) zero h = refl
-past-row side part width whole (suc i) (suc j) h = rw (not-below i (width * side) (omega arith)) refl
+past-row side part width whole (suc i) (suc j) h = rw (le-ltb i (width * side) (omega arith)) refl
 
 -- a place in a macroblock of which column and row are known
 placed : {M B : Type 0} (side : ℕ) (part : ℕ → ℕ → M → Option B) (width : ℕ) (whole : List M) (c r x y i j : ℕ) → c < width → x < side → y < side →
@@ -41,7 +42,7 @@ placed side part width whole c r x y i j h hx hy ei ej =
 pub last-above : {M : Type 0} (width : ℕ) (picture : List M) (c : ℕ) → length picture % width ≤ c →
     last_in width picture c ≡ option_and_then (λ r. slice_get picture (r * width + c)) (before (length picture / width))
 unfolding last_in
-last-above width picture c h = rw (not-below c (length picture % width) h) refl
+last-above width picture c h = rw (le-ltb c (length picture % width) h) refl
 
 module _ {M B : Type 0} (side : ℕ) (part : ℕ → ℕ → M → Option B) (width : ℕ) (picture : List M) (current : M) (some : 0 < width) (whole : 0 < side) where
   -- its own parts
@@ -138,3 +139,15 @@ module _ {M B : Type 0} (side : ℕ) (part : ℕ → ℕ → M → Option B) (wi
   pub corner-of : around side part width picture current 0 0 ≡ option_and_then (part (side - 1) (side - 1)) (last_corner width picture)
   unfolding around last_corner
   corner-of = corner-by (length picture % width) (length picture / width) refl refl
+
+-- something that stands before place n is there only if n is above 0
+pub some-before : {A : Type 0} (n : ℕ) (f : ℕ → Option A) → IsTrue (is_some (option_and_then f (before n))) → 0 < n
+some-before zero f h = absurd (grind (arith, h))
+some-before (suc n) f h = omega arith
+
+pub left-there : {M : Type 0} (w : ℕ) (xs : List M) → IsTrue (is_some (last_left w xs)) → 0 < length xs % w
+unfolding last_left
+left-there w xs h = some-before (length xs % w) _ h
+
+pub above-there : {M : Type 0} (w : ℕ) (xs : List M) (c : ℕ) → length xs % w ≤ c → IsTrue (is_some (last_in w xs c)) → 0 < length xs / w
+above-there w xs c k h = some-before (length xs / w) (λ r. slice_get xs (r * w + c)) (rw (last-above w xs c k) at h)

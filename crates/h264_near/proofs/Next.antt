@@ -10,7 +10,8 @@ use Rattle.h264_near.specs.declared.near.Near.{Near}
 use Rattle.h264_near.specs.Coded.{CodedMacroblock}
 use Rattle.h264_near.specs.Keeps.{Keeps, IsEdge, Lower, Right}
 use Rattle.h264_near.specs.Raster.{before, last_in, last_left, last_corner}
-use Rattle.h264_near.proofs.Places.{front, seam, parts, quotient, remainder, not-below}
+use Rattle.h264_near.proofs.Places.{front, seam, parts, quotient, remainder}
+use Rattle.std.proofs.lemmas.Bool.{le-ltb}
 
 module _ (width : ℕ) (picture : List CodedMacroblock) (mb : CodedMacroblock) (some : 0 < width) where
   more : length (picture ++ mb ∷ []) ≡ length picture + 1
@@ -46,7 +47,7 @@ module _ (width : ℕ) (picture : List CodedMacroblock) (mb : CodedMacroblock) (
       last_in width (picture ++ mb ∷ []) (length picture % width) ≡ Some mb
   unfolding last_in
   last-same (inl h) = rw (next-column h, next-row h, lt-ltb (length picture % width) (length picture % width + 1) (omega arith)) (here _ refl)
-  last-same (inr h) = rw (first-column h, first-row h, not-below (length picture % width) 0 (omega arith))
+  last-same (inr h) = rw (first-column h, first-row h, le-ltb (length picture % width) 0 (omega arith))
       (rw (before-one (length picture / width)) (here _ refl))
     where
       before-one : (n : ℕ) → before (n + 1) ≡ Some n
@@ -72,7 +73,7 @@ module _ (width : ℕ) (picture : List CodedMacroblock) (mb : CodedMacroblock) (
   last-above : (c : ℕ) → length picture % width ≤ c →
       last_in width picture c ≡ option_and_then (λ r. slice_get picture (r * width + c)) (before (length picture / width))
   unfolding last_in
-  last-above c h = rw (not-below c (length picture % width) h) refl
+  last-above c h = rw (le-ltb c (length picture % width) h) refl
 
   last-other : (c : ℕ) → c < width → (c < length picture % width) ⊎ (length picture % width < c) → (length picture % width + 1 < width) ⊎
       (length picture % width + 1 ≡ width) → last_in width (picture ++ mb ∷ []) c ≡ last_in width picture c
@@ -80,11 +81,11 @@ module _ (width : ℕ) (picture : List CodedMacroblock) (mb : CodedMacroblock) (
   last-other c w (inl b) (inl h) = rw (next-column h, next-row h, lt-ltb c (length picture % width + 1) (omega arith)) (same-row c b ∙ sym (last-below c b))
   last-other c w (inl b) (inr h) =
       let e : before (length picture / width + 1) ≡ Some (length picture / width) = before-suc _ in
-      rw (first-column h, first-row h, not-below c 0 (omega arith), e) (same-row c b ∙ sym (last-below c b))
+      rw (first-column h, first-row h, le-ltb c 0 (omega arith), e) (same-row c b ∙ sym (last-below c b))
     where
       before-suc : (n : ℕ) → before (n + 1) ≡ Some n
       before-suc n = let e : n + 1 ≡ suc n = omega arith in rw e refl
-  last-other c w (inr b) (inl h) = rw (next-column h, next-row h, not-below c (length picture % width + 1) (omega arith))
+  last-other c w (inr b) (inl h) = rw (next-column h, next-row h, le-ltb c (length picture % width + 1) (omega arith))
       (earlier-row c (length picture / width) w refl ∙ sym (last-above c (omega arith)))
   last-other c w (inr b) (inr h) = absurd (omega arith)
 
@@ -171,7 +172,7 @@ starts width near some v c l o a =
     record {
       sized = v;
       column = c ∙ sym m;
-      above = λ c h. let e = not-below c 0 (omega arith) in rw (a c h, m, d, e) tt;
+      above = λ c h. let e = le-ltb c 0 (omega arith) in rw (a c h, m, d, e) tt;
       left = rw (l, m) tt;
       corner = rw (o, m) tt;
     }

@@ -27,9 +27,6 @@ length-taken [] (suc b) k = absurd (omega arith)
 length-taken (x ∷ xs) zero k = refl
 length-taken (x ∷ xs) (suc b) k = ap suc (length-taken xs b (omega arith))
 
-pub not-below : (a b : ℕ) → b ≤ a → nat_lt a b ≡ false
-not-below a b h = grind (arith, nat_tests)
-
 -- a number by its quotient and its rest
 pub parts : (m w : ℕ) → m ≡ m / w * w + m % w
 parts m w = let h = div-add-mod m w in omega arith
@@ -45,3 +42,11 @@ pub part-below : (c width side x : ℕ) → c < width → x < side → c * side 
 part-below c width side x h k =
     let l : suc c * side ≤ width * side = mul-le-mul_right side (let r : suc c ≤ width = omega arith in r) in
     omega arith
+
+-- the number of a block is below 16
+pub number-below : (x y : ℕ) → x < 4 → y < 4 → number_of x y < 16
+unfolding number_of
+number-below x y h k = omega arith
+
+pub number-at-place : (k : ℕ) → k < 16 → number_of (k % 4) (k / 4) < 16
+number-at-place k h = number-below (k % 4) (k / 4) (omega arith) (omega arith)

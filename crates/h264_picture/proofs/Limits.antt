@@ -3,14 +3,9 @@ use Rattle.std.proofs.Common.{◌≡◌, ℕ, ◌≤◌, Bool, true, false, ◌&
 use Rattle.std.specs.Prelude.{IfSome}
 use Rattle.std.specs.Option.{option_map}
 use Rattle.std.specs.List.{list_all}
-use Rattle.std.proofs.lemmas.Bool.{leb-true}
+use Rattle.std.proofs.lemmas.Bool.{leb-true, and_parts}
 use Rattle.h264_tables.specs.declared.level.Limits.{Limits}
 use Rattle.h264_tables.specs.Level.{LevelRow, level_rows, level_named, limits_of}
-
-both : (a b : Bool) → (a && b) ≡ true → (a ≡ true) × (b ≡ true)
-both true true e = (refl, refl)
-both true false e = absurd (cc)
-both false b e = absurd (cc)
 
 abbrev slow : LevelRow → Bool
 slow r = nat_le r.limits.max_vector 512
@@ -20,7 +15,7 @@ bounded : (p : LevelRow → Bool) (rows : List LevelRow) → list_all slow rows 
     IfSome (option_map (λ (r : LevelRow). r.limits) (find p rows)) (λ (l : Limits). l.max_vector ≤ 512)
 bounded p [] a = tt
 bounded p (r ∷ rows) a =
-    let b = both (slow r) (list_all slow rows) a in
+    let b = and_parts (slow r) (list_all slow rows) a in
     go (p r) refl b.0 (bounded p rows b.1)
   where
     go : (t : Bool) → p r ≡ t → slow r ≡ true → IfSome (option_map (λ (r : LevelRow). r.limits) (find p rows)) (λ (l : Limits). l.max_vector ≤ 512) →

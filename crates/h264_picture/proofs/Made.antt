@@ -25,10 +25,7 @@ use Rattle.h264_picture.specs.Holds.{ServesIn, HoldsIn}
 use Rattle.h264_picture.specs.Making.{Making, MakesSlice, HasSamples, HoldsMade, IsMadeOf, setting_of}
 use Rattle.h264_picture.specs.Sound.{IsPlace, ArePlaces}
 use Rattle.h264_picture.proofs.Held.{held-none, held-whole}
-use Rattle.h264_picture.proofs.Room.{own-frame, pool-frame}
-
-half : (n : ℕ) → (16 * n) / 2 ≡ 8 * n
-half n = omega arith
+use Rattle.h264_picture.proofs.Room.{own-frame, pool-frame, half}
 
 -- a frame of so many macroblocks in a row and in a column
 frame-of : (a d : ℕ) (f : Frame) → IsFrame f (16 * a) (16 * d) → IsOf a d f

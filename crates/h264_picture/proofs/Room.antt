@@ -63,7 +63,7 @@ pub record HasOwn (c r : ℕ) (f : Frame) : Type 0 where
   pub cb : (8 * c + 8 ≤ f.cb.width) × (8 * r + 8 ≤ f.cb.height)
   pub cr : (8 * c + 8 ≤ f.cr.width) × (8 * r + 8 ≤ f.cr.height)
 
-half : (n : ℕ) → (16 * n) / 2 ≡ 8 * n
+pub half : (n : ℕ) → (16 * n) / 2 ≡ 8 * n
 half n = omega arith
 
 pub has-own : (w h c r : ℕ) (f : Frame) → c < w → r < h → IsFrame f (16 * w) (16 * h) → HasOwn c r f

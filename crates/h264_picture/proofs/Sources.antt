@@ -15,7 +15,7 @@ use Rattle.h264_near.specs.declared.motion.Motion as derived
 use Rattle.h264_near.specs.Coded as coded
 use Rattle.h264_near.specs.Coded.{CodedMacroblock, number_of}
 use Rattle.h264_near.specs.Raster.{before, last_in, last_left}
-use Rattle.h264_near.proofs.Places.{taken, length-taken}
+use Rattle.h264_near.proofs.Places.{taken, length-taken, number-at-place}
 use Rattle.h264_scale.specs.Macroblock.{residual}
 use Rattle.h264_scale.specs.declared.levels.Levels.{Levels}
 use Rattle.h264_inter.proofs.Depends.{luma_depends, chroma_depends}
@@ -49,10 +49,6 @@ from-shared Y w h f g m n x y a b v same = luma_depends w h f g m.vector x y a b
 from-shared Cb w h f g m n x y a b v same = chroma_depends w h f g m.vector x y a b same ∙ ap (λ z. predicted_chroma w h g z x y) v
 from-shared Cr w h f g m n x y a b v same = chroma_depends w h f g m.vector x y a b same ∙ ap (λ z. predicted_chroma w h g z x y) v
 
-number-small : (k : ℕ) → k < 16 → number_of (k % 4) (k / 4) < 16
-unfolding number_of
-number-small k h = omega arith
-
 module _ (across down : ℕ) (s t : Sources) where
   abbrev setting : Sources → Setting
   setting z = record { across = across; down = down; reference = z.reference }
@@ -76,7 +72,7 @@ module _ (across down : ℕ) (s t : Sources) where
       let e = table-at 16 (λ k. motion_of s.place (get_or motions (number_of (k % 4) (k / 4)) None)) k no_motion small in
       let f = table-at 16 (λ k. motion_of t.place (get_or motions (number_of (k % 4) (k / 4)) None)) k no_motion small in
       rw (e, f) (motion-shared p c r (side p * c + x) (side p * r + y) (get_or motions (number_of (k % 4) (k / 4)) None) a b
-      (h (number_of (k % 4) (k / 4)) (number-small k small)))
+      (h (number_of (k % 4) (k / 4)) (number-at-place k small)))
 
   -- ---- construction
 

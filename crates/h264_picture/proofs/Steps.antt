@@ -171,8 +171,3 @@ one-left next size left h room = let some = some-left left h in omega arith
 
 pub run-left : (run left : ℕ) → IsTrue (nat_le run left) → run ≢ 0 → run - 1 < left
 run-left run left h some = let most : run ≤ left = grind (arith, nat_tests) in omega arith
-
--- what is so whatever the answer is
-pub on-ok : {X E P : Type 0} (r : Result X E) → P → OnOk r P
-on-ok (Ok x) p = p
-on-ok (Err e) p = tt

@@ -7,3 +7,4 @@ pub mod Own
 pub mod Rows
 pub mod Lanes
 pub mod Below
+pub mod Bounds

@@ -13,7 +13,7 @@ use Rattle.h264_recon.specs.Inter.{Setting, position_at}
 use Rattle.h264_recon.specs.Around.{SidesAgree, BlocksAgree}
 use Rattle.h264_recon.specs.Constructed.{Coded, window, made, IsMade, Constructed, IsPossible, IsAllowed}
 use Rattle.h264_recon.specs.declared.macroblock.Available.{Available}
-use Rattle.h264_recon.proofs.Unique.{made_by_same, IsMadeIn, side_most, sides_before}
+use Rattle.h264_recon.proofs.Unique.{made_by_same, IsMadeIn, side_most, sides_before, quotient}
 
 -- ---- a macroblock, of which the samples s stand around it
 
@@ -70,9 +70,6 @@ sides_stay a b k c r m p s = record {
   above_right = λ t q i. outer a k c r m p s (side p + q + 1) 0 (inr refl) ∙ sym (outer b k c r m p s (side p + q + 1) 0 (inr refl));
   corner = λ t. outer a k c r m p s 0 0 (inl refl) ∙ sym (outer b k c r m p s 0 0 (inl refl));
 }
-
-quotient : (x i : ℕ) → i < 4 → (4 * x + i) / 4 ≡ x
-quotient x i p = omega arith
 
 blocks_stay : (a b n : ℕ) (k : Setting) (c r : ℕ) (m : Coded) (p : Component) (s : ℕ → ℕ → ℕ) → n ≤ a → n ≤ b →
     BlocksAgree (side p) n (built a k c r m p s) (built b k c r m p s)

@@ -57,10 +57,6 @@ block_next q k few small = record { earlier = go }
     go a b p r less (inr (inr (inl o))) = omega arith
     go a b p r less (inr (inr (inr o))) = omega arith
 
-pub all_numbers : (a b : ℕ) → a < 4 → b < 4 → number_of a b < 16
-unfolding number_of
-all_numbers a b p q = omega arith
-
 -- ---- their motion
 
 moves_of : (partition : Partition) (places : List ℕ) (motions : List (Option derived.Motion)) (m : Motion) (n a0 b0 wa hb : ℕ) → m ≡

@@ -20,10 +20,7 @@ use Rattle.h264_recon.specs.Placed.{ArePlaced, IsOneOf}
 use Rattle.h264_recon.specs.Predicted.{unmoved, placed_motion, placed_at, placed_motions, parted_at, parted_motions}
 use Rattle.h264_recon.specs.declared.macroblock.Motion.{Motion}
 use Rattle.h264_recon.proofs.Tables.{table-ext, table-at, table-replicate}
-
-few : (k : ℕ) → k < 16 → number_of (k % 4) (k / 4) < 16
-unfolding number_of
-few k h = omega arith
+use Rattle.h264_near.proofs.Places.{number-at-place}
 
 -- ---- by partition
 
@@ -39,7 +36,7 @@ pub parted-are : (partition : Partition) (places : List ℕ) (motions : List (Op
 unfolding parted_motions placed_motions
 parted-are partition places motions moves =
     table-ext 16 (parted_at partition places motions) (placed_at places motions)
-    (λ k h. ap (placed_motion places) (sym (moves.each (number_of (k % 4) (k / 4)) (few k h))))
+    (λ k h. ap (placed_motion places) (sym (moves.each (number_of (k % 4) (k / 4)) (number-at-place k h))))
 
 -- one partition
 pub parted-one : (places : List ℕ) (motions : List (Option derived.Motion)) →
@@ -96,5 +93,5 @@ unfolding placed_motions motions_of
 motions-are slice places place c m list l a s p r e =
     e ∙ table-ext 16 _ _ (λ k h.
     let n = number_of (k % 4) (k / 4) in
-    let t : option_map (λ x. Some x) (get_or c.motions n None) ≡ Some (get_or c.motions n None) = rw p at (s.motions n (few k h)) in
+    let t : option_map (λ x. Some x) (get_or c.motions n None) ≡ Some (get_or c.motions n None) = rw p at (s.motions n (number-at-place k h)) in
     placed-is slice places place (get_or c.motions n None) l a (all-at (Refers slice) c.motions n None r tt) (there (get_or c.motions n None) t))

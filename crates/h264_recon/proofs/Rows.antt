@@ -9,12 +9,9 @@ use borrow.Rule.Slice.PartMut.{mid_of}
 use lib.Lanes.{Each1, pick_l, zip2, chunk}
 use lib.Signed.{non_neg}
 use mir.Val.{bits}
-use Rattle.h264_plane.specs.Clip.{clip1}
-use Rattle.h264_scale.specs.Residual.{IsIn}
+use Rattle.h264_plane.specs.Clip.{clip1, IsIn}
 use Rattle.h264_inter.proofs.SignedLanes.{Lane, natural_lane, signed_lane, sum_lane, sample_lane, clipped_of, handed}
-
-below_4 : (P : ℕ → Type 0) → P 0 → P 1 → P 2 → P 3 → (n : ℕ) → n < 4 → P n
-below_4 P a b c d = below_more P 3 (below_more P 2 (below_more P 1 (below_more P 0 (λ n i. absurd (let none : ⊥ = omega arith in none)) a) b) c) d
+use Rattle.h264_plane.proofs.Below.{below_4}
 
 pub second_beside : (a b : List ℕ) → length a ≡ 4 → (n : ℕ) → n < 4 →
     slice_index (pick_l 0 (a ++ b) (0 ∷ 1 ∷ 2 ∷ 3 ∷ 4 ∷ 5 ∷ 6 ∷ 7 ∷ [])) (4 + n) ≡ slice_index b n

@@ -25,10 +25,6 @@ use Rattle.h264_recon.proofs.Placed.{points-at, motions-are}
 use Rattle.h264_recon.proofs.Tables.{table-ext, table-replicate}
 use Rattle.h264_recon.proofs.Weighted.{weights-given, whole-is}
 
--- no sides lie in the picture
-pub none-within : (across c r : ℕ) → IsWithin no_sides across c r
-none-within across c r = record { left = λ t. absurd (cc); above = λ t. absurd (cc); above_right = λ t. absurd (cc); corner = λ t. absurd (cc) }
-
 -- its motion points into one of the places
 pub skip-points : (s : Skipped) (places : List ℕ) → PointsInto places (prediction_by s places)
 skip-points s places n h = rw (get_or-replicate 16 n (placed_motion places (Some s.motion)) no_motion h) (points-at places (Some s.motion))

@@ -58,7 +58,7 @@ made_by_same (Pcm bytes) k c r m p s t x y i j ok sides blocks = refl
 pub record IsMadeIn (k : Setting) (c r : ℕ) (m : Coded) (p : Component) (s : ℕ → ℕ → ℕ) : Type 0 where
   pub each : (x y : ℕ) → x < side p → y < side p → s (x + 1) (y + 1) ≡ made k (position_at c r) m p s x y
 
-quotient : (x i : ℕ) → i < 4 → (4 * x + i) / 4 ≡ x
+pub quotient : (x i : ℕ) → i < 4 → (4 * x + i) / 4 ≡ x
 quotient x i p = omega arith
 
 pub blocks_unique : (b : ℕ) (k : Setting) (c r : ℕ) (m : Coded) (p : Component) (s t : ℕ → ℕ → ℕ) → IsPossible m.prediction m.available →

@@ -22,17 +22,15 @@ use Rattle.h264_plane.specs.declared.frame.Component.TheVariants.{Y, Cb, Cr}
 use Rattle.h264_near.specs.Partition.{MovesByPartition}
 use Rattle.h264_near.specs.declared.partition.Partition.TheVariants.{P16x16}
 use Rattle.h264_recon.proofs.Tables.{table-ext, table-at, table-replicate}
-
-pub few : (k : ℕ) → k < 16 → number_of (k % 4) (k / 4) < 16
-unfolding number_of
-few k h = omega arith
+use Rattle.h264_recon.proofs.Pool.{motion_inside}
+use Rattle.h264_near.proofs.Places.{number-at-place}
 
 -- those of the blocks that were read are those of the coded macroblock
 pub weights-given : (c : Contexts) (m : CodedMacroblock) (weights : List (Option Weights)) → AreContexts c m →
     placed_weights weights c.motions ≡ weights_of weights m.prediction
 unfolding placed_weights weights_of
 weights-given c m weights s =
-    table-ext 16 _ _ (λ k h. ap (λ o. index_weights weights (option_and_then (λ x. x) o)) (sym (s.motions (number_of (k % 4) (k / 4)) (few k h))))
+    table-ext 16 _ _ (λ k h. ap (λ o. index_weights weights (option_and_then (λ x. x) o)) (sym (s.motions (number_of (k % 4) (k / 4)) (number-at-place k h))))
 
 -- the weights of a place
 pub placed-at : (weights : List (Option Weights)) (motions : List (Option Motion)) (k : ℕ) → k < 16 →
@@ -65,7 +63,7 @@ pub one-are : (weights : List (Option Weights)) (motions : List (Option Motion))
     (k : ℕ) → k < 16 → index_weights weights (get_or motions 0 None) ≡ get_or (placed_weights weights motions) k None
 one-are weights motions all k h =
     let n = number_of (k % 4) (k / 4) in
-    sym (placed-at weights motions k h ∙ same-index weights (get_or motions 0 None) (get_or motions n None) (all n (few k h)))
+    sym (placed-at weights motions k h ∙ same-index weights (get_or motions 0 None) (get_or motions n None) (all n (number-at-place k h)))
 
 pub alike : (weights : List (Option Weights)) (motions : List (Option Motion)) (o : Option Weights) →
     ((k : ℕ) → k < 16 → index_of (get_or motions k None) ≡ index_of (get_or motions 0 None)) →
@@ -90,7 +88,7 @@ whole-is weights false motions same = refl
 whole-is weights true motions same =
     let one = index_weights weights (get_or motions 0 None) in
     table-replicate 16 one ∙ table-ext 16 (λ k. one) (weights_placed_at weights motions)
-    (λ k h. ap (index_weights weights) (sym ((same refl).each (number_of (k % 4) (k / 4)) (few k h))))
+    (λ k h. ap (index_weights weights) (sym ((same refl).each (number_of (k % 4) (k / 4)) (number-at-place k h))))
 
 -- ---- a macroblock whose places have the weights of a list
 
@@ -139,16 +137,11 @@ none-of-blocks : (whole : Bool) (motions : List (Option Motion)) (k : ℕ) → k
 none-of-blocks true motions k h = get_or-replicate 16 k (index_weights (replicate 16 None) (get_or motions 0 None)) None h ∙ none-of (get_or motions 0 None)
 none-of-blocks false motions k h = none-placed motions k h
 
-place-inside : (p : Component) (x y : ℕ) → x < side p → y < side p → 4 * (4 * y / side p) + 4 * x / side p < 16
-place-inside Y x y i j = luma_place x y i j
-place-inside Cb x y i j = chroma_place x y i j
-place-inside Cr x y i j = chroma_place x y i j
-
 pub all-kept : (all : Option (List (Option Weights))) (whole : Bool) (motions : List (Option Motion)) (samples : Samples) → all ≡ None →
     AreAllWeighted (weights_of_blocks (unwrap_or all (replicate 16 None)) whole motions) samples samples
 all-kept all whole motions samples e p = rw e (record {
   each = λ x y i j. ap (λ z. weighted_if p z (slice_index (samples_of samples p) (side p * y + x)))
-      (sym (none-of-blocks whole motions (4 * (4 * y / side p) + 4 * x / side p) (place-inside p x y i j)));
+      (sym (none-of-blocks whole motions (4 * (4 * y / side p) + 4 * x / side p) (motion_inside p x y i j)));
 })
 
 pub all-by : (all : Option (List (Option Weights))) (weights : List (Option Weights)) (whole : Bool) (motions : List (Option Motion)) (old new : Samples) →

@@ -16,25 +16,14 @@ use Rattle.h264_intra.specs.declared.chroma.IntraChromaPredMode.{IntraChromaPred
 use Rattle.h264_intra.specs.declared.sides.Sides.{Sides}
 use Rattle.h264_recon.specs.declared.macroblock.Available.{Available}
 use Rattle.h264_near.specs.Raster.{before, last_in, last_left, last_corner}
-use Rattle.h264_near.proofs.Neighbours.{left-of, upper-of, corner-of, past-of, next-of, last-above}
+use Rattle.h264_near.proofs.Neighbours.{left-of, upper-of, corner-of, past-of, next-of, last-above, above-there, left-there, some-before}
 use Rattle.h264_near.proofs.Places.{quotient, remainder}
 use Rattle.h264_recon.specs.Constructed.{IsWithin}
 use Rattle.h264_recon.specs.Given.{available, no_sides, used_by}
 
-pub some-before : {A : Type 0} (n : ℕ) (f : ℕ → Option A) → IsTrue (is_some (option_and_then f (before n))) → 0 < n
-some-before zero f h = absurd (grind (arith, h))
-some-before (suc n) f h = omega arith
-
 pub some-of : {A B : Type 0} (f : A → Option B) (o : Option A) → IsTrue (is_some (option_and_then f o)) → IsTrue (is_some o)
 some-of f None h = h
 some-of f (Some x) h = refl
-
-pub left-there : {M : Type 0} (w : ℕ) (xs : List M) → IsTrue (is_some (last_left w xs)) → 0 < length xs % w
-unfolding last_left
-left-there w xs h = some-before (length xs % w) _ h
-
-pub above-there : {M : Type 0} (w : ℕ) (xs : List M) (c : ℕ) → length xs % w ≤ c → IsTrue (is_some (last_in w xs c)) → 0 < length xs / w
-above-there w xs c k h = some-before (length xs / w) (λ r. slice_get xs (r * w + c)) (rw (last-above w xs c k) at h)
 
 corner-there : {M : Type 0} (w : ℕ) (xs : List M) → IsTrue (is_some (last_corner w xs)) → (0 < length xs % w) × (0 < length xs / w)
 unfolding last_corner

@@ -1,6 +1,6 @@
 ghost use Rattle.std.specs.Prelude.{◌≡◌, ◌⊎◌, ℕ, ◌+◌, ◌*◌, ◌<◌, ◌≤◌, slice_index, get_or, length, pos, ◌+ℤ◌};
-ghost use Rattle.h264_plane.specs.Clip.{clip1 as clip1_of};
-ghost use Rattle.h264_scale.specs.Residual.{IsIn, AreIn};
+ghost use Rattle.h264_plane.specs.Clip.{clip1 as clip1_of, IsIn};
+ghost use Rattle.h264_scale.specs.Residual.{AreIn};
 ghost use Rattle.h264_recon.specs.Residuals.{IsBlockAdded};
 
 use crate::run::put_run;

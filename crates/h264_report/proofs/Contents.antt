@@ -19,6 +19,7 @@ use Rattle.h264_report.specs.declared.strict.Places.{Places}
 use Rattle.h264_report.specs.declared.strict_rule.StrictRule.{StrictRule}
 use Rattle.h264_report.specs.declared.strict_rule.StrictRule.TheVariants as rules
 use Rattle.h264_report.proofs.Broken.{with-more}
+use Rattle.h264_base.proofs.Plain.{first-false}
 
 module _ (rule : StrictRule) (known : KnownSet) (n m : ℕ) (body : Body) (at : ℕ) (up : n ≡ suc m) where
   split : message_bits rule known n body at ≡ bits_from rule (message_at known body.bytes at) (place body (8 * at)) (message_bits rule known m body)
@@ -61,13 +62,9 @@ none-of false false true d x y z none h = absurd (false≢true (sym h))
 none-of false false false true x y z none h = absurd (false≢true (sym h))
 none-of false false false false x y z none h = refl
 
-first-not : (a b : Bool) → (a || b) ≡ false → a ≡ false
-first-not true b h = absurd (false≢true (sym h))
-first-not false b h = refl
-
 second-not : (a b c : Bool) → (a || (b || c)) ≡ false → b ≡ false
 second-not true b c h = absurd (false≢true (sym h))
-second-not false b c h = first-not b c h
+second-not false b c h = first-false b c h
 
 -- a unit whose bytes are not looked at
 pub unjudged : (rule : StrictRule) (known : KnownSet) (unit : NalUnit) (kind : ℕ) → kind ≡ kind_of unit → is_judged kind ≡ false →
@@ -81,7 +78,7 @@ unjudged rule known unit kind is off =
     (broken_if (not (is_delimiter bytes)) rules.DelimiterBits)
     (broken_if (not (is_filler bytes)) rules.FillerBytes) None here in
     ap₂ (λ r l. bits_for rule (8 * unit.from) (listed r) ++ l) no
-    (content-not rule known k (body_of unit) (ap (λ t. t && is_sei (body_of unit).bytes) (first-not (k == 6) ((k == 7) || ((k == 9) || (k == 12))) here)))
+    (content-not rule known k (body_of unit) (ap (λ t. t && is_sei (body_of unit).bytes) (first-false (k == 6) ((k == 7) || ((k == 9) || (k == 12))) here)))
 
 pub unjudged-set : (known : KnownSet) (unit : NalUnit) (kind : ℕ) → kind ≡ kind_of unit → is_judged kind ≡ false → known ≡ set_after known unit
 unjudged-set known unit kind is off =
@@ -94,7 +91,7 @@ unjudged-times known unit kind is off =
     let here = subst (λ k. is_judged k ≡ false) is off in
     let k = kind_of unit in
     let bytes = (body_of unit).bytes in
-    sym (cond-false ((k == 6) && is_sei bytes) _ _ (ap (λ t. t && is_sei bytes) (first-not (k == 6) ((k == 7) || ((k == 9) || (k == 12))) here)))
+    sym (cond-false ((k == 6) && is_sei bytes) _ _ (ap (λ t. t && is_sei bytes) (first-false (k == 6) ((k == 7) || ((k == 9) || (k == 12))) here)))
 
 -- what a unit breaks, and then its messages
 pub bytes-noted : (rule : StrictRule) (known : KnownSet) (unit : NalUnit) (old mid new : Option Places) (bit kind : ℕ) (broken : Option StrictRule)

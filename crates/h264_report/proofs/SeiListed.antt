@@ -9,6 +9,7 @@ use Rattle.std.proofs.lemmas.List.{take-append-drop, length-append, length-take-
 use Rattle.h264_report.specs.SeiMessages.{is_trailing, ff_bytes, payload_value, payload_start, message_of, message_length, are_messages, is_sei}
 use Rattle.h264_report.specs.Sei.{coded, SeiMessage, message_before, IsMessage, AreMessages, IsSei}
 use Rattle.h264_report.proofs.SeiReading.{sei-some, sei-none, sei-out}
+use Rattle.h264_base.proofs.Plain.{some-same}
 
 -- ---- a value in bytes FF and one more
 
@@ -115,9 +116,6 @@ some-if : (b : Bool) (o : Option ℕ) (y : ℕ) → (if b then o else None) ≡ 
 some-if true o y e = (refl, e)
 some-if false o y e = cc
 
-some-is : (x y : ℕ) → Some x ≡ Some y → x ≡ y
-some-is x y e = cc
-
 message-found : (bytes : List ℕ) (whole : ℕ) → message_length bytes ≡ Some whole → (m : SeiMessage) × IsMessage m ×
     (bytes ≡ message_before m (drop whole bytes))
 unfolding message_length
@@ -148,7 +146,7 @@ message-found bytes whole e =
     let is : IsMessage m = record { type_ends = p.1; size_ends = q.1; sized = length-take-le (255 * f + q.0) q.2 enough } in
     let bytes-is : bytes ≡ message_before m rest =
     p.3 ∙ ap (λ l. coded k p.0 l) (sym sized-is ∙ q.3) ∙ ap (λ l. coded k p.0 (coded f q.0 l)) (sym (take-append-drop (255 * f + q.0) q.2)) in
-    let whole-is : whole ≡ size_of m = sym (some-is (k + 1 + (f + 1) + payload_value sized) whole two.1) ∙ ap (λ v. k + 1 + (f + 1) + v) value in
+    let whole-is : whole ≡ size_of m = sym (some-same (k + 1 + (f + 1) + payload_value sized) whole two.1) ∙ ap (λ v. k + 1 + (f + 1) + v) value in
     let rest-is : drop whole bytes ≡ rest = ap₂ (λ n l. drop n l) whole-is bytes-is ∙ drop-message m rest is in
     (m, is, bytes-is ∙ ap (λ l. message_before m l) (sym rest-is))
 
@@ -162,7 +160,7 @@ message-inside bytes whole e =
     let one = some-if (nat_lt k (length bytes)) (message_of k sized bytes) whole e in
     let two = some-if (nat_lt f (length sized) && nat_le (k + 1 + (f + 1) + payload_value sized) (length bytes))
     (Some (k + 1 + (f + 1) + payload_value sized)) whole one.1 in
-    let is = some-is (k + 1 + (f + 1) + payload_value sized) whole two.1 in
+    let is = some-same (k + 1 + (f + 1) + payload_value sized) whole two.1 in
     let enough : k + 1 + (f + 1) ≤ whole = omega arith in
     (ltb-true k (length bytes) one.0, enough)
 

@@ -157,12 +157,6 @@ took-nothing s noted same began none = record {
 pub parts-of : (n : ℕ) (bytes : List ℕ) → bytes ≡ take n bytes ++ drop n bytes
 parts-of n bytes = sym (take-append-drop n bytes)
 
-pub empty-of : (bytes : List ℕ) → (length bytes == 0) ≡ true → bytes ≡ []
-empty-of [] h = refl
-empty-of (b ∷ bytes) h = absurd (suc-not (length bytes) (eqb-true (length (b ∷ bytes)) 0 h)) where
-  suc-not : (n : ℕ) → suc n ≡ 0 → ⊥
-  suc-not n e = omega arith
-
 -- what is refused stays so with more bytes
 refused-more : (at : ℕ) (left rest bytes : List ℕ) → AreRefused at (left ++ rest) → AreRefused at (left ++ (rest ++ bytes))
 refused-more at left rest bytes r = (

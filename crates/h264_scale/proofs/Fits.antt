@@ -1,9 +1,10 @@
 use Rattle.std.proofs.Common.{◌≡◌, ℤ, arith, Bool, true, ◌&&◌}
 use Rattle.std.proofs.lemmas.Int.{ints}
-use Rattle.h264_scale.specs.Residual.{IsIn, fits16, fits_last}
+use Rattle.h264_scale.specs.Residual.{fits16, fits_last}
 use Rattle.h264_scale.specs.Fours.{IsWithin, AreWithin, IsShort, IsShortFour, IsShortBlock, four_fits, block_fits, four_fits_last, block_fits_last, transposed}
 use Rattle.h264_scale.specs.declared.fours.Four.{Four}
 use Rattle.h264_scale.specs.declared.fours.Block.{Block}
+use Rattle.h264_plane.specs.Clip.{IsIn}
 
 fits16_in : (z : ℤ) → fits16 z ≡ true → IsShort z
 unfolding fits16

@@ -1,8 +1,9 @@
 use Rattle.std.proofs.Common.{◌≡◌, List, [], ◌∷◌, length, get_or, pos, ℕ, ℤ, zero, suc, ◌<◌, refl, arith, to_z, of_z}
 use Rattle.std.proofs.lemmas.Int.{ints}
 use Rattle.std.specs.Int.{w16, w32}
-use Rattle.h264_scale.specs.Residual.{IsIn, AreIn}
+use Rattle.h264_scale.specs.Residual.{AreIn}
 use Rattle.h264_scale.specs.Fours.{IsShort, rounded}
+use Rattle.h264_plane.specs.Clip.{IsIn}
 
 -- a last value in range, passed on and rounded
 pub rounded_is : {r h : ℤ} → IsIn 512 r → IsShort h → r ≡ rounded (to_z w32 (of_z w32 h)) → to_z w16 (of_z w16 r) ≡ rounded h

@@ -2,14 +2,16 @@
 use Rattle.std.proofs.Common.{◌≡◌, ℤ, ℕ, unsigned_abs, negsuc, ◌-ℤ◌, ◌+◌, ◌≤◌, refl, sym, ap, ◌∙◌, arith, pos, ◌+ℤ◌, replicate, Bool, true, false, ◌&&◌}
 use Rattle.std.proofs.lemmas.Int.{ints}
 use Rattle.std.specs.Int.{int_shr}
-use Rattle.h264_scale.specs.Residual.{IsIn, fits_last}
+use Rattle.h264_scale.specs.Residual.{fits_last}
 use Rattle.h264_scale.specs.Fours.{IsWithin, AreWithin, four_size, size, IsSmall, IsShort, IsShortFour, IsShortBlock, block_fits, four_fits_last}
 use Rattle.h264_scale.specs.Fours.{block_fits_last, half, halves, joined, transposed, block_e, block_f, block_residual_fits, block_residual, rounded}
 use Rattle.h264_scale.specs.Fours.{rounded_block, dc_only, four}
 use Rattle.h264_scale.specs.declared.fours.Four.{Four}
 use Rattle.h264_scale.specs.declared.fours.Block.{Block}
 use Rattle.h264_scale.proofs.Fits.{fits_last_in, four_true, short_block_fits, transposed_in}
-use Rattle.h264_scale.proofs.Within.{in_sum, in_difference, in_half, in_more, rows, within_more, within_half, within_plus, within_minus}
+use Rattle.h264_scale.proofs.Within.{in_difference, in_half, rows, within_more, within_half, within_plus, within_minus}
+use Rattle.h264_plane.specs.Clip.{IsIn}
+use Rattle.h264_plane.proofs.Bounds.{in_more, in_sum}
 
 -- ---- bounds
 

@@ -8,17 +8,19 @@ use Rattle.std.proofs.Math.Pow.{pow_mono}
 use Rattle.std.specs.Int.{int_wrapping_add, int_wrapping_sub, int_wrapping_mul}
 use lib.Signed.{shr_z}
 use borrow.Author.Differences.{up, down}
-use Rattle.h264_scale.specs.Residual.{IsIn, AreIn, norm_adjust, v0, v1, v2}
+use Rattle.h264_scale.specs.Residual.{AreIn, norm_adjust, v0, v1, v2}
 use Rattle.h264_scale.specs.Fours.{size, IsShort, IsShortFour, IsShortBlock, IsWithin, AreWithin, block_of, half, rounded, rounded_row, rounded_block}
 use Rattle.h264_scale.specs.Fours.{factor_at}
 use Rattle.h264_scale.specs.Lanes.{lanes, by_place, size_below, with_first, AreWide}
-use Rattle.h264_scale.proofs.Within.{half_low, half_high, in_more}
+use Rattle.h264_scale.proofs.Within.{half_low, half_high}
 use Rattle.h264_scale.specs.declared.fours.Four.{Four}
 use Rattle.h264_scale.specs.declared.fours.Block.{Block}
 use Rattle.h264_scale.proofs.Rounded.{cons_is, all_cons, all_none}
 use Rattle.h264_plane.proofs.Below.{below_4}
 use Rattle.h264_scale.proofs.Small.{in_own}
 use Rattle.std.proofs.lemmas.Bool.{cases_lt}
+use Rattle.h264_plane.specs.Clip.{IsIn}
+use Rattle.h264_plane.proofs.Bounds.{in_more}
 
 fits_of : (z : ℤ) → IsShort z → FitsSigned w16 z
 fits_of (pos n) h = record { sfits = omega (arith, ints, h.high) }

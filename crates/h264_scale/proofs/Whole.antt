@@ -1,7 +1,7 @@
 -- The residual of a macroblock, block by block, and its range.
 use Rattle.std.proofs.Common.{◌≡◌, ⊎_elim, ℕ, zero, suc, ◌+◌, ◌*◌, ◌/◌, ◌%◌, ◌<◌, ◌≤◌, Bool, true, false, ◌&&◌, List, [], get_or, replicate, IsTrue, ℤ, pos}
 use Rattle.std.proofs.Common.{arith, refl, sym, ap, ◌∙◌, add-one}
-use Rattle.std.proofs.lemmas.Bool.{cases_lt, false≢true, false_from_ne_true}
+use Rattle.std.proofs.lemmas.Bool.{cases_lt, false≢true, false_from_ne_true, and_from}
 use Rattle.h264_plane.specs.declared.frame.Component.TheVariants.{Y, Cb, Cr}
 use Rattle.h264_plane.specs.Places.{index_of, column_of, row_of}
 use Rattle.h264_scale.specs.Residual.{residual_at, residual_fits, d_of, d_with_dc, HasEntries}
@@ -50,9 +50,6 @@ pub all_none : (p : ℕ → Bool) → all_below 0 p ≡ true
 unfolding all_below
 all_none p = refl
 
-pub and_true : (a b : Bool) → a ≡ true → b ≡ true → (a && b) ≡ true
-and_true a b p q = grind arith
-
 pub and_first : (a b : Bool) → a ≡ false → (a && b) ≡ false
 and_first a b p = grind arith
 
@@ -61,7 +58,7 @@ and_second a b p = grind arith
 
 pub all_more : (n : ℕ) (p : ℕ → Bool) → all_below n p ≡ true → p n ≡ true → all_below (n + 1) p ≡ true
 unfolding all_below
-all_more n p h g = rw (add-one n) (and_true (all_below n p) (p n) h g)
+all_more n p h g = rw (add-one n) (and_from (all_below n p) (p n) h g)
 
 pub all_stop : (n k : ℕ) (p : ℕ → Bool) → k < n → p k ≡ false → all_below n p ≡ false
 unfolding all_below
@@ -85,7 +82,7 @@ always b e = (λ _. e, λ _. refl)
 pub luma_whole : (qp : ℕ) (l : LumaLevels) → luma_dc_fits qp l ≡ true → all_below 16 (λ b. residual_fits (luma_d qp l (column_of b) (row_of b))) ≡ true →
     luma_fits qp l ≡ true
 unfolding luma_fits luma_blocks_fit
-luma_whole qp l p q = and_true _ _ p q
+luma_whole qp l p q = and_from _ _ p q
 
 pub luma_dc_unfit : (qp : ℕ) (l : LumaLevels) → luma_dc_fits qp l ≡ false → luma_fits qp l ≡ false
 unfolding luma_fits
@@ -98,7 +95,7 @@ luma_unfit qp l b i p = and_second (luma_dc_fits qp l) _ (all_stop 16 b (λ k. r
 pub chroma_whole : (qp : ℕ) (l : ChromaLevels) → chroma_dc_fits qp l ≡ true → all_below 4 (λ b. residual_fits (chroma_d qp l (b % 2) (b / 2))) ≡ true →
     chroma_fits qp l ≡ true
 unfolding chroma_fits chroma_blocks_fit
-chroma_whole qp l p q = and_true _ _ p q
+chroma_whole qp l p q = and_from _ _ p q
 
 pub chroma_dc_unfit : (qp : ℕ) (l : ChromaLevels) → chroma_dc_fits qp l ≡ false → chroma_fits qp l ≡ false
 unfolding chroma_fits
@@ -111,7 +108,7 @@ chroma_unfit qp l b i p = and_second (chroma_dc_fits qp l) _ (all_stop 4 b (λ k
 -- and of all planes
 pub levels_whole : (l : Levels) → luma_fits l.qp l.luma ≡ true → chroma_fits l.qp_cb l.cb ≡ true → chroma_fits l.qp_cr l.cr ≡ true → levels_fit l ≡ true
 unfolding levels_fit
-levels_whole l p q r = and_true _ _ (and_true _ _ p q) r
+levels_whole l p q r = and_from _ _ (and_from _ _ p q) r
 
 pub levels_luma : (l : Levels) → luma_fits l.qp l.luma ≡ false → levels_fit l ≡ false
 unfolding levels_fit
@@ -156,12 +153,12 @@ no_dc_residual qp = nothing_at (d_with_dc (pos 0) (replicate 15 (pos 0)) qp) (no
 pub all_to : (n : ℕ) (p : ℕ → Bool) → ((k : ℕ) → k < n → p k ≡ true) → all_below n p ≡ true
 unfolding all_below
 all_to zero p h = refl
-all_to (suc n) p h = and_true (all_below n p) (p n) (all_to n p (λ k i. h k (omega (arith, i)))) (h n (omega arith))
+all_to (suc n) p h = and_from (all_below n p) (p n) (all_to n p (λ k i. h k (omega (arith, i)))) (h n (omega arith))
 
 all_of : (n : ℕ) (p : ℕ → Bool) → ((k : ℕ) → p k ≡ true) → all_below n p ≡ true
 unfolding all_below
 all_of zero p h = refl
-all_of (suc n) p h = and_true (all_below n p) (p n) (all_of n p h) (h n)
+all_of (suc n) p h = and_from (all_below n p) (p n) (all_of n p h) (h n)
 
 pub not_coded_luma_fits : (qp : ℕ) → luma_fits qp luma.NotCoded ≡ true
 unfolding luma_d luma_dc_fits

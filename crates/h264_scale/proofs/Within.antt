@@ -2,10 +2,11 @@ use Rattle.std.proofs.Common.{◌≡◌, ◌+◌, ℤ, ℕ, ◌≤◌, refl, ari
 use Rattle.std.proofs.lemmas.Int.{ints}
 use lib.Signed.{shr_z}
 use borrow.Author.Differences.{up, down}
-use Rattle.h264_scale.specs.Residual.{IsIn}
 use Rattle.h264_scale.specs.Fours.{IsWithin, AreWithin, plus, minus, half, four, summed, transposed}
 use Rattle.h264_scale.specs.declared.fours.Four.{Four}
 use Rattle.h264_scale.specs.declared.fours.Block.{Block}
+use Rattle.h264_plane.specs.Clip.{IsIn}
+use Rattle.h264_plane.proofs.Bounds.{in_more, in_sum}
 
 -- half of z, rounded down, for omega
 pub half_low : (z : ℤ) → up (shr_z z 2) + up (shr_z z 2) + down z ≤ up z + down (shr_z z 2) + down (shr_z z 2)
@@ -16,17 +17,11 @@ pub half_high : (z : ℤ) → up z + down (shr_z z 2) + down (shr_z z 2) ≤ up 
 half_high (pos n) = omega arith
 half_high (negsuc n) = omega arith
 
-pub in_sum : (m n : ℕ) (x y : ℤ) → IsIn m x → IsIn n y → IsIn (m + n) (x +ℤ y)
-in_sum m n x y p q = record { low = omega (arith, ints); high = omega (arith, ints) }
-
 pub in_difference : (m n : ℕ) (x y : ℤ) → IsIn m x → IsIn n y → IsIn (m + n) (x -ℤ y)
 in_difference m n x y p q = record { low = omega (arith, ints); high = omega (arith, ints) }
 
 pub in_half : (n : ℕ) (x : ℤ) → IsIn n x → IsIn n (shr_z x 2)
 in_half n x p = record { low = omega (arith, ints, half_low, half_high); high = omega (arith, ints, half_low, half_high) }
-
-pub in_more : (m n : ℕ) (x : ℤ) → m ≤ n → IsIn m x → IsIn n x
-in_more m n x p q = record { low = omega (arith, ints); high = omega (arith, ints) }
 
 pub within_more : (m n : ℕ) (v : Four) → m ≤ n → IsWithin m v → IsWithin n v
 within_more m n v p h = record { a = in_more m n v.a p h.a; b = in_more m n v.b p h.b; c = in_more m n v.c p h.c; d = in_more m n v.d p h.d }

@@ -1,9 +1,10 @@
 -- Matrices as the code keeps them: four rows of four numbers. A working form.
 use Rattle.std.specs.Prelude.{Bool, ◌&&◌, ℕ, ◌≤◌, ◌+◌, ◌*◌, ◌/◌, ◌%◌, ◌^◌, List, [], ◌∷◌, ℤ, pos, negsuc, ◌+ℤ◌, ◌-ℤ◌, ◌*ℤ◌, ◌≤ℤ◌, unsigned_abs}
 use Rattle.std.specs.Int.{int_shr}
-use Rattle.h264_scale.specs.Residual.{IsIn, fits16, fits_last, norm_adjust}
+use Rattle.h264_scale.specs.Residual.{fits16, fits_last, norm_adjust}
 use Rattle.h264_scale.specs.declared.fours.Four.{Four}
 use Rattle.h264_scale.specs.declared.fours.Block.{Block}
+use Rattle.h264_plane.specs.Clip.{IsIn}
 
 abbrev pub four : ℤ → ℤ → ℤ → ℤ → Four
 four a b c d = record { a = a; b = b; c = c; d = d }

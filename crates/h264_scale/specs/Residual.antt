@@ -4,11 +4,7 @@ use Rattle.std.specs.Prelude.{◌≡◌, ℕ, ◌<◌, ◌+◌, ◌-◌, ◌*◌
 use Rattle.std.specs.Prelude.{ℤ, pos, negsuc, neg_ℤ, ◌≤ℤ◌, ◌+ℤ◌, ◌-ℤ◌, ◌*ℤ◌, int_le}
 use Rattle.std.specs.Int.{int_shr}
 use Rattle.std.specs.List.{position_or_len}
-
--- a number lies in -n .. n
-pub record IsIn (n : ℕ) (z : ℤ) : Type 0 where
-  pub low : neg_ℤ (pos n) ≤ℤ z
-  pub high : z ≤ℤ pos n
+use Rattle.h264_plane.specs.Clip.{IsIn}
 
 -- each number of a list does
 pub record AreIn (n : ℕ) (list : List ℤ) : Type 0 where

@@ -1,11 +1,12 @@
 ghost use Rattle.std.specs.Prelude.{◌≡◌, [], ◌∷◌, ◌*ℤ◌, ◌+◌, ◌<◌, ◌≤◌, ◌↔◌, ℕ, ℤ, pos, get_or, length, IsTrue, IfSome, IsSome, true};
-ghost use Rattle.h264_scale.specs.Residual.{IsIn, AreIn, coefficient};
+ghost use Rattle.h264_scale.specs.Residual.{AreIn, coefficient};
 ghost use Rattle.h264_scale.specs.Fours.{IsShort, IsShortFour, IsShortBlock, IsSmall, AreWithin, plus as plus_of, minus as minus_of, half as half_of};
 ghost use Rattle.h264_scale.specs.Fours.{halves as halves_of, joined as joined_of, transposed as transposed_of, block_of, with_dc, factor_at};
 ghost use Rattle.h264_scale.specs.Fours.{rounded_block, scaled_block, block_residual_fits, block_residual};
 ghost use Rattle.h264_scale.specs.Lanes.{lanes, AreRows, AreWide, by_place, size_below, with_first as with_first_of};
 ghost use Rattle.h264_scale.specs.declared.fours.Four.{Four};
 ghost use Rattle.h264_scale.specs.declared.fours.Block.{Block};
+ghost use Rattle.h264_plane.specs.Clip.{IsIn};
 
 use crate::residual::{V0, V1, V2, factor};
 use std::simd::prelude::*;

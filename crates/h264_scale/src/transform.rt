@@ -1,6 +1,7 @@
 ghost use Rattle.std.specs.Prelude.{◌≡◌, codes, Some, false, true, MatchResult, IfOk};
-ghost use Rattle.h264_scale.specs.Residual.{IsIn, AreIn};
+ghost use Rattle.h264_scale.specs.Residual.{AreIn};
 ghost use Rattle.h264_scale.specs.Fours.{IsShort, IsShortBlock, rounded, rounded_block, dc_only, block_residual_fits, block_residual};
+ghost use Rattle.h264_plane.specs.Clip.{IsIn};
 
 use crate::fours::{Block, fits_last};
 use std::error::Error;

@@ -4,7 +4,7 @@ use Rattle.std.proofs.Common.{sym, subst, arith}
 use Rattle.std.specs.Prelude.{nat_lt, unwrap_or, IfSome, IfOk}
 use Rattle.std.specs.Option.{is_some, option_map, option_map_or, option_and_then}
 use Rattle.std.proofs.lemmas.Nat.{mul-le}
-use Rattle.std.proofs.lemmas.Bool.{le-leb, leb-true, lt-ltb}
+use Rattle.std.proofs.lemmas.Bool.{le-leb, leb-true, lt-ltb, and_from}
 use Rattle.std.proofs.lemmas.Bool.Decides.{nat_tests}
 use Rattle.h264_base.specs.declared.mode.Target.{Target}
 use Rattle.h264_base.specs.Grammar.{Grammar, ◌>>=◌, read_word, check, support}
@@ -29,6 +29,7 @@ use Rattle.h264_sps.specs.declared.count_type.CountType.{CountType}
 use Rattle.h264_sps.specs.Counting.{counting, of_type, lsb_type, cycle_type}
 use Rattle.h264_sps.specs.Sps.{LevelNamed, ProfileAndLevel, no_limits, max_dpb_frames, level, profile_and_level, fits, frame_size, frame_cropping, sps}
 use Rattle.h264_sps.proofs.Gives.{Gives, gives-following, gives-to, gives-met, gives-weaker, gives-derived}
+use Rattle.h264_base.proofs.Plain.{some-same}
 
 record HasRanges (s : Sps) : Type 0 where
   pub lengths : has_lengths s ≡ true
@@ -50,9 +51,6 @@ of-kind (suc (suc n)) = refl
 counts : Gives counting HasCount
 unfolding counting
 counts = gives-following _ _ _ of-kind
-
-both : (a b : Bool) → a ≡ true → b ≡ true → (a && b) ≡ true
-both a b e f = rw (e, f) refl
 
 -- the limits are those of the level
 record HasLevel (set3 : Bool) (n : LevelNamed) : Type 0 where
@@ -110,7 +108,7 @@ HasCrop size o = crops_within size o ≡ true
 
 crop-gives : (size : Size) → Gives (frame_cropping size) (λ c. is_within size c ≡ true)
 unfolding frame_cropping read_word check ◌>>=◌
-crop-gives size = λ l r a t b c. both _ _ (below _ _ a) (below _ _ c)
+crop-gives size = λ l r a t b c. and_from _ _ (below _ _ a) (below _ _ c)
   where
     below : (n m : ℕ) → nat_lt (2 * n) (16 * m) ≡ true → nat_lt n (8 * m) ≡ true
     below n m h = grind (arith, nat_tests)
@@ -146,12 +144,9 @@ restriction-gives refs max = gives-following _ _ _
     (λ down. gives-following _ _ _ (λ reorder. gives-following _ _ _
     (λ e. check-gives _ _ _ _ _ (λ _. check-gives _ _ _ _ _ (λ b. check-gives _ _ _ _ _ (λ c. (leb-true _ _ b, leb-true _ _ c)))))))))))
 
-same-some : (a b : ℕ) → Some a ≡ Some b → a ≡ b
-same-some a b e = cc
-
 restricted : (refs max : ℕ) (r : BitstreamRestriction) → FitsIn refs max r.max_dec_frame_buffering →
     (frames : ℕ) → Some r.max_dec_frame_buffering ≡ Some frames → FitsIn refs max frames
-restricted refs max r h frames e = subst (λ n. FitsIn refs max n) (same-some _ _ e) h
+restricted refs max r h frames e = subst (λ n. FitsIn refs max n) (some-same _ _ e) h
 
 none-given : (refs max frames : ℕ) → (let o : Option ℕ = None in o ≡ Some frames) → FitsIn refs max frames
 none-given refs max frames e = cc
@@ -183,10 +178,10 @@ buffers-by (Some n) frames h = le-leb n frames (h n refl)
 
 frame-of : (limits : Limits) (refs : ℕ) (size : Size) → limits.max_fs ≤ 36864 → HasSize limits refs size → is_frame_size size ≡ true
 frame-of limits refs size small h =
-    both _ _ (lt-ltb 0 size.width h.wide)
-    (both _ _ (lt-ltb 0 size.height h.high)
-    (both _ _ (le-leb (size.width * size.height) 36864 (let m = h.macroblocks in omega (arith, m, small)))
-    (both _ _ (le-leb size.width 543 (side size.width limits.max_fs h.across small)) (le-leb size.height 543 (side size.height limits.max_fs h.down small)))))
+    and_from _ _ (lt-ltb 0 size.width h.wide)
+    (and_from _ _ (lt-ltb 0 size.height h.high)
+    (and_from _ _ (le-leb (size.width * size.height) 36864 (let m = h.macroblocks in omega (arith, m, small)))
+    (and_from _ _ (le-leb size.width 543 (side size.width limits.max_fs h.across small)) (le-leb size.height 543 (side size.height limits.max_fs h.down small)))))
 
 sps-gives : (target : Target) → Gives (sps target) HasRanges
 unfolding sps is_usable
@@ -206,8 +201,8 @@ sps-gives target = gives-met (profile_and_level target) _ HasFront _ (front-give
     gives-following _ _ _ (λ _.
     let most = λ (o : Option Limits). option_map_or (λ (l : Limits). max_dpb_frames l size) o 0 in
     record {
-      lengths = both _ _ (few log2 short) e;
-      usable = both _ _ (frame-of front.named.limits refs size level.small fits) (both _ _ within (both _ _
+      lengths = and_from _ _ (few log2 short) e;
+      usable = and_from _ _ (frame-of front.named.limits refs size level.small fits) (and_from _ _ within (and_from _ _
           (holds-by refs _ _ (λ n g. (buffering n g).0) (subst (λ o. refs ≤ most o) (sym level.is) fits.references))
           (buffers-by _ _ (λ n g. subst (λ o. n ≤ most o) (sym level.is) (buffering n g).1))));
     }))))))))))))
@@ -215,7 +210,7 @@ sps-gives target = gives-met (profile_and_level target) _ HasFront _ (front-give
 -- a set that some unit gives is accepted
 pub gives-accepted : (target : Target) → Gives (sps target) (λ s. is_accepted s ≡ true)
 gives-accepted target = gives-weaker (sps target) HasRanges (λ s. is_accepted s ≡ true) (sps-gives target)
-    (λ s h. both (has_lengths s) (is_usable s) h.lengths h.usable)
+    (λ s h. and_from (has_lengths s) (is_usable s) h.lengths h.usable)
 
 -- so is one that was read
 pub read-accepted : {S : Type 0} {took : S → List Call → Type 0} {failures : S → ℕ} {old new : Reader} {s s' : S} (target : Target) (r : Result Sps Stop) →

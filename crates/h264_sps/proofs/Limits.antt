@@ -3,14 +3,9 @@ use Rattle.std.proofs.Common.{◌≡◌, ℕ, ◌<◌, ◌≤◌, Bool, true, fa
 use Rattle.std.specs.Prelude.{IfSome}
 use Rattle.std.specs.Option.{option_map}
 use Rattle.std.specs.List.{list_all}
-use Rattle.std.proofs.lemmas.Bool.{eqb-true, leb-true}
+use Rattle.std.proofs.lemmas.Bool.{eqb-true, leb-true, and_parts}
 use Rattle.h264_tables.specs.declared.level.Limits.{Limits}
 use Rattle.h264_tables.specs.Level.{LevelRow, level_rows, level_named, limits_of}
-
-both : (a b : Bool) → (a && b) ≡ true → (a ≡ true) × (b ≡ true)
-both true true e = (refl, refl)
-both true false e = absurd (cc)
-both false b e = absurd (cc)
 
 abbrev low : LevelRow → Bool
 low r = nat_le r.level 255
@@ -22,7 +17,7 @@ small r = nat_le r.limits.max_fs 36864
 none-above : (rows : List LevelRow) (n : ℕ) → list_all low rows ≡ true → 255 < n → find (λ (r : LevelRow). r.level == n) rows ≡ None
 none-above [] n a h = refl
 none-above (r ∷ rows) n a h =
-    let b = both (low r) (list_all low rows) a in
+    let b = and_parts (low r) (list_all low rows) a in
     go (r.level == n) refl b.0 (none-above rows n b.1 h)
   where
     go : (t : Bool) → (r.level == n) ≡ t → low r ≡ true → find (λ (r : LevelRow). r.level == n) rows ≡ None →
@@ -46,7 +41,7 @@ bounded : (p : LevelRow → Bool) (rows : List LevelRow) → list_all small rows
     IfSome (option_map (λ (r : LevelRow). r.limits) (find p rows)) (λ (l : Limits). l.max_fs ≤ 36864)
 bounded p [] a = tt
 bounded p (r ∷ rows) a =
-    let b = both (small r) (list_all small rows) a in
+    let b = and_parts (small r) (list_all small rows) a in
     go (p r) refl b.0 (bounded p rows b.1)
   where
     go : (t : Bool) → p r ≡ t → small r ≡ true → IfSome (option_map (λ (r : LevelRow). r.limits) (find p rows)) (λ (l : Limits). l.max_fs ≤ 36864) →

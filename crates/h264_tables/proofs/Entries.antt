@@ -92,7 +92,7 @@ record Spot (w m y s : ℕ) : Type 0 where
   pub above : (s ≡ 0) ⊎ (2 ^ m ≤ y / 2 ^ s)
   pub few : s + m + 1 ≤ w
 
-le-pow : (k n : ℕ) → k ≤ n → 2 ^ k ≤ 2 ^ n
+pub le-pow : (k n : ℕ) → k ≤ n → 2 ^ k ≤ 2 ^ n
 le-pow k n h = pow-le-pow_right (omega arith) h
 
 spot : (w m y s : ℕ) → m < w → w ≤ 32 → y < 2 ^ w → s ≡ 31 - m - count_leading_zeros 32 y → Spot w m y s

@@ -8,10 +8,6 @@ use Rattle.h264_base.specs.Table.{Row, CodeTable, IsRow, is_prefix, is_prefix_fr
 use Rattle.h264_base.specs.Word.{Word, Words, IsWord, IsWordOf, number, digit}
 use Rattle.h264_base.proofs.Rows.{apart-from as apart}
 
-off : (c : Bool) → not c ≡ true → c ≡ false
-off true n = absurd (false≢true n)
-off false n = refl
-
 -- a row whose word another word begins with is that other row
 pub one-row : (rows : List Row) (r q : Row) → is_prefix_free rows ≡ true → IsRow rows r → IsRow rows q → is_prefix r q ≡ true → r ≡ q
 unfolding is_prefix_free

@@ -3,7 +3,7 @@ use Rattle.std.proofs.Common.{◌≡◌, ◌≢◌, ℕ, zero, suc, ◌+◌, ◌
 use Rattle.std.proofs.Common.{Option, None, refl, sym, ap, ◌∙◌, arith, if◌then◌else◌}
 use Rattle.std.specs.Prelude.{Result, Ok, Err, OnOk}
 use Rattle.std.specs.List.{list_all, range_with_len}
-use Rattle.std.proofs.lemmas.Bool.{ltb-true, false≢true}
+use Rattle.std.proofs.lemmas.Bool.{ltb-true, false≢true, and_parts}
 use Rattle.std.proofs.lemmas.List.{get_or-replicate}
 use Rattle.std.proofs.lemmas.List.FromFn.{get_or-map-range_with_len}
 use Rattle.h264_near.specs.declared.motion.Motion.{Motion}
@@ -20,16 +20,7 @@ use Rattle.h264_vectors.specs.Derived.{is_inside, in_part, with_part, sub_parts_
 use Rattle.h264_vectors.specs.Partitions.{sub_partition_of, IsOfType}
 use Rattle.h264_vectors.specs.Agrees.{is_on_one_side, are_on_one_side, StayAlike}
 
-both : (a b : Bool) → (a && b) ≡ true → (a ≡ true) × (b ≡ true)
-both true true e = (refl, refl)
-both true false e = absurd (cc)
-both false b e = absurd (cc)
-
 -- ---- results
-
-pub on-ok : {A E P : Type 0} (r : Result A E) → P → OnOk r P
-on-ok (Ok v) p = p
-on-ok (Err e) p = tt
 
 -- ---- a part more
 
@@ -44,7 +35,7 @@ with-at motions p m n h = get_or-map-range_with_len (λ n. in_part p n m (get_or
 pub stay-with : (motions : List (Option Motion)) (p : Part) (m : Motion) → StayAlike (p ∷ []) motions (with_part motions p m)
 stay-with motions p m = record {
   each = λ i j h k side e. with-at motions p m i h ∙
-      go i j (is_inside p i) (is_inside p j) refl refl (both (is_on_one_side p i j) true side).0 e ∙ sym (with-at motions p m j k);
+      go i j (is_inside p i) (is_inside p j) refl refl (and_parts (is_on_one_side p i j) true side).0 e ∙ sym (with-at motions p m j k);
 }
   where
     go : (i j : ℕ) (a b : Bool) → is_inside p i ≡ a → is_inside p j ≡ b → is_on_one_side p i j ≡ true → get_or motions i None ≡ get_or motions j None →
@@ -57,7 +48,7 @@ stay-with motions p m = record {
 pub stay-then : (p : Part) (parts : List Part) (a b c : List (Option Motion)) → StayAlike (p ∷ []) a b → StayAlike parts b c → StayAlike (p ∷ parts) a c
 stay-then p parts a b c first others = record {
   each = λ i j h k side e.
-      let s = both (is_on_one_side p i j) (are_on_one_side parts i j) side in
+      let s = and_parts (is_on_one_side p i j) (are_on_one_side parts i j) side in
       others.each i j h k s.1 (first.each i j h k (rw s.0 refl) e);
 }
 
@@ -65,10 +56,10 @@ stay-then p parts a b c first others = record {
 
 at-all : (p : ℕ → Bool) (a n k : ℕ) → list_all p (range_with_len a n) ≡ true → k < n → p (a + k) ≡ true
 at-all p a zero k e h = absurd (omega arith)
-at-all p a (suc n) zero e h = let same : a + 0 ≡ a = omega arith in ap p same ∙ (both (p a) (list_all p (range_with_len (a + 1) n)) e).0
+at-all p a (suc n) zero e h = let same : a + 0 ≡ a = omega arith in ap p same ∙ (and_parts (p a) (list_all p (range_with_len (a + 1) n)) e).0
 at-all p a (suc n) (suc k) e h =
     let same : a + suc k ≡ a + 1 + k = omega arith in
-    ap p same ∙ at-all p (a + 1) n k (both (p a) (list_all p (range_with_len (a + 1) n)) e).1 (omega arith)
+    ap p same ∙ at-all p (a + 1) n k (and_parts (p a) (list_all p (range_with_len (a + 1) n)) e).1 (omega arith)
 
 all-below : (p : ℕ → Bool) (n k : ℕ) → list_all p (range_with_len 0 n) ≡ true → k < n → p k ≡ true
 all-below p n k e h = let same : 0 + k ≡ k = omega arith in sym (ap p same) ∙ at-all p 0 n k e h
@@ -81,7 +72,7 @@ moves-by : (partition : Partition) (parts : List Part) (old new : List (Option M
     StayAlike parts old new → MovesByPartition partition new
 moves-by partition parts old new e none stay = record {
   each = λ n h.
-      let s = both _ _ (all-below (λ n. nat_lt (first_of partition n) 16 && are_on_one_side parts n (first_of partition n)) 16 n e h) in
+      let s = and_parts _ _ (all-below (λ n. nat_lt (first_of partition n) 16 && are_on_one_side parts n (first_of partition n)) 16 n e h) in
       let k : first_of partition n < 16 = ltb-true _ _ s.0 in
       stay.each n (first_of partition n) h k s.1 (rw none (get_or-replicate 16 n None None h ∙ sym (get_or-replicate 16 (first_of partition n) None None k)));
 }

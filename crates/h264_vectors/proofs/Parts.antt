@@ -122,13 +122,6 @@ four-parts x y (suc (suc (suc t))) a b c = refl
 pub starts : (blocks : List (Option Motion)) → blocks ≡ replicate 16 None → Agrees true blocks (replicate 16 false) none_yet
 starts blocks e = record { fits = refl; same = λ t. e; derived = refl }
 
-pub unequal : (a b : ℕ) → a ≢ b → (a == b) ≡ false
-unequal a b h = go (a == b) refl
-  where
-    go : (t : Bool) → (a == b) ≡ t → (a == b) ≡ false
-    go true e = absurd (h (eqb-true a b e))
-    go false e = e
-
 -- ---- one part for the whole macroblock
 
 pub filled-whole : (motions : List (Option Motion)) (p : Part) (m : Motion) → IsWhole p → with_part motions p m ≡ replicate 16 (Some m)

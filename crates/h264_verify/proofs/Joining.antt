@@ -31,10 +31,11 @@ use Rattle.h264_verify.specs.Order.{content_steps}
 use Rattle.h264_verify.specs.StepOutcome.{steps_outcome}
 use Rattle.h264_verify.specs.UnitOutcome.{slice_outcome, whole_slice, joined, joined_other}
 use Rattle.h264_verify.specs.Turning.{Joins}
-use Rattle.h264_verify.proofs.Playing.{plays-stops, plays-on, plays-then, choice-true, choice-false}
+use Rattle.h264_verify.proofs.Playing.{plays-stops, plays-on, plays-then}
 use Rattle.h264_verify.proofs.Entering.{IsNoSlice, EndsBefore, passed-keeps}
 use Rattle.h264_verify.specs.declared.slices.Slices.{Slices}
 use Rattle.h264_verify.proofs.Made.{made-then, some-made, none-made}
+use Rattle.h264_base.proofs.Plain.{choose-true, choose-false}
 
 module _ {S : Type 0} (mode : Mode) (frames : ℕ → Frame) (took : S → List Call → Type 0) (failures : S → ℕ) (ended : ℕ) (before : History) (unit : NalUnit)
     (content : Outcome Content) (new : State) where
@@ -126,17 +127,17 @@ pub passed-other : (mode : Mode) (kind : ℕ) (before : History) (unit : NalUnit
     joined_other mode kind before unit ≡ joined mode before unit (gives contents.Passed)
 unfolding joined_other
 passed-other modes.Units kind before unit e = units-other kind before unit
-passed-other modes.Headers kind before unit e = choice-false (is_slice kind) _ _ e
-passed-other modes.Full kind before unit e = choice-false (is_slice kind) _ _ e
+passed-other modes.Headers kind before unit e = choose-false (is_slice kind) _ _ e
+passed-other modes.Full kind before unit e = choose-false (is_slice kind) _ _ e
 
 pub slice-other : (kind : ℕ) (before : History) (unit : NalUnit) → is_slice kind ≡ true →
     joined_other modes.Headers kind before unit ≡ joined modes.Headers before unit (slice_outcome before unit)
 unfolding joined_other
-slice-other kind before unit e = choice-true (is_slice kind) _ _ e
+slice-other kind before unit e = choose-true (is_slice kind) _ _ e
 
 pub whole-other : (kind : ℕ) (before : History) (unit : NalUnit) → is_slice kind ≡ true → joined_other modes.Full kind before unit ≡ whole_slice before unit
 unfolding joined_other
-whole-other kind before unit e = choice-true (is_slice kind) _ _ e
+whole-other kind before unit e = choose-true (is_slice kind) _ _ e
 
 -- a slice that begins no picture goes on with the newest
 pub goes-newest : (on : Bool) (pictures : List CodedPicture) (h : Header) (begins : Bool) → begins ≡ begins_after (open_of on pictures) h → begins ≡ false →

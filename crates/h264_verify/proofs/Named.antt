@@ -38,6 +38,7 @@ use Rattle.h264_verify.proofs.Agreeing.{each-slice}
 use Rattle.h264_verify.proofs.Alike.{AreReadSlices}
 use Rattle.h264_verify.proofs.Among.{pictures_in, IsAmong, filled-holds, marked-holds}
 use Rattle.h264_dpb.proofs.Truths.{is-same, true-or, or-true}
+use Rattle.h264_recon.proofs.Tables.{table-at}
 
 -- ---- pictures whose slices were read
 
@@ -142,12 +143,6 @@ held-size n sps (p ∷ ps) s r h =
     by earlier (inr k) = inr (earlier k.0 k.1)
 
 -- ---- what a list names
-
-table-at : {A : Type 0} (m : ℕ) (f : ℕ → A) (k : ℕ) (d : A) → k < m → get_or (table m f) k d ≡ f k
-unfolding table
-table-at zero f k d h = absurd (omega (arith, h))
-table-at (suc m) f zero d h = refl
-table-at (suc m) f (suc k) d h = table-at m (λ j. f (suc j)) k d (omega (arith, h))
 
 -- a frame in a list, by its picture
 abbrev IsHeldBy : ℕ → List ReferenceFrame → ReferenceFrame → Type 0

@@ -40,6 +40,7 @@ use Rattle.h264_verify.specs.StepOutcome.{steps_outcome}
 use Rattle.h264_verify.specs.Buffering.{told_frames}
 use Rattle.h264_verify.proofs.Playing.{plays-on, plays-stops}
 use Rattle.h264_verify.proofs.Showing.{decodes-plays, end-outcome, writes-plays}
+use Rattle.h264_base.proofs.Plain.{first-false}
 
 -- a frame of this size is lent
 pub some-frame : (w h : ℕ) (o : Option Frame) → IsFrameOf w h o → (f : Frame) × (o ≡ Some f) × IsFrame f (16 * w) (16 * h)
@@ -76,10 +77,6 @@ ended-few p ps e is = (
 ended-idr : (p : CodedPicture) (ps : List CodedPicture) (e : Ended) → e ≡ ended_picture p ps → e.idr ≡ is_idr p.first.header
 unfolding ended_of
 ended-idr p ps e is = ap (λ (x : Ended). x.idr) is
-
-or-false : (a b : Bool) → (a || b) ≡ false → a ≡ false
-or-false true b e = e
-or-false false b e = refl
 
 -- how many places the buffer has then
 way-sized : (e : Ended) (b : Buffered Shown) (n : ℕ) → (empties e ≡ true → e.size ≡ n) → (empties e ≡ false → b.size ≡ n) → (way_turn e b).buffer.size ≡ n
@@ -171,7 +168,7 @@ size-of frames p ps d k = let room : IsRoomFor (format_of p.first.sps) d.work =
 pub way-places : (frames : ℕ → Frame) (p : CodedPicture) (ps : List CodedPicture) (old : Decoder) (e : Ended) → e ≡ ended_picture p ps →
     KeepsFrames frames true false (p ∷ ps) old → (way_turn e (within_newest (p ∷ ps)).buffer).buffer.size ≡ buffer_size p.first.sps
 way-places frames p ps old e is k = way-sized e (within_newest (p ∷ ps)).buffer (buffer_size p.first.sps) (λ t. ended-size p ps e is) (λ t.
-    let not-idr : is_idr p.first.header ≡ false = sym (ended-idr p ps e is) ∙ or-false e.idr e.resets t in
+    let not-idr : is_idr p.first.header ≡ false = sym (ended-idr p ps e is) ∙ first-false e.idr e.resets t in
     k.output.buffer.same.size ∙ subst (λ (o : Option Format). IsSized o old.output) k.picture.format (k.picture.settled not-idr).sized)
 
 -- the picture stands in the buffer
@@ -289,7 +286,7 @@ released-then frames p ps old mid new e is k on released stays-if = pick (emptie
     pick : (b : Bool) → empties e ≡ b → IsReleased new.work
     pick true t = released t
     pick false t = subst (λ (d : Decoder). IsReleased d.work) (sym (stays-if t))
-        (on (k.picture.settled (sym (ended-idr p ps e is) ∙ or-false e.idr e.resets t)).released)
+        (on (k.picture.settled (sym (ended-idr p ps e is) ∙ first-false e.idr e.resets t)).released)
 
 pub room-then : (frames : ℕ → Frame) (p : CodedPicture) (ps : List CodedPicture) (old : Decoder) (work : Work) → KeepsFrames frames true false (p ∷ ps) old →
     ((width size : ℕ) → Serves width size old.work → Serves width size work) →

@@ -114,14 +114,6 @@ pub answer-on : {A S X : Type 0} (took : S → List Told → Type 0) (failures :
 unfolding ◌>>=◌
 answer-on took failures view run next s s' x r h p = subst (λ w. Plays (span took failures s s') view (w >>= next) r) (sym h) p
 
-pub choice-true : {A : Type 0} (b : Bool) (x y : A) → b ≡ true → (if b then x else y) ≡ x
-choice-true true x y e = refl
-choice-true false x y e = cc
-
-pub choice-false : {A : Type 0} (b : Bool) (x y : A) → b ≡ false → (if b then x else y) ≡ y
-choice-false true x y e = cc
-choice-false false x y e = refl
-
 pub plays-not-read : {A S X : Type 0} (took : S → List Told → Type 0) (failures : S → ℕ) (view : X → A) (run : Outcome A) (s s' : S) (r : Result X Stop) →
     Plays (span took failures s s') view run r → r ≡ Err Read → ⊥
 plays-not-read took failures view run s s' r p e = subst (λ x. PlaysBy (span took failures s s') view run x) e p.plays

@@ -155,10 +155,6 @@ later-rules on [] slices pps sps h unit b k = cc
 later-rules false (p ∷ ps) slices pps sps h unit b k = cc
 later-rules true (p ∷ ps) slices pps sps h unit b k = later-open p ps slices pps sps h unit slices.picture refl k.picture k.held
 
-pub ok-any : {X E P : Type 0} (r : Result X E) → P → OnOk r P
-ok-any (Ok x) p = p
-ok-any (Err e) p = tt
-
 -- ---- a slice of an IDR picture is I
 
 type-less : (a b c : Bool) → (a || not (b || c)) ≡ true → (a || not b) ≡ true

@@ -29,6 +29,7 @@ use Rattle.h264_verify.specs.Pictures.{CodedSlice, with_sets, sets_at, begins_at
 use Rattle.h264_verify.specs.Keeping.{standing_demands, slice_rules, told_rules, coded_before}
 use Rattle.h264_verify.proofs.Playing.{answers-plays}
 use Rattle.h264_verify.proofs.Stepping.{needs-first, needs-ok, needs-err, after_rules}
+use Rattle.h264_base.proofs.Plain.{some-same}
 
 -- one rule before others: met, or not
 one-met : (d : Demand) (r : Result (Unit {0}) Stop) → d.met ≡ true → (if d.met then r else Err (No d.bit d.rule)) ≡ r
@@ -97,10 +98,6 @@ pass-one d ds x r h k = pass-by (d ∷ []) ds x r h k
 pub none-holds : {A : Type 0} {P : Type 0} (o : Option A) → IfNone o P → ((x : A) → o ≡ Some x → ⊥) → P
 none-holds None h n = h
 none-holds (Some x) h n = absurd (n x refl)
-
--- the pair that the last slice named has this content, as the code finds it
-some-same : (s t : Sps) → Some s ≡ Some t → s ≡ t
-some-same s t e = cc
 
 pub content-active : (o : Option SetPair) (sps : Sps) → has_content sps o ≡ true → option_map (λ p. SetPair.sps p) o ≡ Some sps
 content-active None sps h = cc

@@ -29,6 +29,7 @@ use Rattle.h264_verify.specs.Held.{has_gap_filled}
 use Rattle.h264_verify.proofs.Slicing.{content-active}
 use Rattle.h264_verify.proofs.Sound.{met-by, ended-sound-of}
 use Rattle.h264_verify.proofs.Ruling.{held-all}
+use Rattle.h264_base.proofs.Plain.{first-false}
 
 -- ---- rules that are met
 
@@ -100,11 +101,6 @@ usable-set maps id pps sps named =
 
 -- ---- with one more slice
 
--- one that goes on with a picture is of an IDR picture where the slice before it is
-or-none : (a b : Bool) → (a || b) ≡ false → a ≡ false
-or-none true b h = cc
-or-none false b h = refl
-
 or-last : (a b : Bool) → (a || b) ≡ false → b ≡ false
 or-last true b h = cc
 or-last false b h = h
@@ -116,7 +112,7 @@ idr-by (Some x) None h = cc
 idr-by (Some x) (Some y) h = refl
 
 pub idr-same : (old new : Header) → begins_picture (picture_elements old) (picture_elements new) ≡ false → is_idr new ≡ is_idr old
-idr-same old new h = idr-by old.idr_pic_id new.idr_pic_id (or-last _ _ (or-none _ _ h))
+idr-same old new h = idr-by old.idr_pic_id new.idr_pic_id (or-last _ _ (first-false _ _ h))
 
 pub joined-sound : (begins on : Bool) (slice : CodedSlice) (pictures : List CodedPicture) → begins ≡ begins_after (open_of on pictures) slice.header →
     AreSound (has_ended on begins) pictures → IsMarked slice.header → is_usable slice.sps ≡ true →

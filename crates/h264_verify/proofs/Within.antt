@@ -29,6 +29,7 @@ use Rattle.h264_verify.specs.Buffering.{gap_on, gaps_turn, missing_before, ended
 use Rattle.h264_verify.specs.Sound.{HasSet, Follows, AreSound}
 use Rattle.h264_verify.proofs.Sound.{set-few, places-fit, after-few, after-among}
 use Rattle.h264_verify.proofs.Missing.{some-missing}
+use Rattle.h264_base.proofs.Plain.{first-false}
 
 abbrev number_of : Shown → ℕ
 number_of n = n.picture
@@ -186,16 +187,12 @@ is-told : (p : CodedPicture) (ps : List CodedPicture) → IsTold p ps (ended_pic
 unfolding ended_of
 is-told p ps = record { reference = refl; number = refl; size = refl; empty = refl }
 
-or-false : (a b : Bool) → (a || b) ≡ false → a ≡ false
-or-false true b e = e
-or-false false b e = refl
-
 ended-sits : (p : CodedPicture) (ps : List CodedPicture) (e : Ended) (b : Buffered Shown) → IsTold p ps e → AreSound true (p ∷ ps) →
     Sits (length ps) (places_after ps) b →
     Sits (length ps + 1) (buffer_size p.first.sps) (turn_then (way_turn e b) (store_turn e (held_after (p ∷ ps)))).buffer
 ended-sits p ps e b o s h =
     let before : empties e ≡ false → Sits e.picture (buffer_size p.first.sps) b = λ t.
-    let same = set-places p.first.sps ps (s.0.set (or-false (is_idr p.first.header) _ (sym o.empty ∙ t))) in
+    let same = set-places p.first.sps ps (s.0.set (first-false (is_idr p.first.header) _ (sym o.empty ∙ t))) in
     subst (λ (k : ℕ). Sits k (buffer_size p.first.sps) b) (sym o.number) (subst (λ (k : ℕ). Sits (length ps) k b) same h)
     in
     let held : e.reference ≡ true → is_held (names (held_after (p ∷ ps))) e.picture ≡ true = λ r.

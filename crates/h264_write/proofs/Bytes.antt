@@ -8,14 +8,11 @@ use Rattle.std.proofs.lemmas.Option.{slice_get-get_or}
 use Rattle.h264_base.specs.Word.{Word, digit, bit_of, StandsAt}
 use Rattle.h264_write.specs.Packed.{digit_at, first_byte, packed}
 use Rattle.h264_write.proofs.Stands.{stands-each}
+use Rattle.h264_base.proofs.Plain.{digit-is}
 
 digit-small : (b : Bool) → digit b < 2
 digit-small true = omega arith
 digit-small false = omega arith
-
-digit-test : (b : Bool) → (digit b == 1) ≡ b
-digit-test true = refl
-digit-test false = refl
 
 -- the bits of a byte are the digits
 abbrev EightDigits : Word → ℕ → Type 0
@@ -65,7 +62,7 @@ packed-bit n bits k h =
     let d = byte-digit (drop (8 * (k / 8)) bits) (k % 8) r in
     let g = get_or-drop (8 * (k / 8)) bits (k % 8) false in
     let e : 8 * (k / 8) + k % 8 ≡ k = omega arith in
-    rw (packed-byte n bits (k / 8) q, d, g, e) (ap Some (digit-test (get_or bits k false)))
+    rw (packed-byte n bits (k / 8) q, d, g, e) (ap Some (digit-is (get_or bits k false)))
 
 pub packed-stands : (n : ℕ) (bits : Word) → length bits ≤ 8 * n → StandsAt (packed n bits) 0 bits
 packed-stands n bits h = stands-each (packed n bits) 0 bits (λ k few. let z : 0 + k ≡ k = omega arith in rw z (packed-bit n bits k (omega arith)))

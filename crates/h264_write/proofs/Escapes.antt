@@ -8,14 +8,7 @@ use Rattle.std.proofs.lemmas.Bool.Decides.{nat_tests}
 use Rattle.h264_units.specs.Stream.{EndsUnit, IsInner, IsBody}
 use Rattle.h264_rbsp.specs.Rbsp.{is_prevention, rbsp_bytes}
 use Rattle.h264_write.specs.Escaped.{zeros_after, needs_prevention, escaped}
-
-choose-true : {X : Type 0} (c : Bool) (a b : X) → c ≡ true → (if c then a else b) ≡ a
-choose-true true a b e = refl
-choose-true false a b e = absurd (cc)
-
-choose-false : {X : Type 0} (c : Bool) (a b : X) → c ≡ false → (if c then a else b) ≡ b
-choose-false true a b e = absurd (cc)
-choose-false false a b e = refl
+use Rattle.h264_base.proofs.Plain.{choose-true, choose-false}
 
 escaped-with : (z b : ℕ) (rest : List ℕ) → needs_prevention z b ≡ true → escaped z (b ∷ rest) ≡ 3 ∷ b ∷ escaped (zeros_after 0 b) rest
 unfolding escaped

@@ -115,10 +115,6 @@ device-status broken true answer (inl e) = absurd (true≢false e)
 device-status true true answer (inr e) = rw e refl
 device-status false true answer (inr e) = rw e refl
 
-pub not-false : (b : Bool) → not b ≡ false → b ≡ true
-not-false true e = refl
-not-false false e = absurd (true≢false e)
-
 true-or-false : (b : Bool) → (b ≡ true) ⊎ (b ≡ false)
 true-or-false true = inl refl
 true-or-false false = inr refl

@@ -2,12 +2,12 @@ use Rattle.std.proofs.Common.{arith, lt-ltb, refl}
 use Rattle.std.proofs.lemmas.Result.{err_from_is_err_and}
 use Rattle.h264_base.proofs.Steps.{bind, stop, done, checked}
 use Rattle.h264_cavlc.specs.Zeros.{total_zeros, coded_total_zeros}
-use Rattle.h264_cavlc.proofs.Sizes.{not-below}
 use Rattle.h264_cavlc.proofs.zeros.read_any_total_zeros.Goals as goal
+use Rattle.std.proofs.lemmas.Bool.{le-ltb}
 
 pub returns-then-from-size-clause-meets : goal.returns-then-from-size-clause-meets
 unfolding total_zeros
-returns-then-from-size-clause-meets g c = rw (not-below c.args.total c.args.size (omega arith)) (done _ _ _ _ _ _ _ refl)
+returns-then-from-size-clause-meets g c = rw (le-ltb c.args.total c.args.size (omega arith)) (done _ _ _ _ _ _ _ refl)
 
 pub returns-in_err-found-clause-meets : goal.returns-in_err-found-clause-meets
 unfolding total_zeros coded_total_zeros

@@ -1,15 +1,14 @@
 use Rattle.std.proofs.Common.{◌+◌, ◌≤◌, arith, lt-ltb, refl}
-use Rattle.std.proofs.lemmas.Bool.{le-leb}
+use Rattle.std.proofs.lemmas.Bool.{le-leb, le-ltb}
 use Rattle.std.proofs.lemmas.Result.{err_from_is_err_and}
 use Rattle.h264_base.specs.declared.rule.Rule.TheVariants.{ResidualWord}
 use Rattle.h264_base.proofs.Steps.{bind, stop, done, checked}
 use Rattle.h264_cavlc.specs.Zeros.{total_zeros, coded_total_zeros}
-use Rattle.h264_cavlc.proofs.Sizes.{not-below}
 use Rattle.h264_cavlc.proofs.zeros.read_total_zeros.Goals as goal
 
 pub returns-then-from-size-clause-meets : goal.returns-then-from-size-clause-meets
 unfolding total_zeros
-returns-then-from-size-clause-meets g c = rw (not-below c.args.total c.args.size (omega arith)) (done _ _ _ _ _ _ _ refl)
+returns-then-from-size-clause-meets g c = rw (le-ltb c.args.total c.args.size (omega arith)) (done _ _ _ _ _ _ _ refl)
 
 pub returns-in_err-read_held_entry-clause-meets : goal.returns-in_err-read_held_entry-clause-meets
 unfolding total_zeros coded_total_zeros

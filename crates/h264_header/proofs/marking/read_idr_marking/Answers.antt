@@ -1,9 +1,9 @@
 use Rattle.std.proofs.Common.{refl}
 use Rattle.std.proofs.lemmas.Result.{err_from_is_err_and}
 use Rattle.h264_base.proofs.Steps.{bind, stop, done}
-use Rattle.h264_header.proofs.Entries.{digit-is}
 use Rattle.h264_header.specs.Marking.{idr_marking}
 use Rattle.h264_header.proofs.marking.read_idr_marking.Goals as goal
+use Rattle.h264_base.proofs.Plain.{digit-is}
 
 pub returns-in_err-no_output : goal.returns-in_err-no_output
 unfolding idr_marking

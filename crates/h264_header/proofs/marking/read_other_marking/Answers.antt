@@ -4,9 +4,10 @@ use Rattle.h264_base.specs.Grammar.{◌>>=◌}
 use Rattle.h264_base.proofs.Steps.{bind, stop, done}
 use Rattle.h264_bits.specs.declared.element.Found.{Found}
 use Rattle.h264_header.specs.declared.header.Marking.{Marking}
-use Rattle.h264_header.proofs.Entries.{digit-is, seen-last}
+use Rattle.h264_header.proofs.Entries.{seen-last}
 use Rattle.h264_header.specs.Marking.{marking_mode, other_marking}
 use Rattle.h264_header.proofs.marking.read_other_marking.Goals as goal
+use Rattle.h264_base.proofs.Plain.{digit-is}
 
 pub returns-in_err-adaptive : goal.returns-in_err-adaptive
 unfolding other_marking

@@ -1,9 +1,9 @@
 use Rattle.std.proofs.Common.{refl}
 use Rattle.std.proofs.lemmas.Result.{err_from_is_err_and}
 use Rattle.h264_base.proofs.Steps.{bind, stop, done, checked}
-use Rattle.h264_header.proofs.Entries.{digit-is}
 use Rattle.h264_header.specs.RefList.{minus1_of, num_ref_idx_l0_active_minus1}
 use Rattle.h264_header.proofs.ref_list.read_active_minus1.Goals as goal
+use Rattle.h264_base.proofs.Plain.{digit-is}
 
 pub returns-in_err-own-clause-meets : goal.returns-in_err-own-clause-meets
 unfolding num_ref_idx_l0_active_minus1

@@ -1,8 +1,8 @@
 use Rattle.std.proofs.Common.{◌≡◌, ◌-◌, ◌-ℤ◌, pos, arith, to_z, of_z, w32}
 use Rattle.std.proofs.lemmas.Int.{ints}
-use Rattle.h264_intra.specs.Sides.{IsIn}
 use Rattle.h264_intra.proofs.Bounds.{product_kept}
 use Rattle.h264_intra.proofs.slope.rise.Goals as goal
+use Rattle.h264_plane.specs.Clip.{IsIn}
 
 pub returns-clause-bound : goal.returns-clause-bound
 returns-clause-bound g c =

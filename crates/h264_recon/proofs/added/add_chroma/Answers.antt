@@ -1,18 +1,19 @@
 use Rattle.std.proofs.Common.{refl, sym, ap, ◌∙◌}
 use Rattle.std.proofs.lemmas.Result.{err_from_is_err_and}
 use Rattle.h264_scale.specs.Macroblock.{chroma_fits}
-use Rattle.h264_scale.proofs.Whole.{and_true, and_first, always, never, refused, not_coded_chroma_fits, no_cb, no_cr}
+use Rattle.h264_scale.proofs.Whole.{and_first, always, never, refused, not_coded_chroma_fits, no_cb, no_cr}
 use Rattle.h264_recon.specs.ReadLevels.{levels_in}
 use Rattle.h264_recon.proofs.ByBlock.{cb_stays, cr_stays, cb_added, cr_added}
 use Rattle.h264_recon.proofs.FromLevels.{pcm_cb, pcm_cr, coded_cb, coded_cr, chroma_of, whenever, if_so, one_more}
 use Rattle.h264_recon.proofs.added.add_chroma.Goals as goal
+use Rattle.std.proofs.lemmas.Bool.{and_from}
 
 pub returns-then-is_pcm-clause-range : goal.returns-then-is_pcm-clause-range
 returns-then-is_pcm-clause-range c =
     let r = c.args.levels.now in
     let l = levels_in r in
     let pcm = sym c.is_pcm.ensures ∙ c.if-is_pcm.true in
-    always _ (and_true _ _ (ap (chroma_fits l.qp_cb) (pcm_cb r pcm) ∙ not_coded_chroma_fits l.qp_cb)
+    always _ (and_from _ _ (ap (chroma_fits l.qp_cb) (pcm_cb r pcm) ∙ not_coded_chroma_fits l.qp_cb)
     (ap (chroma_fits l.qp_cr) (pcm_cr r pcm) ∙ not_coded_chroma_fits l.qp_cr))
 
 pub returns-then-is_pcm-clause-cb : goal.returns-then-is_pcm-clause-cb

@@ -3,8 +3,8 @@ use Rattle.h264_recon.specs.Lines.{samples_of}
 use Rattle.h264_recon.specs.Placed.{weights_by}
 use Rattle.h264_recon.specs.Skips.{skipped}
 use Rattle.h264_recon.proofs.Step.{shows, stored_next, saved_from, joined_made, room_all}
-use Rattle.h264_recon.proofs.Skips.{none-within}
 use Rattle.h264_recon.proofs.in_place.construct_skipped.Goals as goal
+use Rattle.h264_recon.proofs.Within.{none-within}
 
 pub returns-clause-step : goal.returns-clause-step
 returns-clause-step c =

@@ -3,9 +3,7 @@ use Rattle.h264_sps.specs.declared.sps.Sps.{Sps}
 use Rattle.h264_sets.specs.Sets.{Maps}
 use Rattle.h264_sps.proofs.Content.{decides-sps}
 use Rattle.h264_sets.proofs.Sets.is_active.Goals as goal
-
-some-same : (s t : Sps) → Some s ≡ Some t → s ≡ t
-some-same s t e = cc
+use Rattle.h264_base.proofs.Plain.{some-same}
 
 pub returns-in-Some : goal.returns-in-Some
 returns-in-Some c =

@@ -1,12 +1,9 @@
 use Rattle.std.proofs.Common.{◌≡◌, Bool, true, ◌&&◌, nat_le, refl}
-use Rattle.std.proofs.lemmas.Bool.{le-leb}
+use Rattle.std.proofs.lemmas.Bool.{le-leb, and_from}
 use Rattle.h264_tables.specs.Level.{level_rows, limits_of}
 use Rattle.h264_sps.specs.Usable.{is_usable}
 use Rattle.h264_sets.proofs.tests.sps.Goals as goal
 
-and-true : (b : Bool) → b ≡ true → (b && true) ≡ true
-and-true b e = rw e refl
-
 pub returns-clause-accepted : goal.returns-clause-accepted
 unfolding is_usable limits_of level_rows
-returns-clause-accepted c = and-true (nat_le c.args.max_num_ref_frames 16) (le-leb _ _ c.requires)
+returns-clause-accepted c = and_from (nat_le c.args.max_num_ref_frames 16) true (le-leb _ _ c.requires) refl

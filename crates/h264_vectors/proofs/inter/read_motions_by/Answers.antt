@@ -1,11 +1,11 @@
 use Rattle.std.proofs.Common.{eq-eqb, refl}
 use Rattle.std.proofs.lemmas.Result.{on_ok_weaker}
-use Rattle.h264_vectors.proofs.Partitions.{on-ok, moves16x8, moves8x16, of-four}
-use Rattle.h264_vectors.proofs.Parts.{unequal}
+use Rattle.h264_vectors.proofs.Partitions.{moves16x8, moves8x16, of-four}
 use Rattle.h264_near.specs.Coded.{column_of, row_of}
 use Rattle.h264_vectors.specs.Agrees.{places_with}
 use Rattle.h264_vectors.specs.Inter.{motions_by}
 use Rattle.h264_vectors.proofs.inter.read_motions_by.Goals as goal
+use Rattle.h264_base.proofs.Plain.{differs, on-ok}
 
 pub returns-then-kind-eq0-clause-meets : goal.returns-then-kind-eq0-clause-meets
 unfolding motions_by
@@ -15,19 +15,19 @@ returns-then-kind-eq0-clause-meets g c width picture k =
 pub returns-then-kind-eq1-clause-meets : goal.returns-then-kind-eq1-clause-meets
 unfolding motions_by places_with column_of row_of
 returns-then-kind-eq1-clause-meets g c width picture k =
-    rw (unequal c.args.kind 0 c.if-kind-eq0.false, eq-eqb c.args.kind 1 c.if-kind-eq1.true)
+    rw (differs c.args.kind 0 c.if-kind-eq0.false, eq-eqb c.args.kind 1 c.if-kind-eq1.true)
     (rw c.is_inferred-inferred.ensures.meets at (c.read_two_parts.ensures.meets width picture k))
 
 pub returns-then-kind-eq2-clause-meets : goal.returns-then-kind-eq2-clause-meets
 unfolding motions_by places_with column_of row_of
 returns-then-kind-eq2-clause-meets g c width picture k =
-    rw (unequal c.args.kind 0 c.if-kind-eq0.false, unequal c.args.kind 1 c.if-kind-eq1.false, eq-eqb c.args.kind 2 c.if-kind-eq2.true)
+    rw (differs c.args.kind 0 c.if-kind-eq0.false, differs c.args.kind 1 c.if-kind-eq1.false, eq-eqb c.args.kind 2 c.if-kind-eq2.true)
     (rw c.is_inferred-inferred.ensures.meets at (c.read_two_parts-then-kind-eq2.ensures.meets width picture k))
 
 pub returns-clause-meets : goal.returns-clause-meets
 unfolding motions_by
 returns-clause-meets g c width picture k =
-    rw (unequal c.args.kind 0 c.if-kind-eq0.false, unequal c.args.kind 1 c.if-kind-eq1.false, unequal c.args.kind 2 c.if-kind-eq2.false)
+    rw (differs c.args.kind 0 c.if-kind-eq0.false, differs c.args.kind 1 c.if-kind-eq1.false, differs c.args.kind 2 c.if-kind-eq2.false)
     (rw c.is_inferred-inferred.ensures.meets at (c.read_split.ensures.meets width picture k))
 
 pub returns-then-kind-eq0-clause-partition : goal.returns-then-kind-eq0-clause-partition

@@ -9,8 +9,8 @@ use Rattle.h264_verify.specs.Keeping.{close_steps}
 use Rattle.h264_verify.proofs.Slicing.{refused, err-named}
 use Rattle.h264_verify.proofs.Stepping.{steps-err, closing-stop, closing-then}
 use Rattle.h264_verify.proofs.Playing.{plays-as}
-use Rattle.h264_verify.proofs.Ruling.{ok-any}
 use Rattle.h264_verify.proofs.close.close_if.Goals as goal
+use Rattle.h264_base.proofs.Plain.{on-ok}
 
 pub end_frame_if-requires-clause-kept : goal.end_frame_if-requires-clause-kept
 end_frame_if-requires-clause-kept g c =
@@ -63,4 +63,4 @@ returns-clause-closes g c = λ mode frames before k d.
     }
 
 pub returns-clause-ended : goal.returns-clause-ended
-returns-clause-ended g c = λ before k. ok-any c.end_frame_if.result (c.in_ok-end_if.ensures.ended before k)
+returns-clause-ended g c = λ before k. on-ok c.end_frame_if.result (c.in_ok-end_if.ensures.ended before k)

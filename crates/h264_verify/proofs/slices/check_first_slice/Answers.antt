@@ -13,8 +13,9 @@ use Rattle.h264_verify.specs.Order.{gap_rules}
 use Rattle.h264_verify.specs.Lists.{list_of}
 use Rattle.h264_verify.proofs.Playing.{no-memory}
 use Rattle.h264_verify.proofs.Stepwise.{at-first, at-second, at-between, after-between}
-use Rattle.h264_verify.proofs.Ruling.{ok-any, type-met}
+use Rattle.h264_verify.proofs.Ruling.{type-met}
 use Rattle.h264_verify.proofs.slices.check_first_slice.Goals as goal
+use Rattle.h264_base.proofs.Plain.{on-ok}
 
 pub returns-in_err-check_type : goal.returns-in_err-check_type
 returns-in_err-check_type g c =
@@ -137,17 +138,17 @@ returns g c =
           after-between (took_with frames g.S.Elements.took) g.S.Elements.failures type num gap id count qp list c.args.sink.now _ c.in_ok-check_type.ensures
           _ c.in_ok-check_idr_num.ensures _ _ _ (c.in_ok-check_gap.ensures.plays mode frames t next k)
           (rw c.in_ok-check_gap.ensures.held at (c.check_new_picture.ensures.judged pictures kept));
-      gap = λ mode frames t next k. ok-any r (c.in_ok-check_gap.ensures.keeps mode frames t next k);
+      gap = λ mode frames t next k. on-ok r (c.in_ok-check_gap.ensures.keeps mode frames t next k);
       no_memory = c.check_new_picture.ensures.no_memory;
       format = c.in_ok-check_gap.ensures.format;
       counts = c.check_new_picture.ensures.counts;
       count = c.check_new_picture.ensures.count;
-      held = ok-any r (ap (λ (s : Slices). s.held) same ∙ c.in_ok-check_gap.ensures.held);
-      filled = ok-any r (c.in_ok-check_gap.ensures.filled ∙ ap (λ (s : Slices). Some s.held) (sym same));
-      typed = ok-any r (type-met c.args.head.now.place.sps.now c.args.head.now.header.now _ c.in_ok-check_type.ensures);
-      prev = ok-any r (ap (λ (s : Slices). s.prev_ref_frame_num) same ∙ c.in_ok-check_gap.ensures.prev);
+      held = on-ok r (ap (λ (s : Slices). s.held) same ∙ c.in_ok-check_gap.ensures.held);
+      filled = on-ok r (c.in_ok-check_gap.ensures.filled ∙ ap (λ (s : Slices). Some s.held) (sym same));
+      typed = on-ok r (type-met c.args.head.now.place.sps.now c.args.head.now.header.now _ c.in_ok-check_type.ensures);
+      prev = on-ok r (ap (λ (s : Slices). s.prev_ref_frame_num) same ∙ c.in_ok-check_gap.ensures.prev);
       others = others-of c.args.slices.now _ _ _ same;
       list = subst (λ (s : Slices). OnOk r (list_of c.args.head.now.header.now.kind.value c.args.head.now.numbering s.held ≡
           Ok c.check_new_picture.new.list.items)) (sym same) c.check_new_picture.ensures.list;
-      kept = ok-any r c.in_ok-check_gap.ensures.kept;
+      kept = on-ok r c.in_ok-check_gap.ensures.kept;
     }

@@ -5,8 +5,9 @@ use Rattle.h264_verify.specs.Slices.{type_demand, idr_num_demand, qp_demand, lis
 use Rattle.h264_verify.specs.Lists.{list_of}
 use Rattle.h264_verify.specs.Keeping.{marking_by, same_type_by}
 use Rattle.h264_verify.proofs.Slicing.{stop-one, pass-one}
-use Rattle.h264_verify.proofs.Ruling.{ok-any, type-met}
+use Rattle.h264_verify.proofs.Ruling.{type-met}
 use Rattle.h264_verify.proofs.slices.check_later_slice.Goals as goal
+use Rattle.h264_base.proofs.Plain.{on-ok}
 
 pub returns-in_err-check_type-clause-judged : goal.returns-in_err-check_type-clause-judged
 returns-in_err-check_type-clause-judged c =
@@ -112,4 +113,4 @@ returns-clause-judged c = (pass-one (type_demand c.args.head.now.place.sps.now c
     (rw c.requires.numbered at c.in_ok-build_list.ensures.judged) c.check_marking.ensures)))))
 
 pub returns-clause-typed : goal.returns-clause-typed
-returns-clause-typed c = ok-any c.check_marking.result (type-met c.args.head.now.place.sps.now c.args.head.now.header.now _ c.in_ok-check_type.ensures)
+returns-clause-typed c = on-ok c.check_marking.result (type-met c.args.head.now.place.sps.now c.args.head.now.header.now _ c.in_ok-check_type.ensures)

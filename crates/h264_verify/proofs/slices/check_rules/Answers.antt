@@ -11,8 +11,9 @@ use Rattle.h264_verify.specs.Order.{later_slice_rules}
 use Rattle.h264_verify.specs.Pictures.{goes_on, runs_of, with_sets, counted}
 use Rattle.h264_verify.proofs.Stepwise.{rules-play}
 use Rattle.h264_verify.proofs.Holding.{ended-gap}
-use Rattle.h264_verify.proofs.Ruling.{some-begun, first-rules, enters-first, enters-later, later-rules, ok-any}
+use Rattle.h264_verify.proofs.Ruling.{some-begun, first-rules, enters-first, enters-later, later-rules}
 use Rattle.h264_verify.proofs.slices.check_rules.Goals as goal
+use Rattle.h264_base.proofs.Plain.{on-ok}
 
 pub check_first_slice-requires-clause-kept : goal.check_first_slice-requires-clause-kept
 check_first_slice-requires-clause-kept g c =
@@ -45,6 +46,6 @@ returns-else-head-clause-plays g c = rw c.if-head.false (λ mode frames before k
 
 pub returns-else-head-clause-frames : goal.returns-else-head-clause-frames
 returns-else-head-clause-frames g c = rw c.if-head.false (λ mode frames before k b d.
-    ok-any c.check_later_slice.result (enters-later mode frames (goes_on before) (runs_of before)
+    on-ok c.check_later_slice.result (enters-later mode frames (goes_on before) (runs_of before)
     (with_sets c.args.head.now.place.unit.now c.args.head.now.header.now [] (c.args.head.now.place.pps.now, c.args.head.now.place.sps.now))
     c.args.head.now.header.now c.args.decoder.now (sym b) d))

@@ -29,6 +29,7 @@ use Rattle.h264_verify.proofs.Slicing.{err-named}
 use Rattle.h264_verify.proofs.Standing.{first-met}
 use Rattle.h264_verify.proofs.Courses.{plays-course, ended-grows, closing-all}
 use Rattle.h264_verify.proofs.unit.judge_unit.Goals as goal
+use Rattle.h264_cavlc.proofs.Loops.{quiet-after}
 
 -- a unit that is sound, part by part
 module _ {S : Type 0} (terms : Terms) (took : S → List Call → Type 0) (failures : S → ℕ) (frames : ℕ → Frame) (before : History) (unit : NalUnit) where
@@ -137,10 +138,6 @@ module _ {S : Type 0} (terms : Terms) (took : S → List Call → Type 0) (failu
         keeps = tt;
       }
 
--- sinks that failed as often
-kept-on : {X : Type 0} (r : Result X Stop) (a b n : ℕ) → b ≡ a → OnOk r (n ≡ b) → OnOk r (n ≡ a)
-kept-on r a b n e h = subst (λ (m : ℕ). OnOk r (n ≡ m)) e h
-
 pub close_if-requires-clause-room : goal.close_if-requires-clause-room
 close_if-requires-clause-room g c = subst (λ (n : ℕ). n < 2 ^ 64 - 1) (sym (c.in_ok-tell_unit.ensures.plays c.requires.kept.frames).plays.2) c.requires.count
 
@@ -152,7 +149,7 @@ pub join-requires-clause-fits : goal.join-requires-clause-fits
 join-requires-clause-fits g c = (first-met _ _ _ (first-met _ _ _ c.in_ok-check_header.ensures).1).0
 
 pub returns-clause-kept : goal.returns-clause-kept
-returns-clause-kept g c = kept-on c.join.result _ _ _ (c.in_ok-close_if.ensures.kept ∙ (c.in_ok-tell_unit.ensures.plays c.requires.kept.frames).plays.2)
+returns-clause-kept g c = quiet-after c.join.result _ _ _ (c.in_ok-close_if.ensures.kept ∙ (c.in_ok-tell_unit.ensures.plays c.requires.kept.frames).plays.2)
     c.join.ensures.kept
 
 pub close_if-requires-clause-kept : goal.close_if-requires-clause-kept

@@ -1,5 +1,5 @@
 use Rattle.std.proofs.Common.{◌≡◌, ◌≤◌, ℕ, List, [], ◌∷◌, ◌++◌, Bor, max, map, length, slice_index_or, ⊎_elim, refl, sym, ap, ◌∙◌, subst, arith}
-use Rattle.std.proofs.lemmas.Bool.{true≢false}
+use Rattle.std.proofs.lemmas.Bool.{true≢false, not-false}
 use Rattle.std.proofs.lemmas.List.{length-map, map-append, take_all}
 use Rattle.std.proofs.lemmas.List.Elements.{All-nil, All-push}
 use Rattle.h264_report.proofs.Known.{sends-is, sends-more, sends-none}
@@ -9,7 +9,7 @@ use Rattle.h264v.proofs.Statuses.{worst-more}
 use Rattle.h264v.proofs.Texts.{none-texts, texts-more}
 use Rattle.h264v.proofs.Told.{taken}
 use Rattle.h264v.proofs.ToldReads.{grows-by-one, tells-next, tells-none}
-use Rattle.h264v.proofs.Writing.{IsWritten, each-written, not-false, written-of}
+use Rattle.h264v.proofs.Writing.{IsWritten, each-written, written-of}
 use Rattle.h264v.specs.Files.{one_more}
 use Rattle.h264v.specs.Words.{system_name}
 use Rattle.h264v.proofs.more.do_files.Goals as goal

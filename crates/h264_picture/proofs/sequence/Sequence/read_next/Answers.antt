@@ -1,8 +1,8 @@
 use Rattle.h264_mbsyntax.proofs.Quantiser.{next-some}
 use Rattle.h264_picture.specs.Levels.{transform_fits}
 use Rattle.std.proofs.Common.{◌≡◌, refl}
-use Rattle.h264_picture.proofs.Steps.{on-ok}
 use Rattle.h264_picture.proofs.sequence.Sequence.read_next.Goals as goal
+use Rattle.h264_base.proofs.Plain.{on-ok}
 
 pub returns-in-Next : goal.returns-in-Next
 returns-in-Next g c =

@@ -4,8 +4,9 @@ use Rattle.h264_base.proofs.Steps.{bind, stop, checked}
 use Rattle.h264_mbsyntax.specs.Slice.{run_of_skips, after_run}
 use Rattle.h264_mbsyntax.proofs.Quantiser.{after-some}
 use Rattle.h264_picture.specs.Levels.{transform_fits}
-use Rattle.h264_picture.proofs.Steps.{run-left, on-ok}
+use Rattle.h264_picture.proofs.Steps.{run-left}
 use Rattle.h264_picture.proofs.sequence.Sequence.read_run.Goals as goal
+use Rattle.h264_base.proofs.Plain.{on-ok}
 
 pub returns-in_err-run-clause-meets : goal.returns-in_err-run-clause-meets
 unfolding run_of_skips

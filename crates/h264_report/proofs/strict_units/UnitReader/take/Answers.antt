@@ -1,8 +1,9 @@
 use Rattle.std.proofs.Common.{List, ℕ, [], ◌++◌, take, refl, sym, ap, subst, ◌∙◌}
 use Rattle.std.proofs.lemmas.List.{append_assoc, append-nil}
 use Rattle.h264_report.specs.StrictUnits.{TookBytes}
-use Rattle.h264_report.proofs.Units.{took-stopped, parts-of, empty-of}
+use Rattle.h264_report.proofs.Units.{took-stopped, parts-of}
 use Rattle.h264_report.proofs.strict_units.UnitReader.take.Goals as goal
+use Rattle.h264_verify.proofs.Familiar.{none-left}
 
 pub loop-rest-init : goal.loop-rest-init
 loop-rest-init c =
@@ -28,7 +29,7 @@ returns-else-not-is_empty c before t =
     let s = c.loop-rest.self in
     let done = c.loop-rest.invariant.0 in
     subst (λ (l : List ℕ). TookBytes s.splitter s.extent s.noted (before ++ l))
-    (sym (c.loop-rest.invariant.1 ∙ ap (λ l. done ++ l) (empty-of _ (sym c.is_empty.ensures ∙ c.if-not-is_empty.false)) ∙ append-nil done))
+    (sym (c.loop-rest.invariant.1 ∙ ap (λ l. done ++ l) (none-left _ (sym c.is_empty.ensures ∙ c.if-not-is_empty.false)) ∙ append-nil done))
     (c.loop-rest.invariant.2 before t)
 
 -- it looks at no more

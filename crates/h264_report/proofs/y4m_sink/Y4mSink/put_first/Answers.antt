@@ -3,12 +3,8 @@ use Rattle.std.specs.Result.{is_err}
 use Rattle.h264_report.specs.Frames.{shown_bytes}
 use Rattle.h264_report.specs.Told.{ended}
 use Rattle.h264_report.specs.Y4m.{framed}
-use Rattle.h264_report.proofs.Known.{front-is, sends-is}
+use Rattle.h264_report.proofs.Known.{front-is, sends-is, ok-of}
 use Rattle.h264_report.proofs.y4m_sink.Y4mSink.put_first.Goals as goal
-
-ok-of : {X E A : Type 0} (r : Result X E) → false ≡ is_err r → OnOk r A → A
-ok-of (Ok x) e a = a
-ok-of (Err x) e a = absurd (let f : false ≡ true = e in cc)
 
 pub returns-in-Ok-clause-ok : goal.returns-in-Ok-clause-ok
 returns-in-Ok-clause-ok g c =
