@@ -262,3 +262,10 @@ check_met took failures rule bit false old s (Err e) c = let P : Stop →
 pub checked : {S : Type 0} (took : S → List Call → Type 0) (failures : S → ℕ) {rule : Rule} {bit : ℕ} {holds : Bool} (old : Reader) (s : S)
     {r : Result (Unit {0}) Stop} → Checks rule bit holds r → Meets (span took failures s s) (Is (λ (u : Unit {0}). u)) (check rule bit holds) old old r
 checked took failures {rule} {bit} {holds} old s {r} c = record { meets = check_met took failures rule bit holds old s r c.checks; same = refl }
+
+-- a part that is read last, seen otherwise
+pub seen-last : {X A B S : Type 0} {took : S → List Call → Type 0} {failures : S → ℕ} {R : X → A → Type 0} {R' : X → B → Type 0} {g : Grammar A} (f : A → B)
+    {old new : Reader} {s s' : S} (r : Result X Stop) → ((x : X) (v : A) → R x v → R' x (f v)) → Meets (span took failures s s') R g old new r →
+    Meets (span took failures s s') R' (g >>= (λ v. Done (f v))) old new r
+seen-last f (Ok x) h m = bind_as _ m (λ v e. done _ _ _ _ _ _ _ (h x v e))
+seen-last f (Err e) h m = stop _ m

@@ -6,7 +6,6 @@ use Rattle.std.specs.Int.{w8, bit_at, trailing_zeros}
 use Rattle.std.proofs.lemmas.Nat.{pow_pos}
 use Rattle.std.proofs.lemmas.Nat.Bits.{bit_at-trailing_zeros}
 use Rattle.std.proofs.lemmas.Bool.{cases_lt, eq-eqb}
-use Rattle.std.proofs.lemmas.Bool.Decides.{nat_tests}
 use Rattle.h264_base.specs.Word.{digit, bit_of, StandsAt, ends_at, no_zero_at, padding}
 use Rattle.h264_base.specs.Grammar.{Ends}
 use Rattle.h264_base.proofs.Words.{more-one, from-padded, from-unpadded}

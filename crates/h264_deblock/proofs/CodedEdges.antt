@@ -12,7 +12,7 @@ use Rattle.std.proofs.lemmas.Bool.Decides.{nat_tests, Decides-int_eq}
 use Rattle.h264_tables.specs.declared.thresholds.Strength.TheVariants.{One, Two, Three}
 use Rattle.h264_plane.specs.declared.frame.Component.{Component}
 use Rattle.h264_plane.specs.declared.frame.Component.TheVariants.{Y, Cb, Cr}
-use Rattle.h264_near.specs.Coded.{CodedMacroblock, is_intra, number_of, chroma_number_of}
+use Rattle.h264_near.specs.Coded.{CodedMacroblock, is_intra, number_of, chroma_number_of, are_blank}
 use Rattle.h264_near.specs.Keeps.{AreContexts, Borders, IsEdge, filter_qp_of}
 use Rattle.h264_near.specs.Raster.{last_in, last_left}
 use Rattle.h264_near.specs.declared.context.Contexts.{Contexts}
@@ -21,7 +21,7 @@ use Rattle.h264_near.specs.declared.motion.Motion.{Motion}
 use Rattle.h264_near.specs.declared.motion.Vector.{Vector}
 use Rattle.h264_near.proofs.Neighbours.{last-above}
 use Rattle.h264_near.proofs.Places.{quotient, remainder, number-below}
-use Rattle.h264_deblock.specs.Filtering.{is_chroma, PlaneEdges, edges_of}
+use Rattle.h264_deblock.specs.Filtering.{PlaneEdges, edges_of}
 use Rattle.h264_deblock.specs.Strength.{Side, side_part, far, moves_apart, strength_of}
 use Rattle.h264_deblock.specs.declared.filtering.Edges.{Edges}
 use Rattle.h264_deblock.specs.declared.filtering.ChromaEdges.{ChromaEdges}
@@ -32,8 +32,9 @@ use Rattle.h264_deblock.specs.declared.edge_parameters.BoundaryStrength.{Boundar
 use Rattle.h264_deblock.specs.declared.edge_parameters.BoundaryStrength.TheVariants.{Zero, BelowFour, Four}
 use Rattle.h264_deblock.specs.declared.slice_filter.SliceFilter.{SliceFilter}
 use Rattle.h264_deblock.specs.CodedEdges.{named, block_at, strength_at, strengths, plane_qp, edge_of, filters, border, inner, edges_along, coded_edges}
-use Rattle.h264_deblock.specs.Steps.{LiesAlong, block_beside, number_at, inter_strength, inner_lines, alike, are_blank, are_like, are_alike, IsEven}
+use Rattle.h264_deblock.specs.Steps.{LiesAlong, block_beside, number_at, inter_strength, inner_lines, alike, are_like, are_alike, IsEven}
 use Rattle.h264_deblock.specs.Steps.{is_steady, side_qp, parameters, border_of, border_edge, inner_edge}
+use Rattle.h264_plane.specs.Frames.{is_chroma}
 
 -- ---- blocks
 

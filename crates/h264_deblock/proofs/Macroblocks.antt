@@ -6,7 +6,7 @@ use Rattle.h264_deblock.specs.Edge.{edge_after, lines_of, reads, writes, IsBesid
 use Rattle.h264_deblock.specs.declared.edge_parameters.EdgeParameters.{EdgeParameters}
 use Rattle.h264_deblock.proofs.Local.{edge_near, edge_far, holds_more}
 use Rattle.h264_plane.specs.Samples.{Samples, at, size_along, size_across, ShowsSamples}
-use Rattle.h264_plane.specs.Frames.{plane_of}
+use Rattle.h264_plane.specs.Frames.{plane_of, is_chroma}
 use Rattle.h264_plane.specs.declared.frame.Component.{Component}
 use Rattle.h264_plane.specs.declared.frame.Component.TheVariants.{Y, Cb, Cr}
 use Rattle.h264_plane.specs.declared.frame.Frame.{Frame}
@@ -14,7 +14,7 @@ use Rattle.h264_plane.specs.Places.{side, Before, After, Agree, with_own}
 use Rattle.h264_plane.proofs.Own.{moved, own_in, own_out}
 use Rattle.h264_plane.proofs.Raster.{raster, or_in, wrap_before}
 use Rattle.h264_deblock.specs.declared.filtering.Edges.{Edges}
-use Rattle.h264_deblock.specs.Filtering.{edges_of, is_chroma, AreEdges, IsOf, PlaneEdges, edge_or, edges_after, edges_done, IsInside, AreInside, Fits}
+use Rattle.h264_deblock.specs.Filtering.{edges_of, AreEdges, IsOf, PlaneEdges, edge_or, edges_after, edges_done, IsInside, AreInside, Fits}
 use Rattle.h264_deblock.specs.Filtering.{filtered_by, IsReached, unfiltered}
 
 -- where the edges of a direction begin, along them and across them

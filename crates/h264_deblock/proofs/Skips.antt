@@ -1,14 +1,14 @@
 -- A skipped macroblock: no inner edge has a bS but 0, and those to others are told by one motion.
 use Rattle.std.proofs.Common.{◌≡◌, ℕ, zero, suc, ◌<◌, ◌||◌, Bool, true, false, nat_lt, [], ◌∷◌, length, get_or, replicate, Some, None, refl, arith}
 use Rattle.std.proofs.lemmas.List.{get_or-replicate}
-use Rattle.h264_near.specs.Coded.{CodedMacroblock}
+use Rattle.h264_near.specs.Coded.{CodedMacroblock, are_blank}
 use Rattle.h264_near.specs.Skips.{IsSkipped}
 use Rattle.h264_near.specs.declared.context.Edge.{Edge}
 use Rattle.h264_near.specs.declared.motion.Motion.{Motion}
 use Rattle.h264_near.specs.declared.skipped.Skipped.{Skipped}
 use Rattle.h264_near.proofs.Skips.{contexts_of, skipped-contexts}
 use Rattle.h264_deblock.specs.CodedEdges.{strength_at, strengths}
-use Rattle.h264_deblock.specs.Steps.{LiesAlong, number_at, inter_strength, inner_lines, still_line, are_blank, are_like, IsEven}
+use Rattle.h264_deblock.specs.Steps.{LiesAlong, number_at, inter_strength, inner_lines, still_line, are_like, IsEven}
 use Rattle.h264_deblock.specs.declared.edge_parameters.BoundaryStrength.{BoundaryStrength}
 use Rattle.h264_deblock.specs.declared.edge_parameters.BoundaryStrength.TheVariants.{Zero}
 use Rattle.h264_deblock.proofs.CodedEdges.{four, few-at, outer-by, even-lines, blank, same-all, alike-self}

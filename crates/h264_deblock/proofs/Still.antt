@@ -8,7 +8,7 @@ use Rattle.h264_plane.specs.declared.frame.Component.TheVariants.{Y, Cb, Cr}
 use Rattle.h264_near.specs.Coded.{CodedMacroblock}
 use Rattle.h264_near.specs.Raster.{last_in, last_left}
 use Rattle.h264_deblock.specs.Edge.{lines_of, edge_at}
-use Rattle.h264_deblock.specs.Filtering.{PlaneEdges, edges_after, edges_done, is_chroma}
+use Rattle.h264_deblock.specs.Filtering.{PlaneEdges, edges_after, edges_done}
 use Rattle.h264_deblock.specs.Limits.{AreAll}
 use Rattle.h264_deblock.specs.Steps.{NamedBorder as Border}
 use Rattle.h264_deblock.specs.declared.edge_parameters.EdgeParameters.{EdgeParameters}
@@ -20,6 +20,7 @@ use Rattle.h264_deblock.specs.Steps.{inner_lines, still_line, border_of, border_
 use Rattle.h264_deblock.proofs.Beside.{edge_off}
 use Rattle.h264_deblock.proofs.CodedEdges.{luma-list, chroma-list, pair-is, inside, none-is}
 use Rattle.h264_deblock.proofs.Macroblocks.{after_none, after_skip, after_more, before_edge, holds_self, edges_all}
+use Rattle.h264_plane.specs.Frames.{is_chroma}
 
 -- an edge that is not filtered, or has no bS but 0
 abbrev IsOff : Option EdgeParameters → Type 0

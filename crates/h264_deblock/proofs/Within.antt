@@ -1,13 +1,11 @@
 -- The edges of the macroblocks of a coded picture lie in it.
-use Rattle.std.proofs.Common.{◌≡◌, ℕ, zero, suc, ◌+◌, ◌*◌, ◌/◌, ◌%◌, ◌<◌, ◌≤◌, Bool, true, false, IsTrue, List, length, get_or, Option, Some, None, is_some}
+use Rattle.std.proofs.Common.{◌≡◌, ℕ, ◌+◌, ◌*◌, ◌/◌, ◌%◌, ◌<◌, ◌≤◌, Bool, true, false, IsTrue, List, length, get_or, Option, Some, None, is_some}
 use Rattle.std.proofs.Common.{refl, arith}
-use Rattle.std.specs.List.{slice_get}
-use Rattle.std.specs.Option.{option_and_then}
 use Rattle.h264_plane.specs.declared.frame.Component.{Component}
 use Rattle.h264_plane.specs.declared.frame.Component.TheVariants.{Y, Cb, Cr}
 use Rattle.h264_near.specs.Coded.{CodedMacroblock}
-use Rattle.h264_near.specs.Raster.{before, last_in, last_left}
-use Rattle.h264_near.proofs.Neighbours.{last-above, above-there, left-there}
+use Rattle.h264_near.specs.Raster.{last_in, last_left}
+use Rattle.h264_near.proofs.Neighbours.{above-there, left-there}
 use Rattle.h264_near.proofs.Places.{quotient, remainder}
 use Rattle.h264_deblock.specs.Filtering.{AreInside}
 use Rattle.h264_deblock.specs.declared.slice_filter.SliceFilter.{SliceFilter}

@@ -37,12 +37,6 @@ edges_of e Y = luma_edges e.y
 edges_of e Cb = chroma_edges e.cb
 edges_of e Cr = chroma_edges (given_or e.cr e.cb)
 
--- whether a plane is filtered as chroma (chromaStyleFilteringFlag)
-abbrev pub is_chroma : Component → Bool
-is_chroma Y = false
-is_chroma Cb = true
-is_chroma Cr = true
-
 -- samples after an edge that may be filtered
 unfoldable pub edge_or : Option EdgeParameters → Bool → Bool → EdgePlace → Grid → Grid
 edge_or None vertical chroma place s x y = s x y

@@ -5,7 +5,7 @@ use Rattle.std.specs.List.{list_all}
 use Rattle.std.specs.Option.{option_map}
 use Rattle.h264_tables.specs.ChromaQp.{chroma_qp_of}
 use Rattle.h264_tables.specs.declared.thresholds.Strength.TheVariants.{One, Two}
-use Rattle.h264_near.specs.Coded.{CodedMacroblock, number_of}
+use Rattle.h264_near.specs.Coded.{CodedMacroblock, number_of, are_blank}
 use Rattle.h264_near.specs.Keeps.{Lower, Right, filter_qp_of}
 use Rattle.h264_near.specs.Partition.{MovesByPartition}
 use Rattle.h264_near.specs.declared.partition.Partition.{Partition}
@@ -58,9 +58,6 @@ alike (Some a) (Some b) = a.picture == b.picture && int_eq a.vector.x b.vector.x
 alike (Some a) None = false
 alike None (Some b) = false
 alike None None = true
-
-abbrev pub are_blank : List ℕ → Bool
-are_blank totals = list_all (λ t. t == 0) totals
 
 abbrev pub are_like : Option Motion → List (Option Motion) → Bool
 are_like first motions = list_all (λ m. alike m first) motions

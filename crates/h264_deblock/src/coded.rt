@@ -5,13 +5,13 @@ ghost use Rattle.std.specs.Prelude.{◌≡◌, ℕ, ◌+◌, ◌*◌, ◌<◌, �
 ghost use Rattle.std.specs.Prelude.{None, is_some};
 ghost use Rattle.h264_tables.specs.ChromaQp.{clip_51};
 ghost use Rattle.h264_plane.specs.declared.frame.Component.{Component};
-ghost use Rattle.h264_plane.specs.Frames.{plane_of};
+ghost use Rattle.h264_plane.specs.Frames.{plane_of, is_chroma};
 ghost use Rattle.h264_plane.specs.Places.{side};
 ghost use Rattle.h264_plane.specs.Samples.{at, ShowsSamples, IsSized};
 ghost use Rattle.h264_near.specs.Raster.{last_in, last_left};
 ghost use Rattle.h264_near.specs.Coded.{CodedMacroblock};
 ghost use Rattle.h264_near.specs.Keeps.{Keeps, AreContexts, IsEdge};
-ghost use Rattle.h264_deblock.specs.Filtering.{edges_of, edges_done, is_chroma, AreInside};
+ghost use Rattle.h264_deblock.specs.Filtering.{edges_of, edges_done, AreInside};
 ghost use Rattle.h264_deblock.specs.declared.slice_filter.SliceFilter.{SliceFilter as Filter};
 ghost use Rattle.h264_deblock.specs.CodedEdges.{filters, coded_edges as edges_of_coded};
 ghost use Rattle.h264_deblock.specs.Steps.{LiesAlong, IsEven, side_qp, parameters, border_of, border_edge, inner_edge, IsStill, MovesBy};

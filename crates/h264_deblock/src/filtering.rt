@@ -1,10 +1,10 @@
 ghost use Rattle.std.specs.Prelude.{◌≡◌, ℕ, ◌+◌, ◌*◌, ◌<◌, ◌≤◌, true, false, IsTrue, is_some, get_or, None};
 ghost use Rattle.h264_plane.specs.Samples.{Samples, at, ShowsSamples, size_along, size_across};
-ghost use Rattle.h264_plane.specs.Frames.{plane_of};
+ghost use Rattle.h264_plane.specs.Frames.{plane_of, is_chroma};
 ghost use Rattle.h264_plane.specs.Places.{side, Agree};
 ghost use Rattle.h264_plane.specs.declared.frame.Component.{Component};
 ghost use Rattle.h264_deblock.specs.Edge.{lines_of, edge_at};
-ghost use Rattle.h264_deblock.specs.Filtering.{edges_after, edges_done, luma_edges, chroma_edges as chroma_edges_of, edges_of, is_chroma, AreInside};
+ghost use Rattle.h264_deblock.specs.Filtering.{edges_after, edges_done, luma_edges, chroma_edges as chroma_edges_of, edges_of, AreInside};
 ghost use Rattle.h264_deblock.specs.Filtering.{AreEdges, IsOf, PlaneEdges, filtered_by, unfiltered};
 
 use crate::edge_parameters::EdgeParameters;

@@ -3,13 +3,13 @@
 
 ghost use Rattle.std.specs.Prelude.{◌≡◌, ℕ, ◌+◌, ◌*◌, ◌<◌, ◌≤◌, Bool, true, false, IsTrue, is_some, List, length, Option, Some, None};
 ghost use Rattle.h264_plane.specs.declared.frame.Component.{Component};
-ghost use Rattle.h264_plane.specs.Frames.{plane_of};
+ghost use Rattle.h264_plane.specs.Frames.{plane_of, is_chroma};
 ghost use Rattle.h264_plane.specs.Places.{side};
 ghost use Rattle.h264_plane.specs.Samples.{at, ShowsSamples, IsSized};
 ghost use Rattle.h264_near.specs.Coded.{CodedMacroblock};
 ghost use Rattle.h264_near.specs.Keeps.{Keeps, IsEdge};
 ghost use Rattle.h264_near.specs.Skips.{IsSkipped};
-ghost use Rattle.h264_deblock.specs.Filtering.{edges_done, is_chroma};
+ghost use Rattle.h264_deblock.specs.Filtering.{edges_done};
 ghost use Rattle.h264_deblock.specs.declared.slice_filter.SliceFilter.{SliceFilter as Filter};
 ghost use Rattle.h264_deblock.specs.CodedEdges.{named, strength_at, strengths, coded_edges as edges_of_coded};
 ghost use Rattle.h264_deblock.specs.Marks.{AreStill};
@@ -21,7 +21,8 @@ use crate::coded::is_still;
 use crate::named::Word;
 use crate::plane_level::Border;
 use crate::slice_filter::{Deblocking, SliceFilter, is_filtered};
-use crate::strengths::{FOURS, InnerStrengths, ZEROS, are_blank, are_like, inter};
+use crate::strengths::{FOURS, InnerStrengths, ZEROS, are_like, inter};
+use h264_near::block::are_blank;
 use h264_near::{Edge, Near, Skipped};
 use h264_plane::Frame;
 

@@ -9,14 +9,14 @@ ghost use Rattle.h264_near.specs.Keeps.{AreContexts};
 ghost use Rattle.h264_deblock.specs.CodedEdges.{named, strength_at, strengths};
 ghost use Rattle.h264_deblock.specs.Strength.{moves_apart};
 ghost use Rattle.h264_deblock.specs.Words.{names, all_names, IsWord, AreWords};
-ghost use Rattle.h264_deblock.specs.Steps.{LiesAlong, inter_strength, number_at, inner_lines, alike, are_blank, are_like, is_steady};
+ghost use Rattle.h264_deblock.specs.Steps.{LiesAlong, inter_strength, number_at, inner_lines, alike, are_like, is_steady};
 ghost use Rattle.h264_deblock.specs.Steps.{MovesBy, AreJoined, IsEven};
 ghost use Rattle.h264_near.specs.declared.motion.Motion.{Motion as Motions};
 ghost use Rattle.h264_deblock.specs.Steps.{HasStillLines};
 
 use crate::joined::is_joined;
 use crate::named::{FOUR, Word};
-use h264_near::block::number;
+use h264_near::block::{are_blank, number};
 use h264_near::{Contexts, Edge, Motion, Partition};
 
 /// The strengths of the inner edges of a macroblock by their line of blocks, from 1 on, and the place along it.
@@ -263,18 +263,6 @@ fn is_alike(a: &Option<Motion>, b: &Option<Motion>) -> bool
         return false;
     }
     a.vector.y == b.vector.y
-}
-
-/// Whether no block has coefficients, with no branch.
-#[inline(always)]
-pub(crate) fn are_blank(totals: &[u8]) -> bool
-    ensures { result ≡ are_blank totals.now }
-{
-    let mut blank = true;
-    for total in totals {
-        blank &= *total == 0;
-    }
-    blank
 }
 
 /// Whether blocks are predicted from one picture by one vector, as this one.

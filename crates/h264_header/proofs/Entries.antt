@@ -1,13 +1,12 @@
 -- The entries of a list that a code ends: their turns, their codes, and what other codes are.
-use Rattle.std.proofs.Common.{◌≡◌, ◌≢◌, ℕ, zero, suc, ◌+◌, ◌-◌, ◌<◌, ◌≤◌, ◌==◌, Bool, true, false, List, [], ◌∷◌, ◌++◌, Option, Some, None, Ok, Err, refl}
+use Rattle.std.proofs.Common.{◌≡◌, ◌≢◌, ℕ, zero, suc, ◌+◌, ◌-◌, ◌<◌, ◌≤◌, ◌==◌, List, [], ◌∷◌, ◌++◌, Option, Some, None, Ok, Err, refl}
 use Rattle.std.proofs.Common.{subst, arith}
 use Rattle.h264_base.specs.declared.stop.Stop.{Stop}
 use Rattle.h264_base.specs.Call.{Call, span}
-use Rattle.h264_base.specs.Word.{digit}
 use Rattle.h264_base.specs.declared.element_name.ElementName.TheVariants.{AbsDiffPicNumMinus1}
 use Rattle.h264_base.specs.Grammar.{Grammar, Done, ◌>>=◌}
 use Rattle.h264_base.specs.Meets.{Reader, Meets, Is}
-use Rattle.h264_base.proofs.Steps.{Leads, leads-starts, leads-on, bind_as, stop, done, finish}
+use Rattle.h264_base.proofs.Steps.{Leads, leads-starts, leads-on, stop, done, finish}
 use Rattle.h264_header.specs.Listed.{listed, listed_on}
 use Rattle.h264_bits.specs.Forms.{unsigned, unsigned_to}
 use Rattle.h264_header.specs.declared.header.FilterOffsets.{FilterOffsets}
@@ -27,13 +26,6 @@ use Rattle.h264_header.specs.RefList.{command, is_command_allowed}
 pub where-ok : {X E P Q : Type 0} (r : Result X E) → (P → Q) → OnOk r P → OnOk r Q
 where-ok (Ok x) f p = f p
 where-ok (Err e) f p = tt
-
--- a part that is read last, seen otherwise
-pub seen-last : {X A B S : Type 0} {took : S → List Call → Type 0} {failures : S → ℕ} {R : X → A → Type 0} {R' : X → B → Type 0} {g : Grammar A} (f : A → B)
-    {old new : Reader} {s s' : S} (r : Result X Stop) → ((x : X) (v : A) → R x v → R' x (f v)) → Meets (span took failures s s') R g old new r →
-    Meets (span took failures s s') R' (g >>= (λ v. Done (f v))) old new r
-seen-last f (Ok x) h m = bind_as _ m (λ v e. done _ _ _ _ _ _ _ (h x v e))
-seen-last f (Err e) h m = stop _ m
 
 module _ {A S : Type 0} {took : S → List Call → Type 0} {failures : S → ℕ} where
   -- before the first entry

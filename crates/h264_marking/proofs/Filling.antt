@@ -77,7 +77,7 @@ filled-refused n count prev held turn last now e bit f h err =
     let g = filled-none (filled (record n { frame_num = (last + 1) % n.max_frame_num }) now) (No bit FrameNum) e err in
     (f.frames ∙ step-none n (count - turn) (count - (turn + 1)) last now (left-is count turn h) g.0, g.1)
 
-none-left : (count : ℕ) → count - count ≡ 0
+pub none-left : (count : ℕ) → count - count ≡ 0
 none-left count = omega arith
 
 pub filled-last : (n : Numbering) (count prev : ℕ) (held : References) (last : ℕ) (now : References) → Filled n count prev held count last now →

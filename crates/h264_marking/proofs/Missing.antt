@@ -1,5 +1,5 @@
 -- The missing numbers before a picture follow one another from PrevRefFrameNum to frame_num.
-use Rattle.std.proofs.Common.{◌≡◌, ◌≢◌, ℕ, zero, suc, ◌+◌, ◌-◌, ◌%◌, ◌<◌, ◌≤◌, nat_le, ne_eqb, eq-eqb, ◌⊎◌, inl, inr, [], ◌==◌, false, true, Bool}
+use Rattle.std.proofs.Common.{◌≡◌, ◌≢◌, ℕ, zero, suc, ◌+◌, ◌-◌, ◌%◌, ◌<◌, ◌≤◌, nat_le, eq-eqb, ◌⊎◌, inl, inr, [], ◌==◌, false, true, Bool}
 use Rattle.std.proofs.Common.{if◌then◌else◌, refl, ap, sym, ◌∙◌, subst, arith}
 use Rattle.std.proofs.Math.Nat.{add-mod_left, mod-eq_of_lt, mod_self, eq-or-lt_of_le}
 use Rattle.std.proofs.Math.Numerals.{lt_of_le_of_ne}

@@ -30,7 +30,7 @@ use Rattle.h264_tables.specs.declared.table.Table.{Table}
 use Rattle.h264_tables.specs.Table.{code_table}
 use Rattle.h264_mbsyntax.specs.Coded.{patterned}
 use Rattle.h264_base.specs.Meets.{Reader, Meets, Checks}
-use Rattle.h264_base.proofs.Steps.{bind, bind_as, stop, done, checked}
+use Rattle.h264_base.proofs.Steps.{bind, stop, done, checked}
 use Rattle.h264_vectors.specs.declared.slice.SliceContext.{SliceContext}
 use Rattle.h264_mbsyntax.specs.Macroblock.{coded, pcm_of, by_type, inter}
 use Rattle.h264_mbsyntax.proofs.Loops.{whole}
@@ -40,13 +40,6 @@ use Rattle.h264_vectors.specs.Derived.{Derived}
 use Rattle.h264_vectors.specs.Agrees.{Agrees}
 use Rattle.h264_near.specs.declared.partition.Partition.{Partition}
 use Rattle.h264_near.specs.Partition.{MovesByPartition}
-
--- the part that is read last gives the whole
-pub ending : {X A B S : Type 0} {took : S → List Call → Type 0} {failures : S → ℕ} {R : X → A → Type 0} {R' : X → B → Type 0} {g : Grammar A} (f : A → B)
-    {old new : Reader} {s s' : S} (r : Result X Stop) → ((x : X) (v : A) → R x v → R' x (f v)) → Meets (span took failures s s') R g old new r →
-    Meets (span took failures s s') R' (g >>= (λ v. Done (f v))) old new r
-ending f (Ok x) k m = bind_as _ m (λ v e. done _ _ _ _ _ _ _ (k x v e))
-ending f (Err e) k m = stop _ m
 
 -- a check that is made last, and what is known where it holds
 pub ending-check : {B S : Type 0} {took : S → List Call → Type 0} {failures : S → ℕ} {R : Unit {0} → B → Type 0} {rule : Rule} {bit : ℕ} {holds : Bool}

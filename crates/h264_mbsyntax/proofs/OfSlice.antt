@@ -26,6 +26,7 @@ use Rattle.h264_mbsyntax.specs.Slice.{Step, skipped_of, skip, unskipped, after_r
 use Rattle.h264_mbsyntax.specs.OfSlice.{IsDerived, IsOfSlice, AreOfSlice}
 use Rattle.h264_mbsyntax.proofs.Fits.{all-derived}
 use Rattle.h264_mbsyntax.proofs.Possible.{possible, named}
+use Rattle.h264_base.proofs.Plain.{some-same}
 
 -- ---- one macroblock
 
@@ -100,9 +101,6 @@ module _ (width : ℕ) (slice : SliceContext) (picture : List CodedMacroblock) w
 
 none-of : {A : Type 0} (xs : List A) (x : A) → slice_get xs (length xs) ≡ Some x → ⊥
 none-of xs x e = let n = slice_get_past xs (length xs) (omega arith) in let s : None ≡ Some x = sym n ∙ e in absurd (cc)
-
-some-same : {A : Type 0} (x y : A) → Some x ≡ Some y → x ≡ y
-some-same x y e = cc
 
 module _ (width : ℕ) (slice : SliceContext) (before : List CodedMacroblock) where
   abbrev Are : List CodedMacroblock → Type 0

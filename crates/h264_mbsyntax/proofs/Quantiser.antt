@@ -1,5 +1,5 @@
 -- QP_Y,PRED after a macroblock, and macroblocks by the type of their slice and by runs.
-use Rattle.std.proofs.Common.{◌≡◌, ◌≢◌, ℕ, zero, suc, ◌-◌, Bool, true, false, not, nat_lt, List, [], ◌∷◌, ◌++◌, length, Some, Result, refl, ap, arith, lt-ltb}
+use Rattle.std.proofs.Common.{◌≡◌, ◌≢◌, ℕ, zero, suc, ◌-◌, Bool, true, nat_lt, List, [], ◌∷◌, ◌++◌, length, Some, Result, refl, ap, arith, lt-ltb}
 use Rattle.std.proofs.Common.{eq-eqb, length-append}
 use Rattle.std.specs.List.{slice_get}
 use Rattle.h264_base.specs.declared.mode.SliceType.{SliceType}

@@ -1,6 +1,7 @@
 -- The coded picture: what the macroblocks of a picture say, in decoding order, as far as they are decoded (7.4.5). To be read beside the standard.
 use Rattle.std.specs.Prelude.{ℕ, ◌+◌, ◌*◌, ◌/◌, ◌%◌, Bool, true, false, not, List, [], Option, Some, None, ℤ, ◌==◌, ◌&&◌, ◌||◌, if◌then◌else◌, slice_get}
 use Rattle.std.specs.Option.{option_map}
+use Rattle.std.specs.List.{list_all}
 use Rattle.std.proofs.Common.{get_or}
 use Rattle.h264_intra.specs.declared.luma4.Intra4x4PredMode.{Intra4x4PredMode}
 use Rattle.h264_intra.specs.declared.luma4.Intra4x4PredMode.TheVariants.{Dc}
@@ -92,3 +93,7 @@ mode_part slice constrained x y m = if m.slice == slice && (is_intra m.predictio
 
 unfoldable pub motion_part : ℕ → ℕ → ℕ → CodedMacroblock → Option (Option Motion)
 motion_part slice x y m = if m.slice == slice then motion_in m.prediction (number_of x y) else None
+
+-- no block has a coefficient: each total_coeff is 0
+abbrev pub are_blank : List ℕ → Bool
+are_blank totals = list_all (λ t. t == 0) totals

@@ -2,7 +2,7 @@
 #![tactic(auto)]
 
 ghost use Rattle.std.specs.Prelude.{◌≡◌, ◌-◌, ◌<◌, IfSome, None};
-ghost use Rattle.h264_near.specs.Coded.{column_of, row_of, number_of};
+ghost use Rattle.h264_near.specs.Coded.{column_of, row_of, number_of, are_blank};
 
 /// The column of a block in its macroblock, by its number.
 #[tactic(auto, unfolding(crate::specs::Coded::column_of))]
@@ -74,4 +74,16 @@ pub(crate) fn above_of(b: usize) -> Option<usize>
         return Some(b - 6);
     }
     None
+}
+
+/// Whether no block has a coefficient, by total_coeff of each. There is no branch.
+#[inline(always)]
+pub fn are_blank(totals: &[u8]) -> bool
+    ensures { result ≡ are_blank totals.now }
+{
+    let mut blank = true;
+    for total in totals {
+        blank &= *total == 0;
+    }
+    blank
 }

@@ -4,7 +4,7 @@ use Rattle.std.proofs.Common.{length-append}
 use Rattle.std.proofs.lemmas.Bool.{cases_lt}
 use Rattle.std.proofs.lemmas.Nat.{mul-le}
 use Rattle.h264_plane.specs.Samples.{at, IsSized, ShowsSamples}
-use Rattle.h264_plane.specs.Frames.{plane_of}
+use Rattle.h264_plane.specs.Frames.{plane_of, is_chroma}
 use Rattle.h264_plane.specs.Places.{side, Agree}
 use Rattle.h264_plane.specs.declared.frame.Component.{Component}
 use Rattle.h264_plane.specs.declared.frame.Frame.{Frame}
@@ -17,7 +17,7 @@ use Rattle.h264_recon.specs.Lines.{AreStored, store_of}
 use Rattle.h264_recon.specs.Step.{HasMacroblock, joined}
 use Rattle.h264_recon.specs.declared.store.Lines.{Lines}
 use Rattle.h264_recon.proofs.Step.{stored_wrap, stored_none, stored_moves, joined_before}
-use Rattle.h264_deblock.specs.Filtering.{PlaneEdges, edges_done, is_chroma, IsOf}
+use Rattle.h264_deblock.specs.Filtering.{PlaneEdges, edges_done, IsOf}
 use Rattle.h264_deblock.specs.CodedEdges.{coded_edges}
 use Rattle.h264_deblock.proofs.Macroblocks.{side_lines, reached_more, reached_wrap, local}
 use Rattle.h264_picture.specs.Decoded.{Parameters, filters, given_by, macroblock_at, edges_at, IsDecoded}

@@ -1,6 +1,6 @@
 -- The samples of a picture in the making.
 use Rattle.std.proofs.Common.{◌≡◌, ℕ, ◌+◌, ◌*◌, ◌/◌, ◌<◌, Bool, true, false, IsTrue, IsOk, IfOk, Result, Ok, Err, List, [], length, get_or, Option, Some}
-use Rattle.std.proofs.Common.{None, refl, sym, ap, ◌∙◌, subst, arith, ℤ}
+use Rattle.std.proofs.Common.{None, refl, sym, ap, ◌∙◌, subst, ℤ}
 use Rattle.std.proofs.lemmas.Bool.{false≢true}
 use Rattle.std.proofs.Math.Nat.{mul_comm}
 use Rattle.h264_plane.specs.Frames.{frame_at, IsFrame}

@@ -7,7 +7,6 @@ use Rattle.std.proofs.lemmas.Bool.Decides.{nat_tests}
 use Rattle.h264_plane.specs.declared.plane.TheConstants.{MAX_SIDE}
 use Rattle.h264_sps.specs.declared.sps.FrameSize.{FrameSize}
 use Rattle.h264_plane.specs.declared.frame.Component.TheVariants.{Y, Cb, Cr}
-use Rattle.h264_picture.specs.Holds.{is_frame_size}
 use Rattle.h264_recon.specs.Lines.{store_of}
 use Rattle.h264_near.specs.declared.near.Near.{Near}
 use Rattle.h264_recon.specs.declared.macroblock.Position.{Position}
@@ -16,6 +15,7 @@ use Rattle.h264_picture.specs.declared.frames.Frames.{Frames}
 use Rattle.h264_picture.specs.declared.picture.Picture.{Picture}
 use Rattle.h264_picture.specs.Lent.{AreFrames}
 use Rattle.h264_picture.specs.Sound.{ArePlaces, IsSound}
+use Rattle.h264_sps.specs.Usable.{is_frame_size}
 
 pub same-places : (old new : Frames) (ps : List ℕ) → length new.pool ≡ length old.pool → new.place ≡ old.place → ArePlaces old ps → ArePlaces new ps
 same-places old new ps n p a = record {

@@ -32,13 +32,14 @@ use Rattle.h264_recon.specs.declared.macroblock.Motion.{Motion}
 use Rattle.h264_recon.proofs.Pool.{motion_inside, inside_some}
 use Rattle.h264_recon.proofs.Tables.{table-at}
 use Rattle.h264_deblock.specs.declared.slice_filter.SliceFilter.{SliceFilter}
-use Rattle.h264_deblock.specs.Filtering.{filtered_by, is_chroma, unfiltered}
+use Rattle.h264_deblock.specs.Filtering.{filtered_by, unfiltered}
 use Rattle.h264_deblock.specs.CodedEdges.{plane_qp, edge_of, border, inner, edges_along, coded_edges}
 use Rattle.h264_deblock.proofs.Macroblocks.{side_lines}
 use Rattle.h264_picture.specs.Decoded.{Parameters, filters, nothing, macroblock_at, edges_if, edges_at}
 use Rattle.h264_picture.specs.Sources.{Sources, IsDecodedFrom, IsSharedBy, AreSharedBy, AreShared}
 use Rattle.h264_picture.proofs.Carried.{same-edges}
 use Rattle.h264_picture.proofs.Prefix.{fits}
+use Rattle.h264_plane.specs.Frames.{is_chroma}
 
 -- ---- inter prediction
 

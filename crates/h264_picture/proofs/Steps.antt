@@ -22,7 +22,7 @@ use Rattle.h264_picture.specs.declared.sequence.Sequence.{Sequence}
 use Rattle.h264_mbsyntax.specs.declared.slice.Standing.{Standing}
 use Rattle.h264_picture.specs.Holds.{HoldsIn, IsPast, IsWithin, KeepsPlace}
 use Rattle.h264_picture.specs.Making.{Making, MakesWith, HasSamples, MakesIn, Reads}
-use Rattle.std.proofs.Common.{get_or, ◌≢◌, IsTrue, OnOk}
+use Rattle.std.proofs.Common.{get_or, ◌≢◌, IsTrue}
 use Rattle.std.specs.Prelude.{nat_le}
 use Rattle.std.proofs.lemmas.Bool.Decides.{nat_tests}
 use Rattle.h264_picture.specs.Sound.{IsPlace}

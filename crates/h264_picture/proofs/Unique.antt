@@ -11,11 +11,12 @@ use Rattle.h264_recon.specs.Constructed.{IsPossible}
 use Rattle.h264_recon.proofs.Existence.{some_picture}
 use Rattle.h264_recon.proofs.Unique.{unique}
 use Rattle.h264_plane.proofs.Raster.{side_least}
-use Rattle.h264_deblock.specs.Filtering.{filtered_by, is_chroma, unfiltered}
+use Rattle.h264_deblock.specs.Filtering.{filtered_by, unfiltered}
 use Rattle.h264_deblock.proofs.Macroblocks.{local}
 use Rattle.h264_deblock.proofs.Macroblocks.{side_lines}
 use Rattle.h264_picture.specs.Decoded.{Parameters, macroblock_at, edges_at, IsDecoded}
 use Rattle.h264_picture.proofs.Prefix.{within-at, fits}
+use Rattle.h264_plane.specs.Frames.{is_chroma}
 
 pub one_decoded : (k : Setting) (place : ℕ → ℕ) (slices : ℕ → Parameters) (picture : List CodedMacroblock) (f g : Component → ℕ → ℕ → ℕ) →
     ((c r : ℕ) → c < k.across → r < k.down →

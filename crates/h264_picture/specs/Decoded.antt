@@ -10,8 +10,9 @@ use Rattle.h264_recon.specs.Inter.{Setting}
 use Rattle.h264_recon.specs.Constructed.{Coded, Constructed}
 use Rattle.h264_recon.specs.Given.{given, slice_settings}
 use Rattle.h264_deblock.specs.declared.slice_filter.SliceFilter.{SliceFilter}
-use Rattle.h264_deblock.specs.Filtering.{PlaneEdges, filtered_by, is_chroma, unfiltered}
+use Rattle.h264_deblock.specs.Filtering.{PlaneEdges, filtered_by, unfiltered}
 use Rattle.h264_deblock.specs.CodedEdges.{coded_edges}
+use Rattle.h264_plane.specs.Frames.{is_chroma}
 
 -- what the samples of a slice's macroblocks depend on beside these: constrained_intra_pred_flag, its filter with chroma_qp_index_offset, and the weights
 -- of its reference indexes, by refIdxL0, where they have any

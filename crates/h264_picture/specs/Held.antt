@@ -1,6 +1,6 @@
 -- A picture in the making: what the frame and the lines hold after the macroblocks so far. A working form.
 use Rattle.std.specs.Prelude.{ℕ, ◌+◌, ◌*◌, ◌/◌, ◌%◌, ◌<◌, List, length}
-use Rattle.h264_plane.specs.Frames.{plane_of}
+use Rattle.h264_plane.specs.Frames.{plane_of, is_chroma}
 use Rattle.h264_plane.specs.Places.{side}
 use Rattle.h264_plane.specs.declared.frame.Component.{Component}
 use Rattle.h264_plane.specs.declared.frame.Frame.{Frame}
@@ -9,7 +9,7 @@ use Rattle.h264_recon.specs.Inter.{Setting}
 use Rattle.h264_recon.specs.Constructed.{Coded, IsMade, IsPossible}
 use Rattle.h264_recon.specs.Lines.{AreStored}
 use Rattle.h264_recon.specs.declared.store.Lines.{Lines}
-use Rattle.h264_deblock.specs.Filtering.{PlaneEdges, IsOf, IsReached, is_chroma, unfiltered}
+use Rattle.h264_deblock.specs.Filtering.{PlaneEdges, IsOf, IsReached, unfiltered}
 use Rattle.h264_picture.specs.Decoded.{Parameters, macroblock_at, edges_at}
 
 -- the macroblock meets its equations, and its modes refer to sides that there are

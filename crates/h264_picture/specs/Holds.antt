@@ -1,18 +1,13 @@
 -- What the work holds of a picture. A working form.
-use Rattle.std.specs.Prelude.{◌≡◌, ℕ, ◌+◌, ◌-◌, ◌*◌, ◌<◌, ◌≤◌, nat_lt, nat_le, ◌&&◌, Bool, true, List, length, Option, Some, None, slice_get}
+use Rattle.std.specs.Prelude.{◌≡◌, ℕ, ◌+◌, ◌-◌, ◌*◌, ◌<◌, ◌≤◌, ◌&&◌, true, List, length, Option, Some, None, slice_get}
 use Rattle.h264_near.specs.Coded.{CodedMacroblock}
 use Rattle.h264_near.specs.Keeps.{Keeps, width_of}
-use Rattle.h264_sps.specs.declared.sps.FrameSize.{FrameSize}
 use Rattle.h264_vectors.specs.Derived.{has_picture}
 use Rattle.h264_vectors.specs.declared.slice.SliceContext.{SliceContext}
 use Rattle.h264_mbsyntax.specs.declared.slice.Standing.{Standing}
 use Rattle.h264_mbsyntax.specs.declared.slice.Standing.TheVariants.{Next, Skipping}
 use Rattle.h264_picture.specs.declared.sequence.Sequence.{Sequence}
 use Rattle.h264_picture.specs.declared.work.Work.{Work}
-
--- a frame of some macroblocks, of no more than the greatest MaxFS, in rows and columns of no more than Sqrt(8 * MaxFS) (A.3.1)
-abbrev pub is_frame_size : FrameSize → Bool
-is_frame_size s = nat_lt 0 s.width && (nat_lt 0 s.height && (nat_le (s.width * s.height) 36864 && (nat_le s.width 543 && nat_le s.height 543)))
 
 -- the last of these macroblocks is of a slice that began before their end
 abbrev pub IsPast : List CodedMacroblock → Type 0

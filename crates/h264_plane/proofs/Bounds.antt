@@ -1,5 +1,6 @@
 -- Numbers within bounds.
-use Rattle.std.proofs.Common.{ℕ, ◌+◌, ◌≤◌, ℤ, ◌+ℤ◌, arith, ints}
+use Rattle.std.proofs.Common.{ℕ, ◌+◌, ◌≤◌, ℤ, ◌+ℤ◌, arith}
+use Rattle.std.proofs.lemmas.Int.{ints}
 use Rattle.h264_plane.specs.Clip.{IsIn}
 
 pub in_more : (m n : ℕ) (z : ℤ) → m ≤ n → IsIn m z → IsIn n z

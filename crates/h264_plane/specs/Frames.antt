@@ -1,5 +1,5 @@
 -- Frames by their three planes. A working form.
-use Rattle.std.specs.Prelude.{◌≡◌, ◌≢◌, ℕ, ◌/◌, ◌%◌, nat_lt, List, length, get_or, Option, Some, None, if◌then◌else◌}
+use Rattle.std.specs.Prelude.{◌≡◌, ◌≢◌, ℕ, ◌/◌, ◌%◌, Bool, true, false, nat_lt, List, length, get_or, Option, Some, None, if◌then◌else◌}
 use Rattle.std.specs.Borrow.{Lends, MutBor, Fml}
 use Rattle.h264_plane.specs.Places.{Grid}
 use Rattle.h264_plane.specs.Samples.{Samples, ShowsSamples, IsSized, no_samples}
@@ -60,3 +60,9 @@ pub record KeepsOtherFrames (old new : List Frame) (place : ℕ) : Type 0 where
 -- the frames of a pool by place, where there is one
 abbrev pub lent_by : List Frame → ℕ → Option Frame
 lent_by frames place = if nat_lt place (length frames) then Some (frame_at frames place) else None
+
+-- whether a plane is one of chroma
+abbrev pub is_chroma : Component → Bool
+is_chroma Y = false
+is_chroma Cb = true
+is_chroma Cr = true

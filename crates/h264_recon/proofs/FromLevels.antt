@@ -19,7 +19,7 @@ use Rattle.h264_scale.specs.declared.levels.ChromaLevels.{ChromaLevels}
 use Rattle.h264_scale.specs.declared.levels.ChromaLevels.TheVariants as chroma
 use Rattle.h264_scale.proofs.Whole.{d_of_blocks, d_of_dc16, d_of_dc2, luma_whole, levels_whole, not_coded_luma_fits, not_coded_chroma_fits, all_to, none_fit}
 use Rattle.h264_scale.proofs.Whole.{none_residual}
-use Rattle.h264_recon.specs.Levels.{are_blank, are_zero, luma_blocks, chroma_blocks}
+use Rattle.h264_recon.specs.Levels.{are_zero, luma_blocks, chroma_blocks}
 use Rattle.h264_recon.specs.ReadLevels.{luma_by, luma_read, luma16_read, chroma_read, chroma_by, is_pcm, levels_in, d_in, AreBlocksOf}
 use Rattle.h264_recon.specs.Residuals.{IsChromaOf}
 use Rattle.h264_recon.specs.declared.scaled.ReadLevels.{ReadLevels}
@@ -28,6 +28,7 @@ use Rattle.h264_recon.specs.declared.scaled.PlainBlocks.{PlainBlocks}
 use Rattle.h264_recon.specs.declared.scaled.BlocksWithDc.{BlocksWithDc}
 use Rattle.h264_recon.specs.declared.scaled.LumaBlocks.TheVariants.{NotCoded, Plain, WithDc}
 use Rattle.h264_recon.proofs.Tables.{table-at}
+use Rattle.h264_near.specs.Coded.{are_blank}
 
 -- a plane whose DC levels are 0, and which has no others
 pub uncoded : (t t' : List ℕ) (d d' : List ℤ) (ac : List (List ℤ)) (b : Bool) → b ≡ true → b ≡ (are_zero d && are_blank t) → d ≡ d' → t ≡ t' →

@@ -1,6 +1,6 @@
 -- Two rows of four samples side by side, and their sums with a residual.
 use Rattle.std.proofs.Common.{◌≡◌, ◌⊎◌, inl, inr, ℕ, suc, ◌+◌, ◌*◌, ◌%◌, ◌^◌, ◌<◌, ◌≤◌, List, map, length, slice_index, get_or, drop, get_or-take}
-use Rattle.std.proofs.Common.{get_or-drop, ◌++◌, [], ◌∷◌, ℤ, pos, negsuc, ◌+ℤ◌, arith, ap, ◌∙◌, below_more, w8, w16, of_z, to_z, FitsSigned, Fits, T, nat_abs}
+use Rattle.std.proofs.Common.{get_or-drop, ◌++◌, [], ◌∷◌, ℤ, pos, negsuc, ◌+ℤ◌, arith, ap, ◌∙◌, w8, w16, of_z, to_z, FitsSigned, Fits, T, nat_abs}
 use Rattle.std.proofs.Common.{unsigned_abs}
 use Rattle.std.proofs.lemmas.Int.{ints, fits_signed_from_abs}
 use Rattle.std.proofs.lemmas.List.{get_or-append_right}

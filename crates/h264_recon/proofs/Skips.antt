@@ -12,7 +12,6 @@ use Rattle.h264_near.specs.Skips.{IsSkipped}
 use Rattle.h264_near.proofs.Skips.{contexts_of, skipped-contexts}
 use Rattle.h264_vectors.specs.declared.slice.SliceContext.{SliceContext}
 use Rattle.h264_mbsyntax.specs.Possible.{IsPossible}
-use Rattle.h264_recon.specs.Constructed.{IsWithin}
 use Rattle.h264_recon.specs.Given.{available, no_sides, used_by, given, slice_settings}
 use Rattle.h264_recon.specs.Levels.{levels_of}
 use Rattle.h264_recon.specs.Placed.{ArePlaced, PointsInto}

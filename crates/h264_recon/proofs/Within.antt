@@ -15,8 +15,8 @@ use Rattle.h264_intra.specs.declared.luma16.Intra16x16PredMode.{Intra16x16PredMo
 use Rattle.h264_intra.specs.declared.chroma.IntraChromaPredMode.{IntraChromaPredMode}
 use Rattle.h264_intra.specs.declared.sides.Sides.{Sides}
 use Rattle.h264_recon.specs.declared.macroblock.Available.{Available}
-use Rattle.h264_near.specs.Raster.{before, last_in, last_left, last_corner}
-use Rattle.h264_near.proofs.Neighbours.{left-of, upper-of, corner-of, past-of, next-of, last-above, above-there, left-there, some-before}
+use Rattle.h264_near.specs.Raster.{before, last_corner}
+use Rattle.h264_near.proofs.Neighbours.{left-of, upper-of, corner-of, past-of, next-of, above-there, left-there, some-before}
 use Rattle.h264_near.proofs.Places.{quotient, remainder}
 use Rattle.h264_recon.specs.Constructed.{IsWithin}
 use Rattle.h264_recon.specs.Given.{available, no_sides, used_by}

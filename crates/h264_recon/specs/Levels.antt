@@ -3,7 +3,7 @@ use Rattle.std.specs.Prelude.{ℕ, ◌+◌, ◌*◌, ◌==◌, ◌&&◌, Bool, L
 use Rattle.std.specs.Ordering.{int_eq}
 use Rattle.std.specs.List.{list_all}
 use Rattle.h264_tables.specs.ChromaQp.{chroma_qp_of}
-use Rattle.h264_near.specs.Coded.{CodedMacroblock, Prediction, Intra4x4, Intra16x16, Pcm, Inter, Residual}
+use Rattle.h264_near.specs.Coded.{CodedMacroblock, Prediction, Intra4x4, Intra16x16, Pcm, Inter, Residual, are_blank}
 use Rattle.h264_scale.specs.declared.levels.LumaLevels.{LumaLevels}
 use Rattle.h264_scale.specs.declared.levels.LumaLevels.TheVariants as luma
 use Rattle.h264_scale.specs.declared.levels.ChromaLevels.{ChromaLevels}
@@ -14,10 +14,6 @@ use Rattle.h264_recon.specs.Table.{table}
 -- so many blocks of levels from the one with number b on
 abbrev pub blocks_from : ℕ → ℕ → List (List ℤ) → List (List ℤ)
 blocks_from b n levels = table n (λ k. get_or levels (b + k) [])
-
--- no block has a coefficient, no level is other than 0
-abbrev pub are_blank : List ℕ → Bool
-are_blank totals = list_all (λ t. t == 0) totals
 
 abbrev pub are_zero : List ℤ → Bool
 are_zero levels = list_all (λ l. int_eq l (pos 0)) levels

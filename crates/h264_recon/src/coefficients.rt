@@ -4,7 +4,7 @@
 ghost use Rattle.std.specs.Prelude.{◌≡◌, ◌≤◌};
 ghost use Rattle.h264_tables.specs.ChromaQp.{chroma_qp_of};
 ghost use Rattle.h264_mbsyntax.specs.Stored.{shown};
-ghost use Rattle.h264_recon.specs.Levels.{are_blank, are_zero};
+ghost use Rattle.h264_recon.specs.Levels.{are_zero};
 
 use h264_tables::chroma_qp;
 
@@ -27,18 +27,6 @@ pub(crate) fn shown4(stands: &[i16; 4], total: u8) -> [i16; 4]
         return [0; 4];
     }
     *stands
-}
-
-/// Whether no block has a coefficient, with no branch.
-#[inline(always)]
-pub(crate) fn are_blank(totals: &[u8]) -> bool
-    ensures { result ≡ are_blank totals.now }
-{
-    let mut blank = true;
-    for total in totals {
-        blank &= *total == 0;
-    }
-    blank
 }
 
 /// Whether no level is other than 0, with no branch.

@@ -9,10 +9,12 @@ ghost use Rattle.h264_mbsyntax.specs.Holds.{HoldsMacroblock};
 ghost use Rattle.h264_scale.specs.Residual.{residual_at, residual_fits, d_of, d_with_dc, HasEntries, AreIn};
 ghost use Rattle.h264_scale.specs.Macroblock.{luma_dc_fits};
 ghost use Rattle.h264_recon.specs.ReadLevels.{luma_read, luma_by, is_pcm as is_pcm_of, levels_in, d_in, AreBlocksOf};
-ghost use Rattle.h264_recon.specs.Levels.{are_zero as are_zero_of, are_blank as are_blank_of, levels_of};
+ghost use Rattle.h264_near.specs.Coded.{are_blank as are_blank_of};
+ghost use Rattle.h264_recon.specs.Levels.{are_zero as are_zero_of, levels_of};
 
-use crate::coefficients::{are_blank, are_zero, shown4, shown16};
+use crate::coefficients::{are_zero, shown4, shown16};
 use h264_mbsyntax::{Kind, Macroblock};
+use h264_near::block::are_blank;
 use h264_scale::{TransformRange, dc16, residual4, residual4_of_dc, residual4_with_dc};
 
 /// The levels of a macroblock as they were read, and chroma_qp_index_offset.

@@ -8,7 +8,6 @@ use Rattle.std.proofs.lemmas.List.{append_assoc, append-nil, get_or-set_other}
 use Rattle.h264_base.specs.Call.{Call, Tells, OfUnit, OfSlice, OfElement, OfFrame}
 use Rattle.h264_base.specs.declared.element_name.ElementName.{ElementName}
 use Rattle.h264_base.specs.declared.mode.SliceType.{SliceType}
-use Rattle.h264_report.specs.Chosen.{count_in}
 use Rattle.h264_report.specs.Strict.{after, after_element, after_unit, broken_by_element, after_slice, by_order, by_numbers, by_time, by_beginning, by_bytes}
 use Rattle.h264_report.specs.Strict.{has_other_length, picture_in, first_bit}
 use Rattle.h264_report.specs.Strict.{standing_after, places, bits_for, bit_of, broken_by, with_place, with_places, start, found_of, Advances, TookStrict}
@@ -18,6 +17,7 @@ use Rattle.h264_report.specs.declared.strict_rule.StrictRule.TheVariants as rule
 use Rattle.h264_report.specs.declared.strict.Standing.{Standing}
 use Rattle.h264_report.specs.declared.strict.Places.{Places}
 use Rattle.h264_report.specs.declared.strict.Strict.{Strict}
+use Rattle.h264_bits.specs.Forms.{natural}
 
 standing-more : (s : Standing) (calls : List Call) (call : Call) → standing_after s (calls ++ call ∷ []) ≡ after (standing_after s calls) call
 unfolding standing_after
@@ -135,8 +135,8 @@ none-stands = refl
 
 -- ---- each kind of call
 
-pub element-advances : (old new : Strict) (name : ElementName) (bit : ℕ) (v : ℤ) → new.standing ≡ after_element old.standing name (count_in v) →
-    ((r : StrictRule) → found_of new r ≡ with_places (found_of old r) (bits_for r bit (broken_by_element old.standing name (count_in v)))) →
+pub element-advances : (old new : Strict) (name : ElementName) (bit : ℕ) (v : ℤ) → new.standing ≡ after_element old.standing name (natural v) →
+    ((r : StrictRule) → found_of new r ≡ with_places (found_of old r) (bits_for r bit (broken_by_element old.standing name (natural v)))) →
     Advances (OfElement name bit v) old new
 unfolding after broken_by
 element-advances old new name bit v stands found = (stands, found)

@@ -1,6 +1,6 @@
 -- Which calls of a stream are left where one picture or one macroblock is chosen. To be read beside docs/OUTPUT.md.
 use Rattle.std.specs.Prelude.{ℕ, ◌+◌, ◌-◌, ◌^◌, ◌==◌, ◌&&◌, Bool, true, false, nat_lt, nat_le, if◌then◌else◌, List, [], ◌∷◌, ◌++◌}
-use Rattle.std.specs.Prelude.{ℤ, pos, negsuc, Option, None, Some, ◌≡◌, min, option_map, is_some}
+use Rattle.std.specs.Prelude.{ℤ, Option, None, Some, ◌≡◌, min, option_map, is_some}
 use Rattle.h264_base.specs.Call.{Call, OfUnit, OfSlice, OfElement}
 use Rattle.h264_base.specs.declared.element_name.ElementName.{ElementName}
 use Rattle.h264_base.specs.declared.element_name.ElementName.TheVariants as names
@@ -9,11 +9,7 @@ use Rattle.h264_report.specs.declared.survey.reading.Reach.{Reach}
 use Rattle.h264_report.specs.declared.survey.narrowed.Choice.{Choice}
 use Rattle.h264_report.specs.declared.lines.UnitCall.{UnitCall}
 use Rattle.h264_verify.specs.UnitTypes.{type_number}
-
--- a value as a count; 0 for one below 0
-abbrev pub count_in : ℤ → ℕ
-count_in (pos n) = n
-count_in (negsuc n) = 0
+use Rattle.h264_bits.specs.Forms.{natural}
 
 -- so many more, counted in 64 bits
 abbrev pub grown : ℕ → ℕ → ℕ
@@ -35,8 +31,8 @@ after_first first reading = record {
 }
 
 unfoldable pub after_element : ElementName → ℤ → Reading → Reading
-after_element names.FirstMbInSlice v reading = after_first (count_in v) reading
-after_element names.MbSkipRun v reading = record reading { reach = option_map (after_run (count_in v)) reading.reach }
+after_element names.FirstMbInSlice v reading = after_first (natural v) reading
+after_element names.MbSkipRun v reading = record reading { reach = option_map (after_run (natural v)) reading.reach }
 after_element names.MbType v reading = record reading { reach = option_map after_type reading.reach }
 after_element name v reading = reading
 

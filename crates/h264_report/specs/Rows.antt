@@ -18,11 +18,6 @@ row_at width height s k =
     else if nat_lt k (height + height / 2) then row_of (width / 2) (λ x. s Cb x (k - height))
     else row_of (width / 2) (λ x. s Cr x (k - height - height / 2))
 
-abbrev pub is_chroma : Component → Bool
-is_chroma Y = false
-is_chroma Cb = true
-is_chroma Cr = true
-
 -- whether all columns of each plane are shown
 abbrev pub shows_all_columns : Rectangle → Bool
 shows_all_columns r = (r.left == 0) && (r.right == 0)

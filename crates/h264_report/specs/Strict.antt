@@ -4,7 +4,7 @@ use Rattle.std.specs.Prelude.{◌++◌, Option, None, Some, pos, negsuc, get_or,
 use Rattle.h264_base.specs.Call.{Call, OfUnit, OfSlice, OfElement}
 use Rattle.h264_base.specs.declared.element_name.ElementName.{ElementName}
 use Rattle.h264_base.specs.declared.element_name.ElementName.TheVariants as names
-use Rattle.h264_report.specs.Chosen.{count_in, grown}
+use Rattle.h264_report.specs.Chosen.{grown}
 use Rattle.h264_report.specs.StrictPictures.{no_pictures, repeats_number, by_count, pictures_after}
 use Rattle.h264_report.specs.StrictRules.{place_of, broken_if, listed}
 use Rattle.h264_report.specs.StrictSets.{no_set, set_after, by_set, by_limits, holds_no_frame, is_baseline, is_in_order, is_too_fast}
@@ -17,6 +17,7 @@ use Rattle.h264_report.specs.declared.strict.Marking.{Marking}
 use Rattle.h264_report.specs.declared.strict.Standing.{Standing}
 use Rattle.h264_report.specs.declared.strict.Places.{Places}
 use Rattle.h264_report.specs.declared.strict.Strict.{Strict}
+use Rattle.h264_bits.specs.Forms.{natural}
 
 -- ---- marking (7.4.3.3): operation 5 stands together with none of 1 to 3
 
@@ -125,7 +126,7 @@ after_slice s mb frame_num count = record (after_beginning s mb frame_num count)
 
 unfoldable pub after : Standing → Call → Standing
 after s (OfUnit byte kind ref_idc length) = after_unit s kind ref_idc length
-after s (OfElement name bit v) = after_element s name (count_in v)
+after s (OfElement name bit v) = after_element s name (natural v)
 after s (OfSlice byte mb kind frame_num count) = after_slice s mb frame_num count
 after s call = s
 
@@ -175,7 +176,7 @@ by_unit s kind ref_idc length =
 
 unfoldable pub broken_by : Standing → Call → List StrictRule
 broken_by s (OfUnit byte kind ref_idc length) = by_unit s kind ref_idc length
-broken_by s (OfElement name bit v) = broken_by_element s name (count_in v)
+broken_by s (OfElement name bit v) = broken_by_element s name (natural v)
 broken_by s (OfSlice byte mb kind frame_num count) = by_slice s mb frame_num count
 broken_by s call = []
 

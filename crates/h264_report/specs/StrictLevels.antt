@@ -2,6 +2,7 @@
 use Rattle.std.specs.Prelude.{ℕ, Bool, List, [], ◌∷◌, ◌==◌, ◌&&◌, ◌||◌, nat_lt, Option, None, Some, find, if◌then◌else◌}
 use Rattle.std.specs.Option.{option_map}
 use Rattle.h264_report.specs.declared.strict_levels.BitLimits.{BitLimits}
+use Rattle.h264_tables.specs.Level.{level_named}
 
 -- a row of Table A-1
 pub record RateRow : Type 0 where
@@ -36,10 +37,6 @@ rates =
     rate_row 51 983040 240000 240000 ∷
     rate_row 52 2073600 240000 240000 ∷
     []
-
--- The level that level_idc names: level 1b is level_idc 11 with constraint_set3_flag, and level_idc 9.
-abbrev pub level_named : ℕ → Bool → ℕ
-level_named level_idc set3 = if level_idc == 11 && set3 then 9 else level_idc
 
 -- the row of a level, if there is such a level
 abbrev pub row_of : ℕ → Bool → Option RateRow

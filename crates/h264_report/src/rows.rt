@@ -2,11 +2,11 @@
 #![tactic(auto)]
 
 ghost use Rattle.std.specs.Prelude.{◌≡◌, ◌+◌, ◌-◌, ◌*◌, ◌/◌, ◌<◌, ◌≤◌, IsTrue, length, take, drop};
-ghost use Rattle.h264_plane.specs.Frames.{plane_of};
+ghost use Rattle.h264_plane.specs.Frames.{plane_of, is_chroma};
 ghost use Rattle.h264_plane.specs.Samples.{at};
 ghost use Rattle.h264_plane.specs.Rows.{row_of, rows_of, samples_of};
 ghost use Rattle.h264_dpb.specs.Shown.{fits, width_in, height_in, cropped};
-ghost use Rattle.h264_report.specs.Rows.{row_count, row_at, is_chroma, shows_all_columns, plane_at, part_count, part_at};
+ghost use Rattle.h264_report.specs.Rows.{row_count, row_at, shows_all_columns, plane_at, part_count, part_at};
 
 use h264_dpb::Rectangle;
 use h264_plane::{Component, Frame, MAX_SIDE, Plane};

@@ -1,7 +1,6 @@
 -- The blocks of a partition are predicted alike, once all parts of the macroblock are derived.
 use Rattle.std.proofs.Common.{◌≡◌, ◌≢◌, ℕ, zero, suc, ◌+◌, ◌*◌, ◌/◌, ◌%◌, ◌<◌, ◌==◌, nat_lt, Bool, true, false, ◌&&◌, List, [], ◌∷◌, replicate, get_or}
 use Rattle.std.proofs.Common.{Option, None, refl, sym, ap, ◌∙◌, arith, if◌then◌else◌}
-use Rattle.std.specs.Prelude.{Result, Ok, Err, OnOk}
 use Rattle.std.specs.List.{list_all, range_with_len}
 use Rattle.std.proofs.lemmas.Bool.{ltb-true, false≢true, and_parts}
 use Rattle.std.proofs.lemmas.List.{get_or-replicate}

@@ -31,7 +31,7 @@ use Rattle.h264_verify.specs.Keeping.{WhereMade, FillsFrames, KeepsSomeGap}
 use Rattle.h264_verify.proofs.Tellings.{tells-none, tells-both}
 use Rattle.h264_verify.proofs.Playing.{plays-on, plays-stops, gives-plays}
 use Rattle.h264_verify.proofs.Stepping.{steps-append}
-use Rattle.h264_marking.proofs.Filling.{left-is}
+use Rattle.h264_marking.proofs.Filling.{left-is, none-left}
 
 -- ---- one number
 
@@ -116,9 +116,6 @@ turn-some n number numbers refs held t e =
     (sym (append_assoc t.written (missing_turn held t.buffer).written (gaps_turn n numbers held (missing_turn held t.buffer).buffer).written))
 
 -- ---- all of them
-
-none-left : (count : ℕ) → count - count ≡ 0
-none-left count = omega arith
 
 module _ {S : Type 0} (mode : Mode) (bit : ℕ) (n : Numbering) (count prev : ℕ) (held : References) (took : S → List Call → Type 0) (failures : S → ℕ)
     (frames : ℕ → Frame) (t : Turn) (next : ℕ) (old : S) where

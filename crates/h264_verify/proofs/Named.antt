@@ -1,5 +1,5 @@
 -- Each picture that a list names is as large as the picture in which the list stands: it is of the same sequence.
-use Rattle.std.proofs.Common.{◌≡◌, ℕ, zero, suc, arith, ◌<◌, ◌==◌, ◌||◌, Bool, true, false, List, [], ◌∷◌, length, get_or, unwrap_or, ◌⊎◌, inl, inr, Option}
+use Rattle.std.proofs.Common.{◌≡◌, ℕ, zero, suc, ◌<◌, ◌==◌, ◌||◌, Bool, true, false, List, [], ◌∷◌, length, get_or, unwrap_or, ◌⊎◌, inl, inr, Option}
 use Rattle.std.proofs.Common.{Some, None, Result, Ok, Err, IfOk, refl, ap, sym, ◌∙◌, subst}
 use Rattle.std.specs.List.{AllByRecursion, slice_get}
 use Rattle.std.specs.Option.{option_and_then}
@@ -27,7 +27,6 @@ use Rattle.h264_lists.specs.Built.{built, AreOf}
 use Rattle.h264_lists.proofs.Held.{built-held}
 use Rattle.h264_dpb.specs.Bumping.{is_picture, is_held}
 use Rattle.h264_picture.specs.Context.{picture_in, slice_context}
-use Rattle.h264_recon.specs.Table.{table}
 use Rattle.h264_verify.specs.Pictures.{CodedSlice, CodedPicture, prev_ref_frame_num_of, held_after, held_in}
 use Rattle.h264_verify.specs.Lists.{list_of, list_in, named_in}
 use Rattle.h264_verify.specs.Slices.{is_i}

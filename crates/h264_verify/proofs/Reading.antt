@@ -11,8 +11,7 @@ use Rattle.h264_header.specs.declared.header.Header.{Header}
 use Rattle.h264_near.specs.Coded.{CodedMacroblock}
 use Rattle.h264_marking.specs.Frames.{References}
 use Rattle.h264_lists.specs.declared.slot.RefSlot.{RefSlot}
-use Rattle.h264_sps.specs.Usable.{is_usable, crops_within, holds_references, buffers_within}
-use Rattle.h264_picture.specs.Holds.{is_frame_size}
+use Rattle.h264_sps.specs.Usable.{is_usable, crops_within, holds_references, buffers_within, is_frame_size}
 use Rattle.h264_mbsyntax.specs.Slice.{slice_data}
 use Rattle.h264_picture.specs.Context.{slice_context}
 use Rattle.h264_picture.specs.Levels.{transform_fits}

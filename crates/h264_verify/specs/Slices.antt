@@ -34,14 +34,11 @@ use Rattle.h264_verify.specs.History.{History}
 use Rattle.h264_verify.specs.Pictures.{CodedSlice, CodedPicture}
 use Rattle.h264_verify.specs.Pictures.{bit_of, is_met, counted}
 use Rattle.h264_header.specs.Picture.{is_idr}
+use Rattle.h264_picture.specs.Context.{type_of}
 
 abbrev pub is_i : SliceKind → Bool
 is_i kinds.I = true
 is_i (kinds.P list) = false
-
-abbrev pub type_of : SliceKind → SliceType
-type_of kinds.I = slice_type.I
-type_of (kinds.P list) = slice_type.P
 
 -- idr_pic_id of the newest picture, where it is an IDR picture
 abbrev pub idr_id : Option (Found ℕ) → Option ℕ

@@ -26,8 +26,9 @@ ghost use Rattle.h264_verify.specs.UnitTypes.{type_number};
 ghost use Rattle.h264_poc.specs.OfSlice.{picture_of};
 ghost use Rattle.h264_marking.specs.Ended.{numbering_of, resets};
 ghost use Rattle.h264_header.specs.Picture.{is_idr, is_reference};
-ghost use Rattle.h264_verify.specs.Slices.{type_of, idr_id, id_demand, count_demand, qp_demand, list_demand};
+ghost use Rattle.h264_verify.specs.Slices.{idr_id, id_demand, count_demand, qp_demand, list_demand};
 ghost use Rattle.h264_verify.specs.Lists.{list_of};
+ghost use Rattle.h264_picture.specs.Context.{type_of};
 
 use crate::decoder::Decoder;
 use crate::frame_num::{check_gap, check_idr_num};

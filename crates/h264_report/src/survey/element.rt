@@ -2,7 +2,7 @@
 #![tactic(auto)]
 
 ghost use Rattle.std.specs.Prelude.{◌≡◌};
-ghost use Rattle.h264_report.specs.Chosen.{count_in};
+ghost use Rattle.h264_bits.specs.Forms.{natural};
 
 use h264_base::ElementName;
 
@@ -17,7 +17,7 @@ pub struct ReadElement {
 
 /// A value that is never negative, as a count; 0 for a negative one.
 pub fn count_of(value: i64) -> u64
-    ensures { result ≡ count_in value }
+    ensures { result ≡ natural value }
 {
     match u64::try_from(value) {
         Ok(count) => count,

@@ -2,9 +2,9 @@ use Rattle.std.proofs.Common.{true}
 use Rattle.h264_plane.specs.declared.frame.Component.TheVariants.{Y, Cb, Cr}
 use Rattle.h264_plane.specs.declared.frame.Frame.{Frame}
 use Rattle.h264_plane.specs.Samples.{at, ShowsSamples}
-use Rattle.h264_plane.specs.Frames.{plane_of}
+use Rattle.h264_plane.specs.Frames.{plane_of, is_chroma}
 use Rattle.h264_plane.specs.Places.{side}
-use Rattle.h264_deblock.specs.Filtering.{edges_done, edges_of, is_chroma}
+use Rattle.h264_deblock.specs.Filtering.{edges_done, edges_of}
 use Rattle.h264_deblock.proofs.Macroblocks.{frame_step, planes}
 use Rattle.h264_deblock.proofs.filtering.macroblock.Goals as goal
 

@@ -1,12 +1,12 @@
 use Rattle.std.proofs.Common.{true, false, refl, ◌+◌, ◌*◌, ◌≤◌, ◌%◌, length, subst}
-use Rattle.h264_plane.specs.Frames.{plane_of}
+use Rattle.h264_plane.specs.Frames.{plane_of, is_chroma}
 use Rattle.h264_plane.specs.Places.{side}
 use Rattle.h264_plane.specs.Samples.{at, ShowsSamples, IsSized}
 use Rattle.h264_plane.specs.declared.frame.Component.TheVariants.{Y, Cb, Cr}
 use Rattle.h264_plane.specs.declared.frame.Frame.{Frame}
 use Rattle.h264_near.specs.Raster.{last_in, last_left}
 use Rattle.h264_near.proofs.Skips.{skipped-contexts}
-use Rattle.h264_deblock.specs.Filtering.{PlaneEdges, edges_done, is_chroma}
+use Rattle.h264_deblock.specs.Filtering.{PlaneEdges, edges_done}
 use Rattle.h264_deblock.specs.CodedEdges.{coded_edges}
 use Rattle.h264_deblock.specs.Steps.{side_qp}
 use Rattle.h264_deblock.proofs.CodedEdges.{left-none, above-none, qp-is, pair-is, luma-list, chroma-list}

@@ -1,8 +1,7 @@
 use Rattle.std.proofs.Common.{Some, refl, sym}
-use Rattle.h264_base.proofs.Steps.{done}
+use Rattle.h264_base.proofs.Steps.{done, seen-last}
 use Rattle.h264_bits.specs.Forms.{optional}
 use Rattle.h264_header.specs.Marking.{dec_ref_pic_marking}
-use Rattle.h264_header.proofs.Entries.{seen-last}
 use Rattle.h264_header.proofs.marking.read_marking.Goals as goal
 
 pub returns-then-not-reference : goal.returns-then-not-reference

@@ -1,10 +1,9 @@
 use Rattle.std.proofs.Common.{refl}
 use Rattle.std.proofs.lemmas.Result.{err_from_is_err_and}
 use Rattle.h264_base.specs.Grammar.{◌>>=◌}
-use Rattle.h264_base.proofs.Steps.{bind, stop, done}
+use Rattle.h264_base.proofs.Steps.{bind, stop, done, seen-last}
 use Rattle.h264_bits.specs.declared.element.Found.{Found}
 use Rattle.h264_header.specs.declared.header.Marking.{Marking}
-use Rattle.h264_header.proofs.Entries.{seen-last}
 use Rattle.h264_header.specs.Marking.{marking_mode, other_marking}
 use Rattle.h264_header.proofs.marking.read_other_marking.Goals as goal
 use Rattle.h264_base.proofs.Plain.{digit-is}

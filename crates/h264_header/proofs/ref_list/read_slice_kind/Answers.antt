@@ -1,8 +1,7 @@
 use Rattle.std.proofs.Common.{refl, sym}
-use Rattle.h264_base.proofs.Steps.{done}
+use Rattle.h264_base.proofs.Steps.{done, seen-last}
 use Rattle.h264_header.specs.declared.header.SliceKind.TheVariants.{P}
 use Rattle.h264_header.specs.RefList.{slice_kind}
-use Rattle.h264_header.proofs.Entries.{seen-last}
 use Rattle.h264_header.proofs.ref_list.read_slice_kind.Goals as goal
 
 pub returns-in-P : goal.returns-in-P

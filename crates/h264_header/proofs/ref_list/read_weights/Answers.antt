@@ -1,7 +1,6 @@
 use Rattle.std.proofs.Common.{Some, refl, sym}
-use Rattle.h264_base.proofs.Steps.{done}
+use Rattle.h264_base.proofs.Steps.{done, seen-last}
 use Rattle.h264_bits.specs.Forms.{optional}
-use Rattle.h264_header.proofs.Entries.{seen-last}
 use Rattle.h264_header.proofs.ref_list.read_weights.Goals as goal
 
 pub returns-then-not-present : goal.returns-then-not-present

@@ -1,4 +1,4 @@
-use Rattle.std.proofs.Common.{◌≡◌, Bool, true, ◌&&◌, refl}
+use Rattle.std.proofs.Common.{◌≡◌, true, ◌&&◌, refl}
 use Rattle.h264_tables.specs.Level.{level_rows, limits_of}
 use Rattle.h264_sps.specs.Usable.{has_count_lengths, is_usable}
 use Rattle.h264_header.proofs.tests.sps.Goals as goal

@@ -1,5 +1,4 @@
 use Rattle.std.proofs.Common.{◌≡◌, Some, ap, sym, ◌∙◌}
-use Rattle.h264_sps.specs.declared.sps.Sps.{Sps}
 use Rattle.h264_sets.specs.Sets.{Maps}
 use Rattle.h264_sps.proofs.Content.{decides-sps}
 use Rattle.h264_sets.proofs.Sets.is_active.Goals as goal

@@ -1,4 +1,4 @@
-use Rattle.std.proofs.Common.{◌≡◌, Bool, true, ◌&&◌, nat_le, refl}
+use Rattle.std.proofs.Common.{◌≡◌, true, ◌&&◌, nat_le, refl}
 use Rattle.std.proofs.lemmas.Bool.{le-leb, and_from}
 use Rattle.h264_tables.specs.Level.{level_rows, limits_of}
 use Rattle.h264_sps.specs.Usable.{is_usable}

@@ -1,4 +1,4 @@
-use Rattle.std.proofs.Common.{◌≡◌, Option, ℕ, ◌-◌, ◌*◌, ◌<◌, ◌^◌, [], Bool, List, Result, Ok, Err, OnOk, refl, ap, sym, ◌∙◌, subst, length}
+use Rattle.std.proofs.Common.{◌≡◌, Option, ℕ, ◌-◌, ◌*◌, ◌<◌, ◌^◌, [], Bool, List, Result, Ok, Err, refl, ap, sym, ◌∙◌, subst, length}
 use Rattle.h264_base.specs.declared.stop.Stop.{Stop}
 use Rattle.h264_base.specs.Call.{Call, span}
 use Rattle.h264_plane.specs.declared.frame.Frame.{Frame}

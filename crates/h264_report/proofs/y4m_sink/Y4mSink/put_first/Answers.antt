@@ -1,5 +1,4 @@
-use Rattle.std.proofs.Common.{◌≡◌, ◌++◌, Result, Ok, Err, OnOk, true, false, ap, ◌∙◌}
-use Rattle.std.specs.Result.{is_err}
+use Rattle.std.proofs.Common.{◌≡◌, ◌++◌, ap, ◌∙◌}
 use Rattle.h264_report.specs.Frames.{shown_bytes}
 use Rattle.h264_report.specs.Told.{ended}
 use Rattle.h264_report.specs.Y4m.{framed}
