@@ -1,6 +1,6 @@
 -- The sides of a macroblock: which of them are available (Sides), and the samples there. A working form.
 pub use Rattle.h264_intra.specs.declared.sides.Sides.{Sides}
-use Rattle.std.specs.Prelude.{◌≡◌, ◌+◌, ◌<◌, IsTrue, ℕ, ◌-◌, ◌==◌, if◌then◌else◌, List, [], slice_index, Option, unwrap_or, ℤ, ◌≤ℤ◌}
+use Rattle.std.specs.Prelude.{◌≡◌, ◌+◌, ◌<◌, IsTrue, ℕ, ◌-◌, ◌==◌, if◌then◌else◌, List, [], slice_index, Option, unwrap_or, ℤ}
 use Rattle.h264_plane.specs.Clip.{IsIn}
 
 -- a side with the corner before it

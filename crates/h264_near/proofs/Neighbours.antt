@@ -1,6 +1,6 @@
 -- What stands around the macroblock that is being decoded, by the macroblocks next to it.
 use Rattle.std.proofs.Common.{◌≡◌, ℕ, zero, suc, ◌+◌, ◌*◌, ◌-◌, ◌/◌, ◌%◌, ◌<◌, ◌≤◌, true, nat_lt, List, [], ◌∷◌, ◌++◌, length, Option, None, refl, ap, sym}
-use Rattle.std.proofs.Common.{◌∙◌, subst, arith, lt-ltb, length-append, ◌⊎◌, inl, inr}
+use Rattle.std.proofs.Common.{◌∙◌, subst, arith, lt-ltb, length-append, ◌⊎◌, inl, inr, IsTrue, is_some}
 use Rattle.std.specs.Option.{option_and_then}
 use Rattle.std.specs.List.{slice_get}
 use Rattle.std.proofs.lemmas.Option.{slice_get_past}

@@ -1,4 +1,4 @@
-use Rattle.std.proofs.Common.{◌≡◌, ◌+◌, ℤ, ℕ, ◌≤◌, refl, arith, pos, negsuc, ◌-ℤ◌, ◌+ℤ◌}
+use Rattle.std.proofs.Common.{◌≡◌, ◌+◌, ℤ, ℕ, ◌≤◌, refl, arith, pos, negsuc, ◌-ℤ◌}
 use Rattle.std.proofs.lemmas.Int.{ints}
 use lib.Signed.{shr_z}
 use borrow.Author.Differences.{up, down}

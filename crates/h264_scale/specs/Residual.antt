@@ -1,7 +1,7 @@
 -- To be read beside the standard. The residual of a 4x4 block (8.5.6, 8.5.9, 8.5.12). A matrix is a function of the row i and the column j; its indices
 -- are 0 to 3.
 use Rattle.std.specs.Prelude.{◌≡◌, ℕ, ◌<◌, ◌+◌, ◌-◌, ◌*◌, ◌/◌, ◌%◌, ◌^◌, Bool, ◌&&◌, ◌==◌, nat_le, if◌then◌else◌, List, [], ◌∷◌, length, get_or, slice_index}
-use Rattle.std.specs.Prelude.{ℤ, pos, negsuc, ◌≤ℤ◌, ◌+ℤ◌, ◌-ℤ◌, ◌*ℤ◌, int_le}
+use Rattle.std.specs.Prelude.{ℤ, pos, negsuc, ◌+ℤ◌, ◌-ℤ◌, ◌*ℤ◌, int_le}
 use Rattle.std.specs.Int.{int_shr}
 use Rattle.std.specs.List.{position_or_len}
 use Rattle.h264_plane.specs.Clip.{IsIn}

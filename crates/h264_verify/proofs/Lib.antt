@@ -63,3 +63,4 @@ pub mod Coursing
 pub mod Stopping
 pub mod Ending
 pub mod Targets
+pub mod UnitNumbers

@@ -1,16 +1,13 @@
-use Rattle.std.proofs.Common.{◌≡◌, ◌==◌, ◌&&◌, false, refl, sym, ap, ◌∙◌}
+use Rattle.std.proofs.Common.{◌≡◌, ◌==◌, ◌&&◌, false, sym, ap, ◌∙◌}
 use Rattle.h264_verify.specs.UnitTypes.{type_number}
-use Rattle.h264_verify.specs.declared.nal_unit_type.NalUnitType.{NalUnitType}
 use Rattle.h264_verify.specs.declared.nal_unit_type.NalUnitType.TheVariants as types
 use Rattle.h264_report.specs.SeiMessages.{is_sei}
 use Rattle.h264_report.proofs.Contents.{content-not, none-noted}
 use Rattle.h264_report.proofs.strict_content.note_content.Goals as goal
+use Rattle.h264_base.proofs.Plain.{differs}
+use Rattle.h264_verify.proofs.UnitNumbers.{other-number}
 
 -- a unit of another type
-not-six : (t : NalUnitType) → (t ≡ types.Sei → ⊥) → (type_number t == 6) ≡ false
-not-six types.Sei other = absurd (other refl)
-not-six _ other = refl
-
 pub returns-else-is_sei : goal.returns-else-is_sei
 returns-else-is_sei c r =
     sym (none-noted _ _ (content-not r c.args.known.now (type_number c.args.kind) c.args.rbsp.now
@@ -20,4 +17,4 @@ pub returns-in_default : goal.returns-in_default
 returns-in_default c r =
     let body = c.args.rbsp.now in
     sym (none-noted _ _ (content-not r c.args.known.now (type_number c.args.kind) body
-    (ap (λ t. t && is_sei body.bytes) (not-six c.args.kind c.in_default.not-Sei))))
+    (ap (λ t. t && is_sei body.bytes) (differs (type_number c.args.kind) 6 (other-number c.args.kind types.Sei c.in_default.not-Sei)))))

@@ -12,7 +12,6 @@ use Rattle.h264_verify.specs.History.{History}
 use Rattle.h264_verify.specs.Content as contents
 use Rattle.h264_verify.specs.UnitHeader.{header_of, nal_unit_type}
 use Rattle.h264_verify.specs.UnitTypes.{type_number}
-use Rattle.h264_verify.specs.declared.nal_unit_type.NalUnitType.{NalUnitType}
 use Rattle.h264_verify.specs.declared.nal_unit_type.NalUnitType.TheVariants as types
 use Rattle.h264_verify.specs.Pictures.{ends_picture, goes_on, runs_of}
 use Rattle.h264_verify.specs.Keeping.{ended_pictures, ended_in}
@@ -32,6 +31,7 @@ use Rattle.h264_verify.proofs.Joining.{joins-on, passed-joins, slice-other, whol
 use Rattle.h264_verify.proofs.Memory.{bytes-by, unread, read-bytes, passed-by, read-slice}
 use Rattle.h264_verify.proofs.unit.join.Goals as goal
 use Rattle.h264_verify.proofs.Growing.{slice-goes as slice-goes-on}
+use Rattle.h264_verify.proofs.UnitNumbers.{is-not}
 
 joined-seven : (terms : Terms) (kind : ℕ) (before : History) (unit : NalUnit) → kind ≡ 7 →
     joined_by terms kind before unit ≡ joined terms.mode before unit (sps_outcome terms.target unit)
@@ -96,14 +96,6 @@ slice-here mode unit byte o x e b s seven eight =
     read-slice mode (nal_unit_type byte) (read-bytes _ _ _ _ s (bytes-by mode unit byte o e b)).0 (ne_eqb _ _ seven) (ne_eqb _ _ eight)
 
 -- a unit of another type than a set's has another number
-not-seven : (t : NalUnitType) (n : ℕ) → type_number t ≡ n → (t ≡ types.SequenceSet → ⊥) → n ≡ 7 → ⊥
-not-seven types.SequenceSet n is other e = other refl
-not-seven _ n is other e = let both = is ∙ e in cc
-
-not-eight : (t : NalUnitType) (n : ℕ) → type_number t ≡ n → (t ≡ types.PictureSet → ⊥) → n ≡ 8 → ⊥
-not-eight types.PictureSet n is other e = other refl
-not-eight _ n is other e = let both = is ∙ e in cc
-
 -- the mode of a unit that is read, and is no set, by whether frames are made
 headers-of : (P : Decoder → Type 0) (m : Mode) (o : Option Decoder) → o ≡ None → WhereMade m P o → reads_slices m ≡ true → m ≡ modes.Headers
 headers-of P modes.Units o e k r = cc
@@ -119,20 +111,20 @@ join_slice-requires-clause-rbsp g c = (read-bytes _ _ _ _ c.in-Some.is c.require
 pub join_slice-requires-clause-goes_on : goal.join_slice-requires-clause-goes_on
 join_slice-requires-clause-goes_on g c =
     let here = slice-here c.args.terms.mode c.args.bytes.now.unit.now c.args.bytes.now.header c.args.bytes.now.rbsp.now _ c.requires.header c.requires.bytes
-    c.in-Some.is (not-seven _ _ c.of-kind.ensures c.in_default-kind.not-SequenceSet) (not-eight _ _ c.of-kind.ensures c.in_default-kind.not-PictureSet) in
+    c.in-Some.is (is-not _ types.SequenceSet _ c.of-kind.ensures c.in_default-kind.not-SequenceSet) (is-not _ types.PictureSet _ c.of-kind.ensures c.in_default-kind.not-PictureSet) in
     slice-goes-on (nal_unit_type c.args.bytes.now.header) here.0
 
 pub join_slice-requires-clause-kept : goal.join_slice-requires-clause-kept
 join_slice-requires-clause-kept g c =
     let here = slice-here c.args.terms.mode c.args.bytes.now.unit.now c.args.bytes.now.header c.args.bytes.now.rbsp.now _ c.requires.header c.requires.bytes
-    c.in-Some.is (not-seven _ _ c.of-kind.ensures c.in_default-kind.not-SequenceSet) (not-eight _ _ c.of-kind.ensures c.in_default-kind.not-PictureSet) in
+    c.in-Some.is (is-not _ types.SequenceSet _ c.of-kind.ensures c.in_default-kind.not-SequenceSet) (is-not _ types.PictureSet _ c.of-kind.ensures c.in_default-kind.not-PictureSet) in
     let mode = headers-of _ c.args.terms.mode c.args.state.now.decoder c.in-None.is c.requires.kept.keeps.decoder here.1 in
     here-in c.args.terms.mode modes.Headers _ _ mode (slice-goes-on (nal_unit_type c.args.bytes.now.header) here.0) c.requires.kept
 
 pub join_whole_slice-requires-clause-kept : goal.join_whole_slice-requires-clause-kept
 join_whole_slice-requires-clause-kept g c =
     let here = slice-here c.args.terms.mode c.args.bytes.now.unit.now c.args.bytes.now.header c.args.bytes.now.rbsp.now _ c.requires.header c.requires.bytes
-    c.in-Some.is (not-seven _ _ c.of-kind.ensures c.in_default-kind.not-SequenceSet) (not-eight _ _ c.of-kind.ensures c.in_default-kind.not-PictureSet) in
+    c.in-Some.is (is-not _ types.SequenceSet _ c.of-kind.ensures c.in_default-kind.not-SequenceSet) (is-not _ types.PictureSet _ c.of-kind.ensures c.in_default-kind.not-PictureSet) in
     let mode = (some-made _ c.args.terms.mode c.args.state.now.decoder _ c.in-Some-decoder.is c.requires.kept.keeps.decoder).0 in
     here-in c.args.terms.mode modes.Full _ _ mode (slice-goes-on (nal_unit_type c.args.bytes.now.header) here.0) c.requires.kept
 
@@ -142,19 +134,19 @@ join_whole_slice-requires-clause-rbsp g c = (read-bytes _ _ _ _ c.in-Some.is c.r
 pub join_whole_slice-requires-clause-goes_on : goal.join_whole_slice-requires-clause-goes_on
 join_whole_slice-requires-clause-goes_on g c =
     let here = slice-here c.args.terms.mode c.args.bytes.now.unit.now c.args.bytes.now.header c.args.bytes.now.rbsp.now _ c.requires.header c.requires.bytes
-    c.in-Some.is (not-seven _ _ c.of-kind.ensures c.in_default-kind.not-SequenceSet) (not-eight _ _ c.of-kind.ensures c.in_default-kind.not-PictureSet) in
+    c.in-Some.is (is-not _ types.SequenceSet _ c.of-kind.ensures c.in_default-kind.not-SequenceSet) (is-not _ types.PictureSet _ c.of-kind.ensures c.in_default-kind.not-PictureSet) in
     slice-goes-on (nal_unit_type c.args.bytes.now.header) here.0
 
 pub returns-in-None-clause-joins : goal.returns-in-None-clause-joins
 unfolding joined_by
 returns-in-None-clause-joins g c = λ frames before k.
     let here = slice-here c.args.terms.mode c.args.bytes.now.unit.now c.args.bytes.now.header c.args.bytes.now.rbsp.now _ c.requires.header c.requires.bytes
-    c.in-Some.is (not-seven _ _ c.of-kind.ensures c.in_default-kind.not-SequenceSet) (not-eight _ _ c.of-kind.ensures c.in_default-kind.not-PictureSet) in
+    c.in-Some.is (is-not _ types.SequenceSet _ c.of-kind.ensures c.in_default-kind.not-SequenceSet) (is-not _ types.PictureSet _ c.of-kind.ensures c.in_default-kind.not-PictureSet) in
     let mode = headers-of _ c.args.terms.mode c.args.state.now.decoder c.in-None.is c.requires.kept.keeps.decoder here.1 in
     let kept = subst (λ m. KeepsWithin m frames before (ends_picture (nal_unit_type c.args.bytes.now.header)) c.args.state.now) mode k in
     rw (
-      ne_eqb _ _ (not-seven _ _ c.of-kind.ensures c.in_default-kind.not-SequenceSet),
-      ne_eqb _ _ (not-eight _ _ c.of-kind.ensures c.in_default-kind.not-PictureSet),
+      ne_eqb _ _ (is-not _ types.SequenceSet _ c.of-kind.ensures c.in_default-kind.not-SequenceSet),
+      ne_eqb _ _ (is-not _ types.PictureSet _ c.of-kind.ensures c.in_default-kind.not-PictureSet),
       mode,
       slice-other (nal_unit_type c.args.bytes.now.header) before c.args.bytes.now.unit.now here.0,
     )
@@ -168,12 +160,12 @@ pub returns-in-Some-decoder-clause-joins : goal.returns-in-Some-decoder-clause-j
 unfolding joined_by
 returns-in-Some-decoder-clause-joins g c = λ frames before k.
     let here = slice-here c.args.terms.mode c.args.bytes.now.unit.now c.args.bytes.now.header c.args.bytes.now.rbsp.now _ c.requires.header c.requires.bytes
-    c.in-Some.is (not-seven _ _ c.of-kind.ensures c.in_default-kind.not-SequenceSet) (not-eight _ _ c.of-kind.ensures c.in_default-kind.not-PictureSet) in
+    c.in-Some.is (is-not _ types.SequenceSet _ c.of-kind.ensures c.in_default-kind.not-SequenceSet) (is-not _ types.PictureSet _ c.of-kind.ensures c.in_default-kind.not-PictureSet) in
     let mode = (some-made _ c.args.terms.mode c.args.state.now.decoder _ c.in-Some-decoder.is c.requires.kept.keeps.decoder).0 in
     let kept = subst (λ m. KeepsWithin m frames before (ends_picture (nal_unit_type c.args.bytes.now.header)) c.args.state.now) mode k in
     rw (
-      ne_eqb _ _ (not-seven _ _ c.of-kind.ensures c.in_default-kind.not-SequenceSet),
-      ne_eqb _ _ (not-eight _ _ c.of-kind.ensures c.in_default-kind.not-PictureSet),
+      ne_eqb _ _ (is-not _ types.SequenceSet _ c.of-kind.ensures c.in_default-kind.not-SequenceSet),
+      ne_eqb _ _ (is-not _ types.PictureSet _ c.of-kind.ensures c.in_default-kind.not-PictureSet),
       mode,
       whole-other (nal_unit_type c.args.bytes.now.header) before c.args.bytes.now.unit.now here.0,
     )
@@ -183,7 +175,7 @@ returns-in-Some-decoder-clause-joins g c = λ frames before k.
 pub returns-in-Some-decoder-clause-no_memory : goal.returns-in-Some-decoder-clause-no_memory
 returns-in-Some-decoder-clause-no_memory g c = λ frames before k m.
     let here = slice-here c.args.terms.mode c.args.bytes.now.unit.now c.args.bytes.now.header c.args.bytes.now.rbsp.now _ c.requires.header c.requires.bytes
-    c.in-Some.is (not-seven _ _ c.of-kind.ensures c.in_default-kind.not-SequenceSet) (not-eight _ _ c.of-kind.ensures c.in_default-kind.not-PictureSet) in
+    c.in-Some.is (is-not _ types.SequenceSet _ c.of-kind.ensures c.in_default-kind.not-SequenceSet) (is-not _ types.PictureSet _ c.of-kind.ensures c.in_default-kind.not-PictureSet) in
     let mode = (some-made _ c.args.terms.mode c.args.state.now.decoder _ c.in-Some-decoder.is c.requires.kept.keeps.decoder).0 in
     let kept = subst (λ q. KeepsWithin q frames before (ends_picture (nal_unit_type c.args.bytes.now.header)) c.args.state.now) mode k in
     record {
