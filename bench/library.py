@@ -15,6 +15,10 @@ import subprocess
 import sys
 import tempfile
 
+sys.dont_write_bytecode = True
+
+from named import names_in
+
 HERE = os.path.dirname(os.path.abspath(__file__))
 TURNS = 5
 MOST_READ = 1 << 20
@@ -55,14 +59,6 @@ def least(commands, turns):
             if name not in best or sum(took) < sum(best[name]):
                 best[name] = took
     return best
-
-
-def names_in(words):
-    for word in words:
-        if os.path.isdir(word):
-            yield from (os.path.join(word, name) for name in sorted(os.listdir(word)) if name.endswith(".264"))
-        else:
-            yield word
 
 
 PIPE = "`decode` into a pipe"

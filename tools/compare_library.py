@@ -17,6 +17,10 @@ import zlib
 
 sys.dont_write_bytecode = True
 TOP = os.path.dirname(os.path.dirname(os.path.abspath(__file__)))
+sys.path.insert(0, os.path.join(TOP, "bench"))
+
+from named import names_in
+
 TARGETS = ("baseline", "main-ip")
 KINDS = {"yes": 0, "no": 1, "outside": 2, "memory": 3}
 
@@ -143,15 +147,6 @@ class OnPage:
         status = KINDS.get(line.split(":")[0])
         told = Answer(line, status, [(int(count), size, digest) for count, size, digest in frames])
         return wanted.difference(told)
-
-
-def names_in(words):
-    """The streams that the words name, with those of each folder in order."""
-    for word in words:
-        if os.path.isdir(word):
-            yield from (os.path.join(word, name) for name in sorted(os.listdir(word)) if name.endswith(".264"))
-        else:
-            yield word
 
 
 def compare(program, ways, name, differ):

@@ -1,4 +1,5 @@
 """Elements of the syntax, read from bytes (7.2, 9.1)."""
+EXTENDED_SAR = 255
 
 
 class Bits:
@@ -19,3 +20,17 @@ class Bits:
     def se(self):
         number = self.ue()
         return (number + 1) // 2 if number % 2 else -(number // 2)
+
+
+def passed_picture_information(bits):
+    """Reads a VUI up to its timing (E.1.1)."""
+    if bits.u(1) and bits.u(8) == EXTENDED_SAR:
+        bits.u(32)
+    if bits.u(1):
+        bits.u(1)
+    if bits.u(1):
+        bits.u(4)
+        if bits.u(1):
+            bits.u(24)
+    if bits.u(1):
+        bits.ue(), bits.ue()

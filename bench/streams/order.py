@@ -2,7 +2,7 @@
 and bumping (C.4.4, C.4.5). It knows nothing of `h264v`, and reads no slice data. A stream that is not legal may give anything."""
 import dataclasses
 
-from .bits import Bits
+from .bits import Bits, passed_picture_information
 
 SLICE, IDR, SEQUENCE, PICTURE = 1, 5, 7, 8
 # No header that this reads is longer, in bytes.
@@ -11,7 +11,6 @@ LONGEST_HEADER = 2048
 MAX_DPB_MBS = {9: 396, 10: 396, 11: 900, 12: 2376, 13: 2376, 20: 2376, 21: 4752, 22: 8100, 30: 8100, 31: 18000, 32: 20480, 40: 32768, 41: 32768}
 MAX_DPB_MBS |= {42: 34816, 50: 110400, 51: 184320, 52: 184320}
 MOST_FRAMES = 16
-EXTENDED_SAR = 255
 
 
 def after_header(unit):
@@ -45,16 +44,7 @@ def passed_hrd(bits):
 
 def buffering_in_vui(bits):
     """max_dec_frame_buffering of a VUI; None where it has none (E.1.1)."""
-    if bits.u(1) and bits.u(8) == EXTENDED_SAR:
-        bits.u(32)
-    if bits.u(1):
-        bits.u(1)
-    if bits.u(1):
-        bits.u(4)
-        if bits.u(1):
-            bits.u(24)
-    if bits.u(1):
-        bits.ue(), bits.ue()
+    passed_picture_information(bits)
     if bits.u(1):
         bits.u(65)
     nal = bits.u(1)

@@ -5,7 +5,7 @@ import dataclasses
 from fractions import Fraction
 from math import ceil, floor
 
-from .bits import Bits
+from .bits import Bits, passed_picture_information
 
 SEI, SET, FILLER = 6, 7, 12
 SLICES = (1, 5)
@@ -95,16 +95,7 @@ class Set:
         return found
 
     def read_vui(self, bits):
-        if bits.u(1) and bits.u(8) == 255:
-            bits.u(32)
-        if bits.u(1):
-            bits.u(1)
-        if bits.u(1):
-            bits.u(4)
-            if bits.u(1):
-                bits.u(24)
-        if bits.u(1):
-            bits.ue(), bits.ue()
+        passed_picture_information(bits)
         if bits.u(1):
             ticks, scale = bits.u(32), bits.u(32)
             self.tick = Fraction(ticks, scale) if ticks and scale else None
