@@ -14,6 +14,7 @@ use Rattle.h264_pps.specs.declared.Pps.{Pps}
 use Rattle.h264_header.specs.declared.header.SliceUnit.{SliceUnit}
 use Rattle.h264_header.specs.declared.header.PicOrderCnt.{PicOrderCnt}
 use Rattle.h264_header.specs.declared.header.PicOrderCnt.TheVariants as count
+use Rattle.h264_header.specs.declared.header.SliceKind.{SliceKind}
 use Rattle.h264_header.specs.declared.header.SliceKind.TheVariants as kinds
 use Rattle.h264_header.specs.declared.header.FilterOffsets.{FilterOffsets}
 use Rattle.h264_header.specs.declared.header.Deblocking.{Deblocking}
@@ -31,6 +32,11 @@ use Rattle.h264_header.specs.Marking.{dec_ref_pic_marking}
 -- 0 and 5 are P, 2 and 7 are I; the others up to 9 are B, SP and SI
 abbrev pub is_judged_type : ℕ → Bool
 is_judged_type value = value % 5 == 0 || value % 5 == 2
+
+-- the type of a slice, without what only slices of that type have
+abbrev pub slice_type_of : SliceKind → SliceType
+slice_type_of kinds.I = slice_type.I
+slice_type_of (kinds.P list) = slice_type.P
 
 abbrev pub type_of : ℕ → SliceType
 type_of value = if value % 5 == 0 then slice_type.P else slice_type.I

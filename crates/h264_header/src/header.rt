@@ -2,7 +2,7 @@
 #![tactic(auto)]
 
 use arrayvec::ArrayVec;
-use h264_base::{Weight, Weights};
+use h264_base::{SliceType, Weight, Weights};
 use h264_bits::Found;
 
 /// What the header of a unit says of the slice in it.
@@ -130,6 +130,21 @@ pub struct RefPicList0 {
 pub enum SliceKind {
     P(RefPicList0),
     I,
+}
+
+impl SliceKind {
+    ghost use Rattle.std.specs.Prelude.{◌≡◌};
+    ghost use Rattle.h264_header.specs.Header.{slice_type_of};
+
+    /// The type alone (7.4.3).
+    pub fn slice_type(&self) -> SliceType
+        ensures { result ≡ slice_type_of self.now }
+    {
+        match self {
+            SliceKind::I => SliceType::I,
+            SliceKind::P(_) => SliceType::P,
+        }
+    }
 }
 
 /// memory_management_control_operation with its operands (7.4.3.3).

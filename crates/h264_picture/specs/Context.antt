@@ -1,24 +1,17 @@
 -- What macroblocks take from their slice, by its header, its parameter sets and its reference list (7.4.3, 7.4.5). To be read beside the standard.
 use Rattle.std.specs.Prelude.{ℕ, ◌*◌, min, List, length, Option, None, pos, ◌+ℤ◌, slice_get}
 use Rattle.std.specs.Option.{option_and_then, option_map_or}
-use Rattle.h264_base.specs.declared.mode.SliceType.{SliceType}
-use Rattle.h264_base.specs.declared.mode.SliceType.TheVariants as slice_type
 use Rattle.h264_tables.specs.ChromaQp.{clip_51}
 use Rattle.h264_tables.specs.Level.{limits_of}
 use Rattle.h264_tables.specs.declared.level.Limits.{Limits}
 use Rattle.h264_sps.specs.declared.sps.Sps.{Sps}
 use Rattle.h264_pps.specs.declared.Pps.{Pps}
 use Rattle.h264_header.specs.declared.header.Header.{Header}
-use Rattle.h264_header.specs.declared.header.SliceKind.{SliceKind}
-use Rattle.h264_header.specs.declared.header.SliceKind.TheVariants as kinds
+use Rattle.h264_header.specs.Header.{slice_type_of}
 use Rattle.h264_lists.specs.declared.slot.RefSlot.{RefSlot}
 use Rattle.h264_lists.specs.declared.slot.RefSlot.TheVariants as slot
 use Rattle.h264_vectors.specs.declared.slice.SliceContext.{SliceContext}
 use Rattle.h264_recon.specs.Table.{table}
-
-abbrev pub type_of : SliceKind → SliceType
-type_of kinds.I = slice_type.I
-type_of (kinds.P list) = slice_type.P
 
 -- The number of the picture in a place of the list; a frame of a gap in frame_num has none (8.2.5.2).
 abbrev pub picture_in : RefSlot → Option ℕ
@@ -37,7 +30,7 @@ vector_limit sps = option_map_or (λ (l : Limits). 4 * l.max_vector) (limits_of 
 unfoldable pub slice_context : Pps → Sps → Header → List RefSlot → SliceContext
 slice_context pps sps h list = record {
   number = h.first_mb_in_slice.value;
-  slice_type = type_of h.kind.value;
+  slice_type = slice_type_of h.kind.value;
   qp = slice_qp pps h;
   active = min (length list) 16;
   references = table 16 (λ k. option_and_then picture_in (slice_get list k));

@@ -7,25 +7,15 @@ ghost use Rattle.h264_tables.specs.ChromaQp.{clip_51};
 ghost use Rattle.h264_tables.specs.Level.{limits_of};
 ghost use Rattle.h264_vectors.specs.Agrees.{Usable};
 ghost use Rattle.h264_recon.specs.Table.{table};
-ghost use Rattle.h264_picture.specs.Context.{type_of, picture_in, slice_qp, vector_limit, slice_context};
+ghost use Rattle.h264_picture.specs.Context.{picture_in, slice_qp, vector_limit, slice_context};
 
-use h264_base::SliceType;
-use h264_header::{Header, SliceKind};
+use h264_header::Header;
 use h264_lists::RefSlot;
 use h264_pps::Pps;
 use h264_sps::buffer;
 use h264_sps::sps::Sps;
 use h264_tables::Limits;
 use h264_vectors::SliceContext;
-
-fn type_of(kind: &SliceKind) -> SliceType
-    ensures { result ≡ type_of kind.now }
-{
-    match kind {
-        SliceKind::I => SliceType::I,
-        SliceKind::P(_) => SliceType::P,
-    }
-}
 
 /// Clip3(0, 51, z).
 fn clip_51(z: i64) -> u8
@@ -96,7 +86,7 @@ pub fn slice_context(pps: &Pps, sps: &Sps, header: &Header, list: &[RefSlot]) ->
 {
     SliceContext {
         number: header.first_mb_in_slice.value,
-        slice_type: type_of(&header.kind.value),
+        slice_type: header.kind.value.slice_type(),
         qp: slice_qp(pps, header),
         active: list.len().min(16) as u32,
         references: references(list),

@@ -51,7 +51,8 @@ impl Sequence {
     ghost use Rattle.h264_picture.specs.Buffer.{buffer_size as buffer_size_of};
     ghost use Rattle.h264_picture.specs.Lent.{KeepsLent, lent_within};
     ghost use Rattle.h264_picture.specs.Places.{IsFrameOf};
-    ghost use Rattle.h264_picture.specs.Holds.{is_frame_size, ServesIn, HoldsIn, KeepsPlace};
+    ghost use Rattle.h264_picture.specs.Holds.{ServesIn, HoldsIn, KeepsPlace};
+    ghost use Rattle.h264_sps.specs.Usable.{is_frame_size};
     ghost use Rattle.h264_picture.specs.Making.{Making, HoldsMade, MakesWith, IsMadeOf, setting_of};
 
     /// Takes all memory of a sequence.

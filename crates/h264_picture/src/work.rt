@@ -50,7 +50,8 @@ impl Work {
     ghost use Rattle.h264_mbsyntax.specs.Slice.{slice_data};
     ghost use Rattle.h264_picture.specs.Buffer.{buffer_size};
     ghost use Rattle.h264_picture.specs.Levels.{transform_fits};
-    ghost use Rattle.h264_picture.specs.Holds.{is_frame_size, Serves, HoldsMacroblocks};
+    ghost use Rattle.h264_picture.specs.Holds.{Serves, HoldsMacroblocks};
+    ghost use Rattle.h264_sps.specs.Usable.{is_frame_size};
     ghost use Rattle.h264_picture.specs.Making.{Making, HoldsSamples, IsSliceOf, IsDecodedIn};
     ghost use Rattle.h264_picture.specs.Places.{first_place, is_active_place, places as places_of, lent, IsReleased, HasBegun, HasSize, KeepsOthers};
     ghost use Rattle.h264_picture.specs.Places.{KeepsFrames, IsFrameOf};

@@ -6,8 +6,6 @@ use Rattle.std.specs.Option.{is_some}
 use Rattle.h264_base.specs.declared.rule.Rule.TheVariants as rule
 use Rattle.h264_base.specs.declared.mode.Mode.{Mode}
 use Rattle.h264_base.specs.declared.mode.Mode.TheVariants as modes
-use Rattle.h264_base.specs.declared.mode.SliceType.{SliceType}
-use Rattle.h264_base.specs.declared.mode.SliceType.TheVariants as slice_type
 use Rattle.h264_base.specs.Call.{Call, OfSlice}
 use Rattle.h264_bits.specs.declared.element.Found.{Found}
 use Rattle.h264_sps.specs.declared.sps.Sps.{Sps}
@@ -34,7 +32,7 @@ use Rattle.h264_verify.specs.History.{History}
 use Rattle.h264_verify.specs.Pictures.{CodedSlice, CodedPicture}
 use Rattle.h264_verify.specs.Pictures.{bit_of, is_met, counted}
 use Rattle.h264_header.specs.Picture.{is_idr}
-use Rattle.h264_picture.specs.Context.{type_of}
+use Rattle.h264_header.specs.Header.{slice_type_of}
 
 abbrev pub is_i : SliceKind → Bool
 is_i kinds.I = true
@@ -172,5 +170,5 @@ first_bit s = 8 * s.unit.from
 
 -- what the sink is told of a slice: the byte where its unit begins, first_mb_in_slice, its type, frame_num, and its picture's count
 abbrev pub slice_call : List CodedPicture → CodedSlice → Call
-slice_call pictures s = OfSlice s.unit.from s.header.first_mb_in_slice.value (type_of s.header.kind.value) s.header.frame_num.value
+slice_call pictures s = OfSlice s.unit.from s.header.first_mb_in_slice.value (slice_type_of s.header.kind.value) s.header.frame_num.value
     (frame_count (newest_count (map counted pictures)))

@@ -25,10 +25,10 @@ ghost use Rattle.h264_verify.specs.Pictures.{prev_ref_frame_num_after, begins_at
 ghost use Rattle.h264_verify.specs.UnitTypes.{type_number};
 ghost use Rattle.h264_poc.specs.OfSlice.{picture_of};
 ghost use Rattle.h264_marking.specs.Ended.{numbering_of, resets};
+ghost use Rattle.h264_header.specs.Header.{slice_type_of};
 ghost use Rattle.h264_header.specs.Picture.{is_idr, is_reference};
 ghost use Rattle.h264_verify.specs.Slices.{idr_id, id_demand, count_demand, qp_demand, list_demand};
 ghost use Rattle.h264_verify.specs.Lists.{list_of};
-ghost use Rattle.h264_picture.specs.Context.{type_of};
 
 use crate::decoder::Decoder;
 use crate::frame_num::{check_gap, check_idr_num};
@@ -40,9 +40,9 @@ use crate::rules::{
 };
 use crate::sink::FrameSink;
 use arrayvec::ArrayVec;
-use h264_base::{Failed, SliceType, Stop};
+use h264_base::{Failed, Stop};
 use h264_dpb::{Ended, ended_of};
-use h264_header::{Header, SliceKind};
+use h264_header::Header;
 use h264_lists::RefSlot;
 use h264_marking::{Held, Numbering, numbering_of};
 use h264_picture::buffer_size;
@@ -93,16 +93,6 @@ impl Slice {
             header: Header::unread(),
             list: ArrayVec::new(),
         }
-    }
-}
-
-/// The type that the sink is told.
-fn type_of(kind: &SliceKind) -> SliceType
-    ensures { result ≡ type_of kind.now }
-{
-    match kind {
-        SliceKind::I => SliceType::I,
-        SliceKind::P(_) => SliceType::P,
     }
 }
 
@@ -300,7 +290,7 @@ fn tell_slice<S: FrameSink>(
 ) -> Result<(), Stop>
     requires { HasRoom S.failures sink.old }
     ensures plays { (frames : ℕ → Frame) → Plays (with_frames frames (span S.took S.failures sink.old sink.new)) (λ x. x)
-        (tells (Said (OfSlice byte header.now.first_mb_in_slice.value (type_of header.now.kind.value) header.now.frame_num.value
+        (tells (Said (OfSlice byte header.now.first_mb_in_slice.value (slice_type_of header.now.kind.value) header.now.frame_num.value
         (frame_count count)))) result }
     ensures no_memory { IsErrOf result Stop.Memory → ⊥ }
 {
@@ -309,7 +299,7 @@ fn tell_slice<S: FrameSink>(
     match sink.slice(
         byte,
         mb,
-        type_of(&header.kind.value),
+        header.kind.value.slice_type(),
         header.frame_num.value,
         count,
     ) {

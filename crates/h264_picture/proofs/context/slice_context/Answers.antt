@@ -10,4 +10,4 @@ returns-clause-value c =
     let fits : SFits w32 z = search rules in
     let kept : to_z w32 (of_z w32 z) ≡ z = omega (arith, ints) in
     let few : c.min.result ≡ min (length c.args.list.now) 16 = search rules in
-    rw (c.type_of.ensures, c.slice_qp.ensures.here, c.references.ensures, c.vector_limit.ensures.here, kept, few) refl
+    rw (c.slice_type.ensures, c.slice_qp.ensures.here, c.references.ensures, c.vector_limit.ensures.here, kept, few) refl
