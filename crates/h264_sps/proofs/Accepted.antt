@@ -181,7 +181,8 @@ frame-of limits refs size small h =
     and_from _ _ (lt-ltb 0 size.width h.wide)
     (and_from _ _ (lt-ltb 0 size.height h.high)
     (and_from _ _ (le-leb (size.width * size.height) 36864 (let m = h.macroblocks in omega (arith, m, small)))
-    (and_from _ _ (le-leb size.width 543 (side size.width limits.max_fs h.across small)) (le-leb size.height 543 (side size.height limits.max_fs h.down small)))))
+    (and_from _ _ (le-leb size.width 543 (side size.width limits.max_fs h.across small))
+    (le-leb size.height 543 (side size.height limits.max_fs h.down small)))))
 
 sps-gives : (target : Target) → Gives (sps target) HasRanges
 unfolding sps is_usable

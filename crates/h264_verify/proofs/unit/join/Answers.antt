@@ -111,20 +111,23 @@ join_slice-requires-clause-rbsp g c = (read-bytes _ _ _ _ c.in-Some.is c.require
 pub join_slice-requires-clause-goes_on : goal.join_slice-requires-clause-goes_on
 join_slice-requires-clause-goes_on g c =
     let here = slice-here c.args.terms.mode c.args.bytes.now.unit.now c.args.bytes.now.header c.args.bytes.now.rbsp.now _ c.requires.header c.requires.bytes
-    c.in-Some.is (is-not _ types.SequenceSet _ c.of-kind.ensures c.in_default-kind.not-SequenceSet) (is-not _ types.PictureSet _ c.of-kind.ensures c.in_default-kind.not-PictureSet) in
+    c.in-Some.is (is-not _ types.SequenceSet _ c.of-kind.ensures c.in_default-kind.not-SequenceSet)
+    (is-not _ types.PictureSet _ c.of-kind.ensures c.in_default-kind.not-PictureSet) in
     slice-goes-on (nal_unit_type c.args.bytes.now.header) here.0
 
 pub join_slice-requires-clause-kept : goal.join_slice-requires-clause-kept
 join_slice-requires-clause-kept g c =
     let here = slice-here c.args.terms.mode c.args.bytes.now.unit.now c.args.bytes.now.header c.args.bytes.now.rbsp.now _ c.requires.header c.requires.bytes
-    c.in-Some.is (is-not _ types.SequenceSet _ c.of-kind.ensures c.in_default-kind.not-SequenceSet) (is-not _ types.PictureSet _ c.of-kind.ensures c.in_default-kind.not-PictureSet) in
+    c.in-Some.is (is-not _ types.SequenceSet _ c.of-kind.ensures c.in_default-kind.not-SequenceSet)
+    (is-not _ types.PictureSet _ c.of-kind.ensures c.in_default-kind.not-PictureSet) in
     let mode = headers-of _ c.args.terms.mode c.args.state.now.decoder c.in-None.is c.requires.kept.keeps.decoder here.1 in
     here-in c.args.terms.mode modes.Headers _ _ mode (slice-goes-on (nal_unit_type c.args.bytes.now.header) here.0) c.requires.kept
 
 pub join_whole_slice-requires-clause-kept : goal.join_whole_slice-requires-clause-kept
 join_whole_slice-requires-clause-kept g c =
     let here = slice-here c.args.terms.mode c.args.bytes.now.unit.now c.args.bytes.now.header c.args.bytes.now.rbsp.now _ c.requires.header c.requires.bytes
-    c.in-Some.is (is-not _ types.SequenceSet _ c.of-kind.ensures c.in_default-kind.not-SequenceSet) (is-not _ types.PictureSet _ c.of-kind.ensures c.in_default-kind.not-PictureSet) in
+    c.in-Some.is (is-not _ types.SequenceSet _ c.of-kind.ensures c.in_default-kind.not-SequenceSet)
+    (is-not _ types.PictureSet _ c.of-kind.ensures c.in_default-kind.not-PictureSet) in
     let mode = (some-made _ c.args.terms.mode c.args.state.now.decoder _ c.in-Some-decoder.is c.requires.kept.keeps.decoder).0 in
     here-in c.args.terms.mode modes.Full _ _ mode (slice-goes-on (nal_unit_type c.args.bytes.now.header) here.0) c.requires.kept
 
@@ -134,14 +137,16 @@ join_whole_slice-requires-clause-rbsp g c = (read-bytes _ _ _ _ c.in-Some.is c.r
 pub join_whole_slice-requires-clause-goes_on : goal.join_whole_slice-requires-clause-goes_on
 join_whole_slice-requires-clause-goes_on g c =
     let here = slice-here c.args.terms.mode c.args.bytes.now.unit.now c.args.bytes.now.header c.args.bytes.now.rbsp.now _ c.requires.header c.requires.bytes
-    c.in-Some.is (is-not _ types.SequenceSet _ c.of-kind.ensures c.in_default-kind.not-SequenceSet) (is-not _ types.PictureSet _ c.of-kind.ensures c.in_default-kind.not-PictureSet) in
+    c.in-Some.is (is-not _ types.SequenceSet _ c.of-kind.ensures c.in_default-kind.not-SequenceSet)
+    (is-not _ types.PictureSet _ c.of-kind.ensures c.in_default-kind.not-PictureSet) in
     slice-goes-on (nal_unit_type c.args.bytes.now.header) here.0
 
 pub returns-in-None-clause-joins : goal.returns-in-None-clause-joins
 unfolding joined_by
 returns-in-None-clause-joins g c = λ frames before k.
     let here = slice-here c.args.terms.mode c.args.bytes.now.unit.now c.args.bytes.now.header c.args.bytes.now.rbsp.now _ c.requires.header c.requires.bytes
-    c.in-Some.is (is-not _ types.SequenceSet _ c.of-kind.ensures c.in_default-kind.not-SequenceSet) (is-not _ types.PictureSet _ c.of-kind.ensures c.in_default-kind.not-PictureSet) in
+    c.in-Some.is (is-not _ types.SequenceSet _ c.of-kind.ensures c.in_default-kind.not-SequenceSet)
+    (is-not _ types.PictureSet _ c.of-kind.ensures c.in_default-kind.not-PictureSet) in
     let mode = headers-of _ c.args.terms.mode c.args.state.now.decoder c.in-None.is c.requires.kept.keeps.decoder here.1 in
     let kept = subst (λ m. KeepsWithin m frames before (ends_picture (nal_unit_type c.args.bytes.now.header)) c.args.state.now) mode k in
     rw (
@@ -160,7 +165,8 @@ pub returns-in-Some-decoder-clause-joins : goal.returns-in-Some-decoder-clause-j
 unfolding joined_by
 returns-in-Some-decoder-clause-joins g c = λ frames before k.
     let here = slice-here c.args.terms.mode c.args.bytes.now.unit.now c.args.bytes.now.header c.args.bytes.now.rbsp.now _ c.requires.header c.requires.bytes
-    c.in-Some.is (is-not _ types.SequenceSet _ c.of-kind.ensures c.in_default-kind.not-SequenceSet) (is-not _ types.PictureSet _ c.of-kind.ensures c.in_default-kind.not-PictureSet) in
+    c.in-Some.is (is-not _ types.SequenceSet _ c.of-kind.ensures c.in_default-kind.not-SequenceSet)
+    (is-not _ types.PictureSet _ c.of-kind.ensures c.in_default-kind.not-PictureSet) in
     let mode = (some-made _ c.args.terms.mode c.args.state.now.decoder _ c.in-Some-decoder.is c.requires.kept.keeps.decoder).0 in
     let kept = subst (λ m. KeepsWithin m frames before (ends_picture (nal_unit_type c.args.bytes.now.header)) c.args.state.now) mode k in
     rw (
@@ -175,7 +181,8 @@ returns-in-Some-decoder-clause-joins g c = λ frames before k.
 pub returns-in-Some-decoder-clause-no_memory : goal.returns-in-Some-decoder-clause-no_memory
 returns-in-Some-decoder-clause-no_memory g c = λ frames before k m.
     let here = slice-here c.args.terms.mode c.args.bytes.now.unit.now c.args.bytes.now.header c.args.bytes.now.rbsp.now _ c.requires.header c.requires.bytes
-    c.in-Some.is (is-not _ types.SequenceSet _ c.of-kind.ensures c.in_default-kind.not-SequenceSet) (is-not _ types.PictureSet _ c.of-kind.ensures c.in_default-kind.not-PictureSet) in
+    c.in-Some.is (is-not _ types.SequenceSet _ c.of-kind.ensures c.in_default-kind.not-SequenceSet)
+    (is-not _ types.PictureSet _ c.of-kind.ensures c.in_default-kind.not-PictureSet) in
     let mode = (some-made _ c.args.terms.mode c.args.state.now.decoder _ c.in-Some-decoder.is c.requires.kept.keeps.decoder).0 in
     let kept = subst (λ q. KeepsWithin q frames before (ends_picture (nal_unit_type c.args.bytes.now.header)) c.args.state.now) mode k in
     record {
