@@ -76,7 +76,7 @@ pub(crate) fn above_of(b: usize) -> Option<usize>
     None
 }
 
-/// Whether no block has a coefficient, by total_coeff of each. There is no branch.
+/// Whether no block has a coefficient, by total_coeff (9.2.1) of each. There is no branch.
 #[inline(always)]
 pub fn are_blank(totals: &[u8]) -> bool
     ensures { result ≡ are_blank totals.now }
