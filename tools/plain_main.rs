@@ -2,7 +2,7 @@
 use h264_base::{ElementName, Elements, Failed, Mode, SliceType, Stop, Target};
 use h264_dpb::{FrameOut, Rectangle};
 use h264_plane::{Frame, Plane};
-use h264_verify::{FrameSink, Session, Summary};
+use h264_verify::{FrameSink, NalUnitType, Session, Summary};
 use std::collections::VecDeque;
 use std::io::{Read, Write};
 
@@ -88,10 +88,11 @@ impl<W: Write> FrameOut for Sink<W> {
 }
 
 impl<W: Write> FrameSink for Sink<W> {
-    fn unit(&mut self, byte: u64, nal_unit_type: u8, nal_ref_idc: u8, length: u64) -> Result<(), Failed> {
+    fn unit(&mut self, byte: u64, nal_unit_type: NalUnitType, nal_ref_idc: u8, length: u64) -> Result<(), Failed> {
         if self.task != Task::Units {
             return Ok(());
         }
+        let nal_unit_type = nal_unit_type.number();
         Self::done(put_line(&mut self.out, format!("unit {byte} type {nal_unit_type} ref {nal_ref_idc} bytes {length}")))
     }
 
