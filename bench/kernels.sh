@@ -8,12 +8,23 @@ top=$(cd "$(dirname "$0")/.." && pwd)
 work=$(mktemp -d)
 trap 'rm -rf "$work"' EXIT
 mkdir -p "$work/crates/kernels/src"
-for crate in h264_base h264_units h264_tables h264_rbsp h264_bits h264_cavlc h264_write h264_plane h264_scale h264_inter h264_near h264_deblock; do
-    cp -r "$top/crates/$crate" "$work/crates/"
-    rm -rf "$work/crates/$crate/must-fail"
-    grep "^$crate:" "$top/crates.txt" >> "$work/crates.txt"
-done
-echo "kernels: h264_base h264_units h264_tables h264_rbsp h264_bits h264_cavlc h264_write h264_plane h264_scale h264_inter h264_deblock" >> "$work/crates.txt"
+python3 - "$top" "$work" <<'PYTHON'
+import pathlib, shutil, sys
+
+top, work = map(pathlib.Path, sys.argv[1:])
+lines = [line.partition(":") for line in (top / "crates.txt").read_text().splitlines() if line.startswith("h264_")]
+uses = {name.split()[0]: words.split() for name, _, words in lines}
+own = "h264_base h264_units h264_tables h264_rbsp h264_bits h264_cavlc h264_write h264_plane h264_scale h264_inter h264_deblock".split()
+wanted, waiting = [], list(own)
+while waiting:
+    crate = waiting.pop(0)
+    if crate in uses and crate not in wanted:
+        wanted.append(crate)
+        waiting += uses[crate]
+for crate in wanted:
+    shutil.copytree(top / "crates" / crate, work / "crates" / crate, ignore=shutil.ignore_patterns("must-fail"))
+(work / "crates.txt").write_text("".join(f"{crate}: {' '.join(uses[crate])}\n" for crate in wanted) + f"kernels: {' '.join(own)}\n")
+PYTHON
 for module in main blocks; do
     cp "$top/bench/kernels/$module.rt.txt" "$work/crates/kernels/src/$module.rt"
 done
