@@ -181,7 +181,8 @@ impl<O: Opener + Drop> OpenedFiles<O> {
 impl<O: Opener + Maker + Drop> OpenedFiles<O> {
     /// A new file of this name to write to, or the emptied one.
     pub fn make(&mut self, name: &str) -> io::Result<O::Output>
-        ensures { self.new.file ≡ self.old.file }
+        ensures file { self.new.file ≡ self.old.file }
+        ensures unread { self.new.unread ≡ self.old.unread }
     {
         self.opener.make(name)
     }

@@ -466,6 +466,7 @@ fn do_one<O: Opener + Drop, W: Device, E: Device, M: Meter + Drop>(
         (O.holds files.old.opener (system_name job.now.file.now)) result }
     ensures read { IsErrOf result.ending.answer Read → IsUnread files.old.file.failures files.old.file.reads files.new.file.failures files.new.file.reads }
     ensures read_told { TellsFailure files.old.file.failures files.new.file.failures result.ending.answer }
+    ensures unread { files.new.unread ≡ files.old.unread }
     ensures failures { TellsWrites job.now.options.y4m result.ending (span_of W.contents W.has_failed W.holds_back out.old out.new)
         (output_of E.contents E.has_failed E.holds_back err.new) }
     ensures text { TakesText (IsFileText job.now.task job.now.options (opening_in job.now.options.json job.now.file.now job.now.prefix.now)
@@ -491,6 +492,7 @@ fn do_output<O: Opener + Maker + Drop, E: Device, M: Meter + Drop>(
         (O.holds files.old.opener (system_name job.now.file.now)) result }
     ensures read { IsErrOf result.ending.answer Read → IsUnread files.old.file.failures files.old.file.reads files.new.file.failures files.new.file.reads }
     ensures read_told { TellsFailure files.old.file.failures files.new.file.failures result.ending.answer }
+    ensures unread { files.new.unread ≡ files.old.unread }
 {
     if files.open(system_name(job.file)).is_err() {
         let done = put_unjudged(job, err, Stop::Read);

@@ -16,24 +16,24 @@ returns-clause-answer g c =
     c.system_name.ensures
     (opened c.open.result _ (sym c.is_err.ensures.value ∙ c.if-is_err.false) c.open.ensures.opened) in
     of-kept _ _ (λ bytes. IsAnswer (terms_of (mode_of c.args.job.now.task) c.args.job.now.options.target) bytes c.judge_opened-done.result.ending.answer) k
-    (rw c.make.ensures at c.judge_opened-done.ensures.answer)
+    (rw c.make.ensures.file at c.judge_opened-done.ensures.answer)
 
 pub returns-clause-broken : goal.returns-clause-broken
 returns-clause-broken g c =
     let k = subst (λ name. Keeps (g.O.Opener.holds c.args.files.now.opener name) (left_of g.O.File.Read.remaining c.open.new.self.file.reader))
     c.system_name.ensures
     (opened c.open.result _ (sym c.is_err.ensures.value ∙ c.if-is_err.false) c.open.ensures.opened) in
-    broken-kept _ _ _ _ c.judge_opened-done.result k (rw c.make.ensures at c.judge_opened-done.ensures.broken)
+    broken-kept _ _ _ _ c.judge_opened-done.result k (rw c.make.ensures.file at c.judge_opened-done.ensures.broken)
 
 pub returns-clause-read : goal.returns-clause-read
 returns-clause-read g c e =
     let well = sym c.is_err.ensures.value ∙ c.if-is_err.false in
     let after = c.judge_opened-done.new.file in
     read-since (was_read_by after.reads after.failures) (opened c.open.result _ well c.open.ensures.kept) (opened c.open.result _ well c.open.ensures.reads)
-    (subst (λ f. IsUnread f.failures f.reads after.failures after.reads) c.make.ensures (c.judge_opened-done.ensures.read e))
+    (subst (λ f. IsUnread f.failures f.reads after.failures after.reads) c.make.ensures.file (c.judge_opened-done.ensures.read e))
 
 pub returns-clause-read_told : goal.returns-clause-read_told
 returns-clause-read_told g c =
     let after = c.judge_opened-done.new.file in
     told-since (opened c.open.result _ (sym c.is_err.ensures.value ∙ c.if-is_err.false) c.open.ensures.kept)
-    (subst (λ f. TellsFailure f.failures after.failures c.judge_opened-done.result.ending.answer) c.make.ensures c.judge_opened-done.ensures.read_told)
+    (subst (λ f. TellsFailure f.failures after.failures c.judge_opened-done.result.ending.answer) c.make.ensures.file c.judge_opened-done.ensures.read_told)
