@@ -9,6 +9,7 @@ use Rattle.h264_report.specs.declared.device.WriteDevice.{WriteDevice}
 use Rattle.h264_report.specs.declared.judging.Ending.{Ending}
 use Rattle.h264_report.specs.declared.listing.Listing.TheVariants as listings
 use Rattle.h264_verify.specs.Units.{terms_of}
+use Rattle.h264v.specs.Options.{IsPlain}
 use Rattle.h264v.specs.Words.{program, asks, name_of, value_in, IsRefusable, IsTarget}
 use Rattle.h264v.specs.declared.command_line.Task.{Task}
 use Rattle.h264v.specs.declared.command_line.Task.TheVariants as tasks
@@ -125,13 +126,14 @@ files_read held ReadFailed ReadAll = record { held = held; ReadFailed = ReadFail
 pub data Comes (words : List Text) (files : FilesRead) (status : ℕ) (out err : OutputSpan) : Type 0 where
   -- they ask for nothing
   Faulted : Faults words status out err → Comes words files status out err
-  -- they ask for a task with a file that can't be opened
+  -- they ask for a task with one file and no option but `--target`, and the file can't be opened
   Unopened : (task : Task) (name : Text) (written : Bool) → asks program words ≡ Some (name_of task, Some name) →
-      status ≡ status_of written (Err Read) → files.ReadFailed → TellsFailures (failed_read written) out err →
+      IsPlain (subcommand_of program words) name → status ≡ status_of written (Err Read) → files.ReadFailed → TellsFailures (failed_read written) out err →
       SaysAlone task (failed_read written) (wrote_in out) (wrote_in err) → Comes words files status out err
-  -- they ask for a task with a file, and it was done, for the target that they name
+  -- they ask for a task with one file and no option but `--target`, and it was done, for the target that they name
   Done : (task : Task) (name : Text) (target : Target) (ending : Ending) →
-      asks program words ≡ Some (name_of task, Some name) → IsTarget (value_in (subcommand_of program words) (codes "target")) target →
+      asks program words ≡ Some (name_of task, Some name) → IsPlain (subcommand_of program words) name →
+      IsTarget (value_in (subcommand_of program words) (codes "target")) target →
       status ≡ status_of ending.written ending.answer → IsExcused files.ReadFailed files.ReadAll ending out err →
       OfBytes (files.held name) (λ bytes. Performs task target bytes ending (wrote_in out) (wrote_in err)) → Comes words files status out err
 

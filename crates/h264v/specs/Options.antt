@@ -63,6 +63,24 @@ pub record AreOptions (given : Given) (o : Options) : Type 0 where
   pub mb : IsNumber (value_in given (codes "mb")) o.choice.macroblock
   pub target : IsTarget (value_in given (codes "target")) o.target
 
+-- The words have no option but `--target`.
+pub record HasNoOption (given : Given) : Type 0 where
+  pub explain : IsFlag (flag_in given (codes "explain")) false
+  pub json : IsFlag (flag_in given (codes "json")) false
+  pub quiet : IsFlag (flag_in given (codes "quiet")) false
+  pub progress : IsFlag (flag_in given (codes "progress")) false
+  pub y4m : IsFlag (flag_in given (codes "y4m")) false
+  pub strict : IsFlag (flag_in given (codes "strict")) false
+  pub output : value_in given (codes "output") ≡ None
+  pub picture : value_in given (codes "picture") ≡ None
+  pub mb : value_in given (codes "mb") ≡ None
+
+-- The words name this FILE alone, which is not standard input, and have no option but `--target`.
+pub record IsPlain (given : Given) (name : Text) : Type 0 where
+  pub options : HasNoOption given
+  pub files : length (values_in given (codes "FILE")) ≡ 1
+  pub input : name ≢ codes "-"
+
 -- ---- values that can't be read
 
 -- Why a value can't be read: it is no number, or names no target.

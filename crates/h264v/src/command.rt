@@ -14,6 +14,7 @@ ghost use Rattle.h264v.specs.Files.{HasFailedToRead, HasReadAll};
 ghost use Rattle.h264v.specs.declared.command_line.Wanted.{Wanted as WantedView};
 ghost use Rattle.h264v.specs.declared.outcome.Outcome.TheVariants as outcomes;
 ghost use Rattle.h264v.specs.Words.{program, asks, name_of, value_in, is_judging, IsTarget};
+ghost use Rattle.h264v.specs.Options.{IsPlain};
 
 use crate::command_line::{Request, Task, asked};
 use crate::files::Files;
@@ -154,6 +155,7 @@ fn serve<F: Files, W: Device, E: Device>(
     requires room { HasRoom F.failures files.old }
     requires judging { is_judging request.task ≡ true }
     ensures { (words : List Text) → asks program words ≡ Some (name_of request.entry.task, Some request.entry.file.now) →
+        IsPlain (subcommand_of program words) request.entry.file.now →
         IsTarget (value_in (subcommand_of program words) (codes "target")) target → Comes words (files_read (λ name. F.holds files.old name)
         (HasFailedToRead (F.failures files.old) (F.failures files.new) (F.was_read files.old) (F.was_read files.new))
         (HasReadAll (F.failures files.old) (F.failures files.new))) result (span_of W.contents W.has_failed W.holds_back out.old out.new)

@@ -1,5 +1,6 @@
 use Rattle.std.proofs.Common.{map, string_bytes, refl, subst, codes}
 use Rattle.h264v.specs.Commands.{Refused, Faulted}
+use Rattle.h264v.specs.Options.{IsPlain}
 use Rattle.h264v.specs.Words.{IsTarget, value_in}
 use Rattle.h264v.proofs.command.command.Goals as goal
 
@@ -12,5 +13,6 @@ returns-in-Ok-None-clause-comes g c = Faulted
 
 pub returns-in-Some-clause-comes : goal.returns-in-Some-clause-comes
 returns-in-Some-clause-comes g c = c.serve.ensures (map (λ w. string_bytes w) c.args.words.now) (rw c.in-Ok-Some.field-0-is at c.in-Ok-Some.ensures.words)
+    (subst (λ given. IsPlain given c.in-Ok-Some.wanted.request.file.now) (rw c.in-Ok-Some.field-0-is at c.in-Ok-Some.ensures.matches) c.in-Some.ensures.plain)
     (subst (λ given. IsTarget (value_in given (codes "target")) c.in-Some.target) (rw c.in-Ok-Some.field-0-is at c.in-Ok-Some.ensures.matches)
     c.in-Some.ensures.target)

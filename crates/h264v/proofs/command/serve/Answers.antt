@@ -11,13 +11,13 @@ told-since : {f f' f'' : ℕ} {Told : Type 0} → f' ≡ f → (f'' ≡ f') ⊎ 
 told-since kept t = ⊎_elim (λ e. inl (e ∙ kept)) (λ told. inr told) t
 
 pub returns-in-Err : goal.returns-in-Err
-returns-in-Err g c words asks target = Unopened c.args.request.task c.args.request.file.now c.no_file.result.written asks
+returns-in-Err g c words asks plain target = Unopened c.args.request.task c.args.request.file.now c.no_file.result.written asks plain
     (c.status-in-Err.ensures ∙ ap (λ answer. status_of c.no_file.result.written answer) c.no_file.ensures.answer) (inl c.in-Err.ensures.failed)
     c.no_file.ensures.failures c.no_file.ensures.says
 
 pub returns-in-Ok : goal.returns-in-Ok
-returns-in-Ok g c words asks target =
-    Done c.args.request.task c.args.request.file.now c.args.target c.perform.result asks target c.status.ensures
+returns-in-Ok g c words asks plain target =
+    Done c.args.request.task c.args.request.file.now c.args.target c.perform.result asks plain target c.status.ensures
     (record {
       failures = c.perform.ensures.excused.failures;
       read = λ e. read-since (g.F.Source.was_read c.perform.new.source) c.in-Ok.ensures.kept c.in-Ok.ensures.reads (c.perform.ensures.excused.read e);
