@@ -224,11 +224,14 @@ pub data Ends (words : List Text) (files : FilesSpan) (status : ℕ) (out : Outp
   More : (err' : Output) (task : Task) (name : Text) → asks program words ≡ Some (name_of task, Some name) →
       IsStatus task (subcommand_of program words) files status out (from_to err err') → Ends words files status out err
 
--- What the program comes to.
+-- What the program comes to with these words.
 pub data Runs (words : List Text) (files : FilesSpan) (status : ℕ) (out : OutputSpan) (err : Output) : Type 0 where
   Asked : Ends words files status out err → Runs words files status out err
-  -- a word is no text
-  NotText : status ≡ 64 → out.new ≡ out.old → Runs words files status out err
   -- there was no memory for the words
   NoWords : (written : Bool) → status ≡ status_of written (Err Memory) → (written ≡ true → out.new.holds_back ≡ false) →
       Takes written out.old.bytes out.new.bytes (last_line modes.Full (Err Memory)) → Runs words files status out err
+
+-- What the program comes to with words that may not be known: with some, or where one of them is no text.
+pub data RunsOnSome (files : FilesSpan) (status : ℕ) (out : OutputSpan) (err : Output) : Type 0 where
+  Worded : (words : List Text) → Runs words files status out err → RunsOnSome files status out err
+  NotText : status ≡ 64 → out.new ≡ out.old → RunsOnSome files status out err

@@ -5,7 +5,7 @@ ghost use Rattle.std.specs.Prelude.{◌≡◌, ◌-◌, ◌<◌, ◌^◌, List, 
 ghost use Rattle.clap.specs.Words.{Text, subcommand_rows_of};
 ghost use Rattle.h264v.specs.Commands.{output_by, span_by, span_of};
 ghost use Rattle.h264v.specs.Files.{counts};
-ghost use Rattle.h264v.specs.More.{IsStatus, Ends, Runs, files_span};
+ghost use Rattle.h264v.specs.More.{IsStatus, Ends, Runs, RunsOnSome, files_span};
 
 use crate::command::{command, not_text};
 use crate::command_line::Wanted;
@@ -121,7 +121,7 @@ where
         (counts files.old.file.failures files.old.file.reads files.old.unread)
         (counts files.new.file.failures files.new.file.reads files.new.unread)) result (span_by W.contents out.old out.new)
         (output_by E.contents err.old) }
-    ensures some { (words' : List Text) × Runs words' (files_span (λ name. O.holds files.old.opener name)
+    ensures some { RunsOnSome (files_span (λ name. O.holds files.old.opener name)
         (counts files.old.file.failures files.old.file.reads files.old.unread)
         (counts files.new.file.failures files.new.file.reads files.new.unread)) result
         (span_by W.contents out.old out.new) (output_by E.contents err.old) }

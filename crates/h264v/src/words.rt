@@ -16,8 +16,10 @@ pub trait Words {
 
     /// The words; none where one of them is not UTF-8. An error where memory is wanting.
     fn words(&self, alloc: Global) -> io::Result<Option<Vec<String>>>
-        ensures { IfOk result (λ found. IfSome found (λ given. (words : List Text) → known self.now ≡ Some words →
-            map (λ w. string_bytes w) given.items ≡ words)) };
+        ensures given { IfOk result (λ found. IfSome found (λ given. (words : List Text) → known self.now ≡ Some words →
+            map (λ w. string_bytes w) given.items ≡ words)) }
+        // Words that are known are UTF-8.
+        ensures not_text { IfOk result (λ found. found ≡ None → known self.now ≡ None) };
 }
 
 /// The arguments, the program's name first; none where one of them is not UTF-8. An error where memory is wanting.
