@@ -21,6 +21,7 @@ pub mod Accounting
 pub mod Entries
 pub mod Reaching
 pub mod Choosing
+pub mod Surveying
 pub mod Growing
 pub mod Broken
 pub mod Factors

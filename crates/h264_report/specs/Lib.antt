@@ -14,6 +14,7 @@ pub mod Decoding
 pub mod Given
 pub mod Entries
 pub mod Chosen
+pub mod Surveyed
 pub mod StrictRules
 pub mod StrictLevels
 pub mod StrictRatio

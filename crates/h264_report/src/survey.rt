@@ -1,8 +1,9 @@
 //! A survey of a stream: what its calls tell of sets, units, slices, pictures and macroblocks.
 //!
 //! `Surveyed` stands around another sink: it notes each call in a `Survey` and hands it on; `Narrowed` hands on what is chosen alone. Promised: the sink
-//! inside takes the calls as if it stood alone, or what `specs/Chosen.antt` leaves of them; and the survey is safe, total, and never fails a call. What it
-//! notes is tested, and not proved. Its memory grows with the pictures alone.
+//! inside takes the calls as if it stood alone, or what `specs/Chosen.antt` leaves of them; and the survey is safe, total, and never fails a call. It counts
+//! each unit and each frame that `Surveyed` is told (`specs/Surveyed.antt`). What else it notes is tested, and not proved. Its memory grows with the pictures
+//! alone.
 #![tactic(auto)]
 
 pub mod counts;

@@ -152,7 +152,7 @@ pub some-all : {X : Type 0} (P : X → Type 0) (found : Option X) → ((x : X) �
 some-all P None h = tt
 some-all P (Some x) h = h x
 
-some-map : {X : Type 0} (P Q : X → Type 0) (found : Option X) → ((x : X) → P x → Q x) → IfSome found P → IfSome found Q
+pub some-map : {X : Type 0} (P Q : X → Type 0) (found : Option X) → ((x : X) → P x → Q x) → IfSome found P → IfSome found Q
 some-map P Q None f h = tt
 some-map P Q (Some x) f h = f x h
 

@@ -5,4 +5,5 @@ pub mod Further
 pub mod More
 pub mod Options
 pub mod Texts
+pub mod Surveys
 pub mod Words

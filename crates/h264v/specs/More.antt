@@ -1,6 +1,6 @@
 -- What the program comes to, whatever its words ask: the exit status, and what it writes to standard output. To be read beside docs/OUTPUT.md.
 use Rattle.std.specs.Prelude.{◌≡◌, ◌≢◌, ◌⊎◌, ℕ, ◌≤◌, ◌==◌, max, not, Bool, true, false, List, [], ◌∷◌, ◌++◌}
-use Rattle.std.specs.Prelude.{map, length, codes, Option, None, Some, IsSome, Result, Ok, Err, IsErrOf, if◌then◌else◌}
+use Rattle.std.specs.Prelude.{map, length, codes, Option, None, Some, IsSome, IfSome, Result, Ok, Err, IsErrOf, if◌then◌else◌}
 use Rattle.std.specs.List.{All, count_by}
 use Rattle.h264_base.specs.declared.mode.Mode.TheVariants as modes
 use Rattle.h264_base.specs.declared.mode.Target.{Target}
@@ -77,6 +77,10 @@ pub record TellsCause (old new : Option (List ℕ)) (name : Text) : Type 0 where
   pub cause : List ℕ
   pub line : Sends old new ((codes "h264v: " ++ name) ++ ended cause)
 
+-- An output to the file of this name was made, and took this text.
+abbrev pub HasTaken : {W : Type 0} → (goes_to : W → Text → Type 0) → (contents : W → Option (List ℕ)) → (name : Text) (text : List ℕ) → Type 0
+HasTaken {W} goes_to contents name text = (made : W) × (written : W) × goes_to made name × Sends (contents made) (contents written) text
+
 -- ---- a file of the words
 
 -- a file's name, how its judgement ended, and what was written of it to the output
@@ -119,6 +123,12 @@ says_failure (Err (Outside bit feature)) = false
 says_failure (Err Memory) = false
 says_failure (Err Read) = true
 says_failure (Err Write) = true
+
+-- The file for the output took a text of this kind, where neither a read nor a write failed.
+pub record IsToldAside (ending : Ending) (Is Took : List ℕ → Type 0) : Type 0 where
+  pub text : List ℕ
+  pub is_text : ending.written ≡ true → says_failure ending.answer ≡ false → Is text
+  pub took : ending.written ≡ true → says_failure ending.answer ≡ false → Took text
 
 -- That a read failed is told of a file only where one did since, or where it was read too often. One that failed is told, or that a write failed too.
 pub record TellsRead (before after : Counts) (f : FileDone) : Type 0 where
@@ -185,21 +195,34 @@ pub data IsToldStatus (status : ℕ) (out' : Output) : Type 0 where
 abbrev pub IsWhole : (status : ℕ) (out : OutputSpan) → Type 0
 IsWhole status out = status ≢ 4 → (out.new.has_failed ≡ true → out.old.has_failed ≡ true) × IsHandedOver out
 
--- What the file of each name holds, as far as that is known, and the counts of files before and after.
-pub record FilesSpan : Type 0 where
+-- What the file of each name holds, as far as that is known, the counts of files before and after, and that the file of a name was made for the output and
+-- took a text.
+pub record FilesSpan : Type 1 where
   pub held : Text → Option (List ℕ)
   pub before : Counts
   pub after : Counts
+  pub Took : Text → List ℕ → Type 0
 
-abbrev pub files_span : (Text → Option (List ℕ)) → (before after : Counts) → FilesSpan
-files_span held before after = record { held = held; before = before; after = after }
+abbrev pub files_span : (Text → Option (List ℕ)) → (before after : Counts) → (Took : Text → List ℕ → Type 0) → FilesSpan
+files_span held before after Took = record { held = held; before = before; after = after; Took = Took }
+
+-- no file is made for the output
+abbrev pub NoneTook : Text → List ℕ → Type 0
+NoneTook name text = ⊥
+
+-- The file that the words name for the output took what tells of the one FILE.
+pub record AreToldAside (w : Work) (files : FilesSpan) (done : List FileDone) (output : Text) : Type 0 where
+  pub texts : All (IsTextOfFile w files.held false) done
+  pub took : files.Took output (texts_of done)
 
 -- Each file of these names was judged, in their order, and this is the status of all; or a device failed. Of failed reads this is told. Standard output was
--- told of each, where the words name no file for the output.
+-- told of each, where the words name no file for the output; else that file was told of the one FILE, where the status is none of a device's.
 pub data AreDone (w : Work) (files : FilesSpan) (names : List Text) (status : ℕ) (out : OutputSpan) (err' : Output) : Type 0 where
   Each : (done : List FileDone) → map (λ f. f.name) done ≡ names → All (IsJudged w files.held out.new err') done →
       TellReads (are_several names) files.before files.after done → status ≡ worst done → IsWhole status out →
-      (w.options.output ≡ None → AreTold w files.held (are_several names) done out) → AreDone w files names status out err'
+      (w.options.output ≡ None → AreTold w files.held (are_several names) done out) →
+      (are_several names ≡ false → status ≢ 4 → IfSome w.options.output (λ output. AreToldAside w files done output.now)) →
+      AreDone w files names status out err'
   Broke : status ≡ 4 → HasFailed out.new err' → AreDone w files names status out err'
 
 -- What comes of a task where the words ask for more than a judgement of one FILE: its exit status, and what is known of the devices.

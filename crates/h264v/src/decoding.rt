@@ -8,6 +8,7 @@ ghost use Rattle.h264_verify.specs.Units.{terms_of};
 ghost use Rattle.h264v.specs.Commands.{output_of};
 ghost use Rattle.h264v.specs.Files.{left_of, HasReadAll, IsUnread, TellsUnread};
 ghost use Rattle.h264v.specs.More.{IsAnswerOf};
+ghost use Rattle.h264v.specs.Surveys.{IsSurveyed};
 ghost use Rattle.h264v.specs.Texts.{IsDecoded, TakesText};
 ghost use Rattle.h264v.specs.Words.{mode_of};
 
@@ -38,6 +39,7 @@ fn decode_samples<'a, K: Sheet, F: io::Read + Drop, W: Device, M: Meter + Drop>(
     ensures read { IsErrOf result.1 Read → IsUnread file.old.failures file.old.reads file.new.failures file.new.reads }
     ensures read_told { TellsUnread file.old.failures file.new.failures result.1 }
     ensures kept { IsSome kept.new }
+    ensures surveyed { IfSome kept.new (λ survey. IsSurveyed job.now (left_of F.remaining file.old.reader) result.1 survey) }
     ensures text { OfBytes (left_of F.remaining file.old.reader) (λ bytes. TakesText
         (IsDecoded false (terms_of (mode_of job.now.task) job.now.options.target) bytes result.1) K.start
         (output_of W.contents W.has_failed W.holds_back result.0.out.now)) }
@@ -74,6 +76,7 @@ fn decode_y4m<'a, K: Sheet, F: io::Read + Drop, W: Device, M: Meter + Drop>(
     ensures read { IsErrOf result.1.answer Read → IsUnread file.old.failures file.old.reads file.new.failures file.new.reads }
     ensures read_told { TellsUnread file.old.failures file.new.failures result.1.answer }
     ensures kept { IsSome kept.new }
+    ensures surveyed { IfSome kept.new (λ survey. IsSurveyed job.now (left_of F.remaining file.old.reader) result.1.answer survey) }
     ensures text { OfBytes (left_of F.remaining file.old.reader) (λ bytes. TakesText
         (IsDecoded true (terms_of (mode_of job.now.task) job.now.options.target) bytes result.1.answer) K.start
         (output_of W.contents W.has_failed W.holds_back result.0.out.now)) }
@@ -101,6 +104,7 @@ fn decode_bare<F: io::Read + Drop, W: Device, M: Meter + Drop>(
     ensures read { IsErrOf result.answer Read → IsUnread file.old.failures file.old.reads file.new.failures file.new.reads }
     ensures read_told { TellsUnread file.old.failures file.new.failures result.answer }
     ensures further { result.strict ≡ None }
+    ensures surveyed { IsSurveyed job.now (left_of F.remaining file.old.reader) result.answer result.survey }
     ensures text { OfBytes (left_of F.remaining file.old.reader) (λ bytes. TakesText
         (IsDecoded false (terms_of (mode_of job.now.task) job.now.options.target) bytes result.answer) (W.contents out.old)
         (output_of W.contents W.has_failed W.holds_back out.new)) }
@@ -123,6 +127,7 @@ fn decode_framed<F: io::Read + Drop, W: Device, M: Meter + Drop>(
     ensures read { IsErrOf result.answer Read → IsUnread file.old.failures file.old.reads file.new.failures file.new.reads }
     ensures read_told { TellsUnread file.old.failures file.new.failures result.answer }
     ensures further { result.strict ≡ None }
+    ensures surveyed { IsSurveyed job.now (left_of F.remaining file.old.reader) result.answer result.survey }
     ensures text { OfBytes (left_of F.remaining file.old.reader) (λ bytes. TakesText
         (IsDecoded true (terms_of (mode_of job.now.task) job.now.options.target) bytes result.answer) (W.contents out.old)
         (output_of W.contents W.has_failed W.holds_back out.new)) }
@@ -150,6 +155,7 @@ pub fn decode_file<F: io::Read + Drop, W: Device, M: Meter + Drop>(
     ensures read_told { IfSome result (λ found. TellsUnread file.old.failures file.new.failures found.answer) }
     ensures unread { IfNone result (HasReadAll file.old.failures file.new.failures) }
     ensures further { IfSome result (λ found. found.strict ≡ None) }
+    ensures surveyed { IfSome result (λ found. IsSurveyed job.now (left_of F.remaining file.old.reader) found.answer found.survey) }
     ensures text { IfSome result (λ found. OfBytes (left_of F.remaining file.old.reader) (λ bytes. TakesText
         (IsDecoded job.now.options.y4m (terms_of (mode_of job.now.task) job.now.options.target) bytes found.answer) (W.contents out.old)
         (output_of W.contents W.has_failed W.holds_back out.new))) }

@@ -33,8 +33,12 @@ pub trait Maker {
     /// What is written to.
     type Output: Write + Drop;
 
+    /// Whether what an output is given goes to the file of this name.
+    ghost goes_to: { Self.Output → List ℕ → Type 0 } = { λ _ _. Unit {0} };
+
     /// A new file of this name, or the emptied one.
-    fn make(&mut self, name: &str) -> io::Result<Self::Output>;
+    fn make(&mut self, name: &str) -> io::Result<Self::Output>
+        ensures named { IfOk result (λ output. goes_to output name.now) };
 
     /// Whether two names stand for one file.
     fn is_same(&self, name: &str, other: &str) -> bool;
@@ -181,6 +185,7 @@ impl<O: Opener + Drop> OpenedFiles<O> {
 impl<O: Opener + Maker + Drop> OpenedFiles<O> {
     /// A new file of this name to write to, or the emptied one.
     pub fn make(&mut self, name: &str) -> io::Result<O::Output>
+        ensures named { IfOk result (λ output. O.goes_to output name.now) }
         ensures file { self.new.file ≡ self.old.file }
         ensures unread { self.new.unread ≡ self.old.unread }
     {

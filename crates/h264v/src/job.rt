@@ -10,6 +10,7 @@ ghost use Rattle.h264_verify.specs.Units.{terms_of};
 ghost use Rattle.h264v.specs.Files.{left_of, HasReadAll, IsUnread, TellsUnread};
 ghost use Rattle.h264v.specs.Further.{AreJudged, BreakOne, IsFound};
 ghost use Rattle.h264v.specs.More.{done_status, IsAnswerOf};
+ghost use Rattle.h264v.specs.Surveys.{asks_for_survey, IsSurveyed};
 ghost use Rattle.h264v.specs.Words.{mode_of};
 
 use crate::command_line::Task;
@@ -142,6 +143,8 @@ pub fn judge<S: FrameSink + Drop, F: io::Read + Drop, M: Meter + Drop>(
     ensures took { S.took sink [] → OfBytes (left_of F.remaining file.old.reader) (λ bytes.
         (a : Account (terms_of (mode_of job.now.task) job.now.options.target) bytes result.1) × S.took result.0.sink (calls_in a)) }
     ensures some { S.took sink [] → (calls : List Call) × S.took result.0.sink calls }
+    ensures surveyed { S.took sink [] → IsSurveyed job.now (left_of F.remaining file.old.reader) result.1 result.0.survey }
+    ensures ended { M.has_ended result.0.meter }
 {
     let Watch { survey, meter } = watch;
     let mut surveyed = Surveyed {
@@ -160,6 +163,7 @@ pub fn found_with(job: &Job<'_>, seen: Seen, answer: Answer, kept: Option<Survey
     requires { IsSome kept }
     ensures answer { result.answer ≡ answer }
     ensures further { result.strict ≡ None }
+    ensures survey { IfSome kept (λ survey. result.survey ≡ survey) }
 {
     match kept {
         Some(survey) => Found {
@@ -176,14 +180,16 @@ pub fn found_with(job: &Job<'_>, seen: Seen, answer: Answer, kept: Option<Survey
 
 /// Tells the meter that a judgement has ended.
 fn tell_end<S: FrameSink + Drop, M: Meter + Drop>(surveyed: &mut Surveyed<S, M>)
-    ensures { surveyed.new.sink ≡ surveyed.old.sink }
+    ensures sink { surveyed.new.sink ≡ surveyed.old.sink }
+    ensures survey { surveyed.new.survey ≡ surveyed.old.survey }
+    ensures ended { M.has_ended surveyed.new.meter }
 {
     let byte = match surveyed.survey.unit() {
         Some(unit) => unit.byte.saturating_add(unit.length),
         None => 0,
     };
     let pictures = surveyed.survey.picture_count();
-    let frames = surveyed.survey.frames();
+    let frames = surveyed.survey.frames;
     surveyed.meter.end(byte, pictures, frames);
 }
 
@@ -208,6 +214,8 @@ fn judge_plainly<S: FrameSink + Drop, F: io::Read + Drop, M: Meter + Drop>(
     ensures read { IfSome result (λ judged. IsErrOf judged.answer Read → IsUnread file.old.failures file.old.reads file.new.failures file.new.reads) }
     ensures read_told { IfSome result (λ judged. TellsUnread file.old.failures file.new.failures judged.answer) }
     ensures unread { IfNone result (HasReadAll file.old.failures file.new.failures) }
+    ensures surveyed { IfSome result (λ judged. asks_for_survey job.now.options ≡ true → S.took sink [] →
+        IsSurveyed job.now (left_of F.remaining file.old.reader) judged.answer judged.survey) }
 {
     let Ok(survey) = Survey::new(job.alloc) else {
         return None;
@@ -266,6 +274,8 @@ pub fn judge_further<S: FrameSink + Drop, F: io::Read + Drop, M: Meter + Drop>(
     ensures read_told { TellsUnread file.old.failures file.new.failures result.answer }
     ensures further { AreJudged (terms_of (mode_of job.now.task) job.now.options.target) (left_of F.remaining file.old.reader) result.answer
         result.further }
+    ensures surveyed { is_surveyed ≡ true → IsSurveyed job.now (left_of F.remaining file.old.reader) result.answer result.survey }
+    ensures unsurveyed { is_surveyed ≡ false → result.survey ≡ watch.survey }
 {
     let Watch { survey, meter } = watch;
     let mut sink = StrictSink::new(sink);
@@ -294,6 +304,7 @@ fn judged_further<S: FrameSink + Drop>(
     ensures answer { result.answer ≡ judgement.answer }
     ensures strict { result.further.strict ≡ sink.strict }
     ensures units { result.further.units ≡ judgement.units }
+    ensures survey { result.survey ≡ survey }
 {
     let StrictJudgement { answer, units } = judgement;
     let StrictSink { sink, strict } = sink;
@@ -318,6 +329,8 @@ fn check_strictly<F: io::Read + Drop, M: Meter + Drop>(
     ensures unread { IfNone result (HasReadAll file.old.failures file.new.failures) }
     ensures further { IfSome result (λ found. IsFound true (terms_of (mode_of job.now.task) job.now.options.target)
         (left_of F.remaining file.old.reader) found.answer found.strict) }
+    ensures surveyed { IfSome result (λ found. asks_for_survey job.now.options ≡ true →
+        IsSurveyed job.now (left_of F.remaining file.old.reader) found.answer found.survey) }
 {
     let Ok(trail) = TrailSink::new(job.alloc) else {
         return None;
@@ -357,6 +370,8 @@ pub fn check_file<F: io::Read + Drop, M: Meter + Drop>(
     ensures unread { IfNone result (HasReadAll file.old.failures file.new.failures) }
     ensures further { IfSome result (λ found. IsFound job.now.options.strict (terms_of (mode_of job.now.task) job.now.options.target)
         (left_of F.remaining file.old.reader) found.answer found.strict) }
+    ensures surveyed { IfSome result (λ found. asks_for_survey job.now.options ≡ true →
+        IsSurveyed job.now (left_of F.remaining file.old.reader) found.answer found.survey) }
 {
     if job.options.strict {
         return check_strictly(job, file, meter);
@@ -427,6 +442,7 @@ pub fn info_file<F: io::Read + Drop, M: Meter + Drop>(
     ensures read_told { IfSome result (λ found. TellsUnread file.old.failures file.new.failures found.answer) }
     ensures unread { IfNone result (HasReadAll file.old.failures file.new.failures) }
     ensures further { IfSome result (λ found. found.strict ≡ None) }
+    ensures surveyed { IfSome result (λ found. IsSurveyed job.now (left_of F.remaining file.old.reader) found.answer found.survey) }
 {
     let Ok(sink) = TrailSink::new(job.alloc) else {
         return None;

@@ -1,7 +1,7 @@
 //! A line, or an object, for each call of a task's listing.
 #![tactic(auto)]
 
-ghost use Rattle.std.specs.Prelude.{◌≡◌, ◌-◌, ◌<◌, ◌^◌, List, true, None, IsErrOf, IfOk, IsSome, IfSome, IfNone, string_bytes};
+ghost use Rattle.std.specs.Prelude.{◌≡◌, ◌-◌, ◌<◌, ◌^◌, List, true, false, None, IsErrOf, IfOk, IsSome, IfSome, IfNone, string_bytes};
 ghost use Rattle.h264_base.specs.declared.stop.Stop.TheVariants.{Read};
 ghost use Rattle.h264_report.specs.Objects.{opening_of};
 ghost use Rattle.h264_report.specs.Told.{lines_of};
@@ -10,6 +10,7 @@ ghost use Rattle.h264_verify.specs.Units.{terms_of};
 ghost use Rattle.h264v.specs.Commands.{output_of};
 ghost use Rattle.h264v.specs.Files.{left_of, HasReadAll, IsUnread, TellsUnread};
 ghost use Rattle.h264v.specs.More.{IsAnswerOf};
+ghost use Rattle.h264v.specs.Surveys.{IsSurveyed};
 ghost use Rattle.h264v.specs.Texts.{IsListed, IsMade, TakesText, chooses, head_of, listing_of, opening_in};
 ghost use Rattle.h264v.specs.Words.{mode_of};
 
@@ -80,6 +81,7 @@ fn list_by_pen<'a, 'b, K: Sheet, F: io::Read + Drop, W: Device, M: Meter + Drop>
     ensures read { IsErrOf result.1 Read → IsUnread file.old.failures file.old.reads file.new.failures file.new.reads }
     ensures read_told { TellsUnread file.old.failures file.new.failures result.1 }
     ensures kept { IsSome kept.new }
+    ensures surveyed { IfSome kept.new (λ survey. IsSurveyed job.now (left_of F.remaining file.old.reader) result.1 survey) }
     ensures text { OfBytes (left_of F.remaining file.old.reader) (λ bytes. TakesText (IsMade (lines_of K.opening K.listing 0)
         (terms_of (mode_of job.now.task) job.now.options.target) bytes result.1) K.start
         (output_of W.contents W.has_failed W.holds_back result.0.out.now)) }
@@ -105,6 +107,7 @@ fn list_all<F: io::Read + Drop, W: Device, M: Meter + Drop>(
     ensures read { IsErrOf result.answer Read → IsUnread file.old.failures file.old.reads file.new.failures file.new.reads }
     ensures read_told { TellsUnread file.old.failures file.new.failures result.answer }
     ensures further { result.strict ≡ None }
+    ensures surveyed { IsSurveyed job.now (left_of F.remaining file.old.reader) result.answer result.survey }
     ensures text { OfBytes (left_of F.remaining file.old.reader) (λ bytes. TakesText (IsMade
         (lines_of (opening_of form.entry) (listing_of job.now.task job.now.options.quiet) 0) (terms_of (mode_of job.now.task) job.now.options.target) bytes
         result.answer) (W.contents out.old) (output_of W.contents W.has_failed W.holds_back out.new)) }
@@ -188,6 +191,8 @@ fn list_in_form<F: io::Read + Drop, W: Device, M: Meter + Drop>(
     ensures read_told { IfSome result (λ found. TellsUnread file.old.failures file.new.failures found.answer) }
     ensures unread { IfNone result (HasReadAll file.old.failures file.new.failures) }
     ensures further { IfSome result (λ found. found.strict ≡ None) }
+    ensures surveyed { IfSome result (λ found. chooses job.now.options.choice ≡ false →
+        IsSurveyed job.now (left_of F.remaining file.old.reader) found.answer found.survey) }
     ensures text { IfSome result (λ found. OfBytes (left_of F.remaining file.old.reader) (λ bytes. TakesText
         (IsListed job.now.options.choice (lines_of (opening_of form.entry) (listing_of job.now.task job.now.options.quiet) 0)
         (terms_of (mode_of job.now.task) job.now.options.target) bytes found.answer) (W.contents out.old)
@@ -216,6 +221,8 @@ pub fn list_file<F: io::Read + Drop, W: Device, M: Meter + Drop>(
     ensures read_told { IfSome result (λ found. TellsUnread file.old.failures file.new.failures found.answer) }
     ensures unread { IfNone result (HasReadAll file.old.failures file.new.failures) }
     ensures further { IfSome result (λ found. found.strict ≡ None) }
+    ensures surveyed { IfSome result (λ found. chooses job.now.options.choice ≡ false →
+        IsSurveyed job.now (left_of F.remaining file.old.reader) found.answer found.survey) }
     ensures text { IfSome result (λ found. OfBytes (left_of F.remaining file.old.reader) (λ bytes. TakesText
         (IsListed job.now.options.choice
         (lines_of (opening_in job.now.options.json job.now.file.now job.now.prefix.now) (listing_of job.now.task job.now.options.quiet) 0)

@@ -13,8 +13,10 @@ ghost use Rattle.h264_verify.specs.Units.{terms_of};
 ghost use Rattle.h264v.specs.Files.{counts, left_of, one_more, HasReadAll, IsUnread, TellsFailure, TellsUnread};
 ghost use Rattle.h264v.specs.Further.{asks_further, BreakOne, IsFound, TellsBroken, IsNoVerdict};
 ghost use Rattle.h264v.specs.Commands.{output_of, span_of};
-ghost use Rattle.h264v.specs.More.{AreDone, IsAnswerOf, IsPutAside, IsStatus, IsToldStatus, TellsCause, TellsWrites, files_span, work};
+ghost use Rattle.h264v.specs.More.{AreDone, HasTaken, IsAnswerOf, IsPutAside, IsStatus, IsToldAside, IsToldStatus, NoneTook, TellsCause, TellsWrites};
+ghost use Rattle.h264v.specs.More.{files_span, work};
 ghost use Rattle.h264v.specs.Options.{refusal_text};
+ghost use Rattle.h264v.specs.Surveys.{IsSurveyed, surveys};
 ghost use Rattle.h264v.specs.Texts.{IsEnd, IsFileText, IsTextOf, TakesText, answers_aside, opening_in, prefix_of};
 ghost use Rattle.h264v.specs.Words.{mode_of, system_name};
 
@@ -197,6 +199,8 @@ fn find<F: io::Read + Drop, W: Device, M: Meter + Drop>(
     ensures unread { IfNone result (HasReadAll file.old.failures file.new.failures) }
     ensures further { IfSome result (λ found. IsFound (asks_further job.now.task job.now.options.strict)
         (terms_of (mode_of job.now.task) job.now.options.target) (left_of F.remaining file.old.reader) found.answer found.strict) }
+    ensures surveyed { IfSome result (λ found. surveys job.now.task job.now.options ≡ true →
+        IsSurveyed job.now (left_of F.remaining file.old.reader) found.answer found.survey) }
     ensures text { IfSome result (λ found. OfBytes (left_of F.remaining file.old.reader) (λ bytes. TakesText (IsTextOf job.now.task
         job.now.options (opening_in job.now.options.json job.now.file.now job.now.prefix.now) bytes found.answer) (W.contents out.old)
         (output_of W.contents W.has_failed W.holds_back out.new))) }
@@ -424,7 +428,7 @@ fn do_files<O: Opener + Drop, W: Device, E: Device, M: Meter + Drop + Copy>(
     requires several { length names.now ≢ 1 }
     ensures { AreDone (work job.now.task job.now.options) (files_span (λ name. O.holds files.old.opener name)
         (counts files.old.file.failures files.old.file.reads files.old.unread)
-        (counts files.new.file.failures files.new.file.reads files.new.unread)) (map (λ n. n.now) names.now) result
+        (counts files.new.file.failures files.new.file.reads files.new.unread) NoneTook) (map (λ n. n.now) names.now) result
         (span_of W.contents W.has_failed W.holds_back out.old out.new)
         (output_of E.contents E.has_failed E.holds_back err.new) }
 {
@@ -493,6 +497,9 @@ fn do_output<O: Opener + Maker + Drop, E: Device, M: Meter + Drop>(
     ensures read { IsErrOf result.ending.answer Read → IsUnread files.old.file.failures files.old.file.reads files.new.file.failures files.new.file.reads }
     ensures read_told { TellsFailure files.old.file.failures files.new.file.failures result.ending.answer }
     ensures unread { files.new.unread ≡ files.old.unread }
+    ensures output { IsToldAside result.ending (IsFileText job.now.task job.now.options
+        (opening_in job.now.options.json job.now.file.now job.now.prefix.now) (O.holds files.old.opener (system_name job.now.file.now)) result.ending.answer)
+        (HasTaken O.goes_to O.Output.Write.contents output.now) }
 {
     if files.open(system_name(job.file)).is_err() {
         let done = put_unjudged(job, err, Stop::Read);
@@ -526,7 +533,7 @@ pub fn more<O: Opener + Maker + Drop, W: Device, E: Device, M: Meter + Drop + Co
     requires { files.old.file.failures < 2 ^ 64 - 1 }
     ensures { IsStatus wanted.now.request.task (subcommand_rows_of wanted.now.matches) (files_span (λ name. O.holds files.old.opener name)
         (counts files.old.file.failures files.old.file.reads files.old.unread)
-        (counts files.new.file.failures files.new.file.reads files.new.unread)) result
+        (counts files.new.file.failures files.new.file.reads files.new.unread) (HasTaken O.goes_to O.Output.Write.contents)) result
         (span_of W.contents W.has_failed W.holds_back out.old out.new)
         (span_of E.contents E.has_failed E.holds_back err.old err.new) }
 {

@@ -4,6 +4,7 @@
 ghost use Rattle.std.specs.Prelude.{◌≡◌, ◌<◌, ◌↔◌, true, None, IfOk, IfErr, IsSome, IfSome, map, option_map, codes};
 ghost use Rattle.clap.specs.Words.{subcommand_rows_of};
 ghost use Rattle.h264v.specs.Options.{AreOptions, AreWellUsed, IsClash, IsMisplaced, IsNoise, IsNoNumber, IsNumber, IsRefused, IsUnreadable, times};
+ghost use Rattle.h264v.specs.Surveys.{asks_for_survey};
 ghost use Rattle.h264v.specs.Words.{Given, value_in};
 ghost use Rattle.h264v.specs.declared.refusal.Clash.{Clash as ClashView};
 ghost use Rattle.h264v.specs.declared.refusal.Misplaced.{Misplaced as MisplacedView};
@@ -32,7 +33,9 @@ pub struct Options<'a> {
 
 impl Options<'_> {
     /// Whether an option tells more of a judgement than its sink does.
-    pub fn asks_for_survey(&self) -> bool {
+    pub fn asks_for_survey(&self) -> bool
+        ensures { result ≡ asks_for_survey self.now }
+    {
         self.explain || self.json || self.progress
     }
 }

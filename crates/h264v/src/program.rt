@@ -5,7 +5,7 @@ ghost use Rattle.std.specs.Prelude.{◌≡◌, ◌-◌, ◌<◌, ◌^◌, List, 
 ghost use Rattle.clap.specs.Words.{Text, subcommand_rows_of};
 ghost use Rattle.h264v.specs.Commands.{output_by, span_by, span_of};
 ghost use Rattle.h264v.specs.Files.{counts};
-ghost use Rattle.h264v.specs.More.{IsStatus, Ends, Runs, RunsOnSome, files_span};
+ghost use Rattle.h264v.specs.More.{HasTaken, IsStatus, Ends, Runs, RunsOnSome, files_span};
 
 use crate::command::{command, not_text};
 use crate::command_line::Wanted;
@@ -35,7 +35,7 @@ where
     requires { files.old.file.failures < 2 ^ 64 - 1 }
     ensures { IsStatus wanted.now.request.task (subcommand_rows_of wanted.now.matches) (files_span (λ name. O.holds files.old.opener name)
         (counts files.old.file.failures files.old.file.reads files.old.unread)
-        (counts files.new.file.failures files.new.file.reads files.new.unread)) result
+        (counts files.new.file.failures files.new.file.reads files.new.unread) (HasTaken O.goes_to O.Output.Write.contents)) result
         (span_of W.contents W.has_failed W.holds_back out.old out.new)
         (span_of E.contents E.has_failed E.holds_back err.old err.new) }
 {
@@ -62,7 +62,7 @@ where
     requires { files.old.file.failures < 2 ^ 64 - 1 }
     ensures { Ends (map (λ w. string_bytes w) words.now) (files_span (λ name. O.holds files.old.opener name)
         (counts files.old.file.failures files.old.file.reads files.old.unread)
-        (counts files.new.file.failures files.new.file.reads files.new.unread)) result
+        (counts files.new.file.failures files.new.file.reads files.new.unread) (HasTaken O.goes_to O.Output.Write.contents)) result
         (span_by W.contents out.old out.new) (output_by E.contents err.old) }
 {
     match command(alloc, words, files, out, err) {
@@ -92,7 +92,7 @@ where
     requires { files.old.file.failures < 2 ^ 64 - 1 }
     ensures { Ends (map (λ w. string_bytes w) words.now) (files_span (λ name. O.holds files.old.opener name)
         (counts files.old.file.failures files.old.file.reads files.old.unread)
-        (counts files.new.file.failures files.new.file.reads files.new.unread)) result
+        (counts files.new.file.failures files.new.file.reads files.new.unread) (HasTaken O.goes_to O.Output.Write.contents)) result
         (span_by W.contents out.old out.new) (output_by E.contents err.old) }
 {
     let status = answer_words(alloc, words, files, out, err, meter);
@@ -119,11 +119,11 @@ where
     ensures known { (words' : List Text) → A.known words.now ≡ Some words' →
         Runs words' (files_span (λ name. O.holds files.old.opener name)
         (counts files.old.file.failures files.old.file.reads files.old.unread)
-        (counts files.new.file.failures files.new.file.reads files.new.unread)) result (span_by W.contents out.old out.new)
-        (output_by E.contents err.old) }
+        (counts files.new.file.failures files.new.file.reads files.new.unread) (HasTaken O.goes_to O.Output.Write.contents)) result
+        (span_by W.contents out.old out.new) (output_by E.contents err.old) }
     ensures some { RunsOnSome (files_span (λ name. O.holds files.old.opener name)
         (counts files.old.file.failures files.old.file.reads files.old.unread)
-        (counts files.new.file.failures files.new.file.reads files.new.unread)) result
+        (counts files.new.file.failures files.new.file.reads files.new.unread) (HasTaken O.goes_to O.Output.Write.contents)) result
         (span_by W.contents out.old out.new) (output_by E.contents err.old) }
 {
     match words.words(alloc) {

@@ -11,6 +11,7 @@ ghost use Rattle.h264v.specs.Commands.{output_of};
 ghost use Rattle.h264v.specs.Files.{left_of, HasReadAll, IsUnread, TellsUnread};
 ghost use Rattle.h264v.specs.Further.{IsFound};
 ghost use Rattle.h264v.specs.More.{IsAnswerOf};
+ghost use Rattle.h264v.specs.Surveys.{IsSurveyed};
 ghost use Rattle.h264v.specs.Texts.{TakesText};
 ghost use Rattle.h264v.specs.Words.{mode_of};
 
@@ -98,6 +99,7 @@ fn judge_page<S: FrameSink + Drop, F: io::Read + Drop, M: Meter + Drop>(
     ensures read_told { TellsUnread file.old.failures file.new.failures result.answer }
     ensures further { IsFound job.now.options.strict (terms_of (mode_of job.now.task) job.now.options.target)
         (left_of F.remaining file.old.reader) result.answer result.strict }
+    ensures surveyed { IsSurveyed job.now (left_of F.remaining file.old.reader) result.answer result.survey }
 {
     if job.options.strict {
         let judged = judge_further(job, file, sink, watch, true);
@@ -144,6 +146,7 @@ fn judge_pictures_by_pen<'a, K: Sheet, F: io::Read + Drop, W: Device, M: Meter +
     ensures unread { IfNone result.1 (HasReadAll file.old.failures file.new.failures) }
     ensures further { IfSome result.1 (λ kept. IsFound job.now.options.strict (terms_of (mode_of job.now.task) job.now.options.target)
         (left_of F.remaining file.old.reader) kept.0.answer kept.0.strict) }
+    ensures surveyed { IfSome result.1 (λ kept. IsSurveyed job.now (left_of F.remaining file.old.reader) kept.0.answer kept.0.survey) }
 {
     let digests: LineSink<'_, '_, W, K> = LineSink::new(
         job.alloc,
@@ -194,6 +197,7 @@ fn judge_pictures<F: io::Read + Drop, W: Device, M: Meter + Drop>(
     ensures unread { IfNone result (HasReadAll file.old.failures file.new.failures) }
     ensures further { IfSome result (λ kept. IsFound job.now.options.strict (terms_of (mode_of job.now.task) job.now.options.target)
         (left_of F.remaining file.old.reader) kept.0.answer kept.0.strict) }
+    ensures surveyed { IfSome result (λ kept. IsSurveyed job.now (left_of F.remaining file.old.reader) kept.0.answer kept.0.survey) }
 {
     let pen = Pen { out: lines };
     let (_, kept) = judge_pictures_by_pen::<Brand, F, W, M>(job, file, pen, watch);
@@ -227,6 +231,7 @@ pub fn report_file<F: io::Read + Drop, W: Device, M: Meter + Drop>(
     ensures unread { IfNone result (HasReadAll file.old.failures file.new.failures) }
     ensures further { IfSome result (λ found. IsFound job.now.options.strict (terms_of (mode_of job.now.task) job.now.options.target)
         (left_of F.remaining file.old.reader) found.answer found.strict) }
+    ensures surveyed { IfSome result (λ found. IsSurveyed job.now (left_of F.remaining file.old.reader) found.answer found.survey) }
     ensures text { IfSome result (λ found. TakesText (λ _. Unit {0}) (W.contents out.old) (output_of W.contents W.has_failed W.holds_back out.new)) }
     ensures untouched { IfNone result (out.new ≡ out.old) }
 {

@@ -1,6 +1,9 @@
 //! The survey of a stream.
 #![tactic(auto)]
 
+ghost use Rattle.std.specs.Prelude.{◌≡◌};
+ghost use Rattle.h264_report.specs.Chosen.{grown};
+
 use crate::survey::counts::MacroblockCounts;
 use crate::survey::element::{ReadElement, count_of};
 use crate::survey::picture::{Picture, PictureKind};
@@ -50,7 +53,8 @@ pub struct Slice {
 pub struct Survey {
     /// The last elements that were told.
     elements: HeapCircularBuffer<ReadElement>,
-    pub(crate) units: u64,
+    /// How many units were told.
+    pub units: u64,
     pub(crate) unit: Option<Unit>,
     pub(crate) slice: Option<Slice>,
     /// How far the stream was read.
@@ -66,7 +70,8 @@ pub struct Survey {
     pub(crate) macroblocks: MacroblockCounts,
     /// The address after the last macroblock that was read.
     pub(crate) coded: u64,
-    pub(crate) frames: u64,
+    /// How many frames were output.
+    pub frames: u64,
     pub(crate) is_short: bool,
 }
 
@@ -94,7 +99,10 @@ impl Survey {
     }
 
     /// Takes up the sets of the unit before, which has met its rules.
-    fn keep_sets(&mut self) {
+    fn keep_sets(&mut self)
+        ensures units { self.new.units ≡ self.old.units }
+        ensures frames { self.new.frames ≡ self.old.frames }
+    {
         if let Some(sequence) = self.sequence {
             put_sequence(&mut self.sequences, &mut self.is_short, sequence);
             self.sequence = None;
@@ -106,13 +114,10 @@ impl Survey {
     }
 
     /// Notes a unit.
-    pub fn note_unit(
-        &mut self,
-        byte: u64,
-        nal_unit_type: NalUnitType,
-        nal_ref_idc: u8,
-        length: u64,
-    ) {
+    pub fn note_unit(&mut self, byte: u64, nal_unit_type: NalUnitType, nal_ref_idc: u8, length: u64)
+        ensures units { self.new.units ≡ grown self.old.units 1 }
+        ensures frames { self.new.frames ≡ self.old.frames }
+    {
         self.keep_sets();
         self.slice = None;
         self.reading.note_unit();
@@ -132,12 +137,18 @@ impl Survey {
     }
 
     /// Notes a frame that is output.
-    pub fn note_frame(&mut self) {
+    pub fn note_frame(&mut self)
+        ensures units { self.new.units ≡ self.old.units }
+        ensures frames { self.new.frames ≡ grown self.old.frames 1 }
+    {
         self.frames = self.frames.saturating_add(1);
     }
 
     /// Notes how many places of the picture buffer are taken. The first note after a picture has begun is that picture's.
-    pub fn note_places_taken(&mut self, places: u64) {
+    pub fn note_places_taken(&mut self, places: u64)
+        ensures units { self.new.units ≡ self.old.units }
+        ensures frames { self.new.frames ≡ self.old.frames }
+    {
         if let Some(picture) = self.pictures.last_mut() {
             if picture.places_taken.is_none() {
                 picture.places_taken = Some(places);
@@ -146,7 +157,10 @@ impl Survey {
     }
 
     /// Notes an element.
-    pub fn note_element(&mut self, name: ElementName, bit: u64, value: i64) {
+    pub fn note_element(&mut self, name: ElementName, bit: u64, value: i64)
+        ensures units { self.new.units ≡ self.old.units }
+        ensures frames { self.new.frames ≡ self.old.frames }
+    {
         let _ = self.elements.push_back(ReadElement { name, bit, value });
         self.reading.note_element(name, value);
         if let Some(sequence) = &mut self.sequence {
@@ -161,7 +175,10 @@ impl Survey {
     }
 
     /// Notes an element of a slice.
-    fn note_slice_element(&mut self, name: ElementName, value: i64) {
+    fn note_slice_element(&mut self, name: ElementName, value: i64)
+        ensures units { self.new.units ≡ self.old.units }
+        ensures frames { self.new.frames ≡ self.old.frames }
+    {
         match name {
             ElementName::FirstMbInSlice => self.begin_slice(count_of(value)),
             ElementName::SliceType => self.note_slice_type(value),
@@ -196,7 +213,10 @@ impl Survey {
     }
 
     /// Begins a slice; one with first_mb_in_slice 0 begins a picture.
-    fn begin_slice(&mut self, first: u64) {
+    fn begin_slice(&mut self, first: u64)
+        ensures units { self.new.units ≡ self.old.units }
+        ensures frames { self.new.frames ≡ self.old.frames }
+    {
         let unit = self.unit_read();
         if first == 0 {
             self.begin_picture(unit);
@@ -217,7 +237,10 @@ impl Survey {
     }
 
     /// Begins a picture with the slice of this unit.
-    fn begin_picture(&mut self, unit: Unit) {
+    fn begin_picture(&mut self, unit: Unit)
+        ensures units { self.new.units ≡ self.old.units }
+        ensures frames { self.new.frames ≡ self.old.frames }
+    {
         if let Some(before) = self.pictures.last() {
             if before.is_reference {
                 self.previous_reference = Some(if before.resets { 0 } else { before.frame_num });
@@ -242,7 +265,10 @@ impl Survey {
     }
 
     /// Notes slice_type, whose values from 5 on repeat those before (table 7-6).
-    fn note_slice_type(&mut self, value: i64) {
+    fn note_slice_type(&mut self, value: i64)
+        ensures units { self.new.units ≡ self.old.units }
+        ensures frames { self.new.frames ≡ self.old.frames }
+    {
         let kind = if value < SLICE_TYPES {
             value
         } else {
@@ -264,7 +290,10 @@ impl Survey {
     }
 
     /// Notes frame_num.
-    fn note_frame_num(&mut self, frame_num: u64) {
+    fn note_frame_num(&mut self, frame_num: u64)
+        ensures units { self.new.units ≡ self.old.units }
+        ensures frames { self.new.frames ≡ self.old.frames }
+    {
         let Some(slice) = &mut self.slice else {
             return;
         };
@@ -277,13 +306,19 @@ impl Survey {
     }
 
     /// Notes mb_skip_run: so many macroblocks are skipped.
-    fn skip_macroblocks(&mut self, run: u64) {
+    fn skip_macroblocks(&mut self, run: u64)
+        ensures units { self.new.units ≡ self.old.units }
+        ensures frames { self.new.frames ≡ self.old.frames }
+    {
         self.macroblocks.skip(run);
         self.note_coded();
     }
 
     /// Notes mb_type: a macroblock begins.
-    fn begin_macroblock(&mut self, mb_type: u64) {
+    fn begin_macroblock(&mut self, mb_type: u64)
+        ensures units { self.new.units ≡ self.old.units }
+        ensures frames { self.new.frames ≡ self.old.frames }
+    {
         if let Some(slice) = self.slice {
             let slice_type = slice.slice_type.unwrap_or(SliceType::I);
             self.macroblocks.add(slice_type, mb_type);
@@ -292,7 +327,10 @@ impl Survey {
     }
 
     /// Notes the address after the last macroblock that was read.
-    fn note_coded(&mut self) {
+    fn note_coded(&mut self)
+        ensures units { self.new.units ≡ self.old.units }
+        ensures frames { self.new.frames ≡ self.old.frames }
+    {
         if let Some(reach) = self.reading.reach {
             if reach.macroblock.is_some() {
                 self.coded = reach.next;
@@ -331,16 +369,6 @@ impl Survey {
     /// Whether memory was wanting for a picture or a set, so that the survey is of the first ones alone.
     pub fn is_short(&self) -> bool {
         self.is_short
-    }
-
-    /// How many units were told.
-    pub fn units(&self) -> u64 {
-        self.units
-    }
-
-    /// How many frames were output.
-    pub fn frames(&self) -> u64 {
-        self.frames
     }
 
     /// The unit that was told last.

@@ -2,6 +2,7 @@
 #![tactic(auto)]
 
 ghost use Rattle.std.specs.Prelude.{◌≡◌};
+ghost use Rattle.h264_report.specs.Surveyed.{HasCounted};
 
 use crate::survey::meter::Meter;
 use crate::survey::notes::Survey;
@@ -19,7 +20,7 @@ pub struct Surveyed<S: FrameSink + Drop, M: Meter + Drop> {
 }
 
 impl<S: FrameSink + Drop, M: Meter + Drop> Elements for Surveyed<S, M> {
-    ghost took = { λ s calls. S.took s.sink calls };
+    ghost took = { λ s calls. S.took s.sink calls × HasCounted s.survey calls };
 
     ghost failures = { λ s. S.failures s.sink };
 
@@ -45,7 +46,7 @@ impl<S: FrameSink + Drop, M: Meter + Drop> FrameSink for Surveyed<S, M> {
         length: u64,
     ) -> Result<(), Failed> {
         self.meter
-            .note(byte, self.survey.picture_count(), self.survey.frames());
+            .note(byte, self.survey.picture_count(), self.survey.frames);
         self.survey
             .note_unit(byte, nal_unit_type, nal_ref_idc, length);
         self.sink.unit(byte, nal_unit_type, nal_ref_idc, length)

@@ -14,3 +14,9 @@ returns-clause-text g c =
     let none = none-frames (c.new-sink.ensures.same_reference ∙ c.requires.name) (ap g.W.Device.contents c.new-sink.ensures.unwritten ∙ c.requires.start)
     (ap g.W.Device.has_failed c.new-sink.ensures.unwritten ∙ c.requires.was_failed) c.new-sink.ensures.whole in
     rw c.into_pen.ensures.kept (of-map _ _ _ (λ bytes t. takes-frames _ _ t) (c.judge-surveyed.ensures.took none))
+
+pub returns-clause-surveyed : goal.returns-clause-surveyed
+returns-clause-surveyed g c =
+    let none = none-frames (c.new-sink.ensures.same_reference ∙ c.requires.name) (ap g.W.Device.contents c.new-sink.ensures.unwritten ∙ c.requires.start)
+    (ap g.W.Device.has_failed c.new-sink.ensures.unwritten ∙ c.requires.was_failed) c.new-sink.ensures.whole in
+    c.judge-surveyed.ensures.surveyed none

@@ -1,4 +1,4 @@
-use Rattle.std.proofs.Common.{refl}
+use Rattle.std.proofs.Common.{refl, ◌∙◌}
 use Rattle.h264_report.proofs.Accounts.{none-elements}
 use Rattle.h264v.proofs.job.check_strictly.Goals as goal
 
@@ -7,3 +7,6 @@ judge_further-judged-requires-clause-none g c = none-elements _ c.in-Ok.ensures
 
 pub returns-clause-further : goal.returns-clause-further
 returns-clause-further g c = (c.judge_further-judged.result.further, refl, c.judge_further-judged.ensures.further)
+
+pub returns-clause-surveyed : goal.returns-clause-surveyed
+returns-clause-surveyed g c e = c.judge_further-judged.ensures.surveyed (c.asks_for_survey.ensures ∙ e)

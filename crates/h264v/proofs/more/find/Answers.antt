@@ -1,5 +1,7 @@
-use Rattle.std.proofs.Common.{refl}
-use Rattle.h264v.proofs.Texts.{decode-text, list-text, no-text, report-text}
+use Rattle.std.proofs.Common.{refl, sym, ap, ◌∙◌}
+use Rattle.h264v.specs.Surveys.{surveys}
+use Rattle.h264v.proofs.Answered.{surveys-all}
+use Rattle.h264v.proofs.Texts.{decode-text, list-text, no-text, report-text, some-map}
 use Rattle.h264v.proofs.more.find.Goals as goal
 
 pub returns-in-Check-clause-text : goal.returns-in-Check-clause-text
@@ -17,3 +19,12 @@ returns-in-Report-clause-text g c = report-text c.report_file.result _ _ _ _ _ _
 pub returns-in_default-clause-text : goal.returns-in_default-clause-text
 returns-in_default-clause-text g c = list-text c.list_file.result _ _ _ _ _ _ c.in_default.not-Check c.in_default.not-Decode c.in_default.not-Info
     c.in_default.not-Report c.list_file.ensures.text
+
+pub returns-in-Check-clause-surveyed : goal.returns-in-Check-clause-surveyed
+returns-in-Check-clause-surveyed g c = some-map _ _ c.check_file.result
+    (λ found h e. h (sym (ap (λ task. surveys task c.args.job.now.options) c.in-Check.is) ∙ e)) c.check_file.ensures.surveyed
+
+pub returns-in_default-clause-surveyed : goal.returns-in_default-clause-surveyed
+returns-in_default-clause-surveyed g c = some-map _ _ c.list_file.result
+    (λ found h e. h (surveys-all c.args.job.now.task c.args.job.now.options c.in_default.not-Check c.in_default.not-Decode c.in_default.not-Info
+    c.in_default.not-Report e)) c.list_file.ensures.surveyed

@@ -20,7 +20,7 @@ returns-then-names-ne1 g c =
     let names = names-given c.files.result c.unwrap_or-names.result _ (subcommand_rows_of c.args.wanted.now.matches) c.files.ensures c.unwrap_or-names.ensures
     refl in
     Judged c.in-Ok.options c.in-Ok.ensures.given c.in-Ok.ensures.used
-    (of-words names c.do_files.ensures)
+    (of-words _ _ _ _ _ names c.do_files.ensures)
 
 pub returns-in_default : goal.returns-in_default
 returns-in_default g c =
@@ -31,7 +31,7 @@ returns-in_default g c =
     let one : length all ≡ 1 = let t = c.if-names-ne1.false in omega (arith, t) in
     Judged c.in-Ok.options c.in-Ok.ensures.given c.in-Ok.ensures.used
     (alone c.args.wanted.now.request.task c.in-Ok.options _ _ _
-    (record { name = (slice_index_or all 0 none).now; done = c.do_one.result; text = c.do_one.ensures.text.text }) _ c.status.result _ _ _
+    (record { name = (slice_index_or all 0 none).now; done = c.do_one.result; text = c.do_one.ensures.text.text }) _ c.status.result _ _ _ c.in_default.is
     (single (λ (n : Bor (List ℕ)). n.now) all none one ∙ names)
     c.do_one.ensures.answer c.do_one.ensures.broken (record { read = c.do_one.ensures.read; told = c.do_one.ensures.read_told }) c.do_one.ensures.failures
     c.do_one.ensures.text.is_text c.do_one.ensures.text.sends c.status.ensures)
@@ -50,8 +50,7 @@ returns g c =
     let all = c.unwrap_or-names.result.now in
     let one : length all ≡ 1 = let t = c.if-names-ne1.false in omega (arith, t) in
     Judged c.in-Ok.options c.in-Ok.ensures.given c.in-Ok.ensures.used
-    (alone-elsewhere c.args.wanted.now.request.task c.in-Ok.options _ _ _
-    (record { name = (slice_index_or all 0 none).now; done = c.do_output.result; text = [] }) _ c.status-2.result _ _
-    (single (λ (n : Bor (List ℕ)). n.now) all none one ∙ names)
-    c.do_output.ensures.answer c.do_output.ensures.broken (record { read = c.do_output.ensures.read; told = c.do_output.ensures.read_told })
-    (subst IsSome (sym c.in-Some.is) refl) c.status-2.ensures)
+    (alone-elsewhere c.args.wanted.now.request.task c.in-Ok.options _ _ _ (slice_index_or all 0 none).now c.do_output.result _ c.status-2.result _ _
+    c.in-Some.output c.in-Some.is (single (λ (n : Bor (List ℕ)). n.now) all none one ∙ names)
+    c.do_output.ensures.answer c.do_output.ensures.broken c.do_output.ensures.read c.do_output.ensures.read_told c.do_output.ensures.output
+    c.status-2.ensures)

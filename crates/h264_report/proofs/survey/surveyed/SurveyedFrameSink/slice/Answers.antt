@@ -1,0 +1,14 @@
+use Rattle.std.proofs.Common.{rules, arith, SFits, w32}
+use Rattle.std.proofs.lemmas.Int.{to_z-of_z}
+use Rattle.h264_report.proofs.Sinks.{ok-map, err-map}
+use Rattle.h264_report.proofs.Surveying.{Counts, surveyed-tells}
+use Rattle.h264_report.proofs.survey.surveyed.SurveyedFrameSink.slice.Goals as goal
+
+pub returns-clause-ok : goal.returns-clause-ok
+returns-clause-ok g c =
+    let f : SFits w32 c.args.count = search rules in
+    let ok = simp to_z-of_z at c.slice.ensures.ok in
+    ok-map c.slice.result (λ t. surveyed-tells (record { units = omega arith; frames = omega arith }) t) ok
+
+pub returns-clause-refused : goal.returns-clause-refused
+returns-clause-refused g c = err-map c.slice.result (λ t. surveyed-tells (record { units = omega arith; frames = omega arith }) t) c.slice.ensures.refused
