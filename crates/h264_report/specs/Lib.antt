@@ -14,7 +14,10 @@ pub mod Decoding
 pub mod Given
 pub mod Entries
 pub mod Chosen
+pub mod SurveyedSets
+pub mod SurveyedPictures
 pub mod Surveyed
+pub mod SurveyedCalls
 pub mod StrictRules
 pub mod StrictLevels
 pub mod StrictRatio

@@ -1,9 +1,8 @@
 //! A survey of a stream: what its calls tell of sets, units, slices, pictures and macroblocks.
 //!
 //! `Surveyed` stands around another sink: it notes each call in a `Survey` and hands it on; `Narrowed` hands on what is chosen alone. Promised: the sink
-//! inside takes the calls as if it stood alone, or what `specs/Chosen.antt` leaves of them; and the survey is safe, total, and never fails a call. It counts
-//! each unit and each frame that `Surveyed` is told (`specs/Surveyed.antt`). What else it notes is tested, and not proved. Its memory grows with the pictures
-//! alone.
+//! inside takes the calls as if it stood alone, or what `specs/Chosen.antt` leaves of them; and the survey has what these calls tell (`specs/Surveyed.antt`),
+//! all of it unless memory was wanting for a set or a picture. It is safe, total, and never fails a call. Its memory grows with the pictures alone.
 #![tactic(auto)]
 
 pub mod counts;
@@ -12,16 +11,21 @@ pub mod meter;
 pub mod narrowed;
 pub mod notes;
 pub mod picture;
+pub mod pictures;
 pub mod reading;
 pub mod sequence;
+pub mod sets;
+pub mod slice;
 pub mod surveyed;
 
 pub use counts::MacroblockCounts;
-pub use element::ReadElement;
 pub use meter::{Meter, NoMeter};
 pub use narrowed::{Choice, Narrowed};
-pub use notes::{Slice, Survey, Unit};
+pub use notes::Survey;
 pub use picture::{Picture, PictureKind};
+pub use pictures::Pictures;
 pub use reading::{Reach, Reading};
 pub use sequence::{Cropping, PictureSet, Sequence, Timing};
+pub use sets::{ParameterSet, Sets};
+pub use slice::{Slice, Unit};
 pub use surveyed::Surveyed;

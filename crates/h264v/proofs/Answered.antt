@@ -1,6 +1,5 @@
 -- The answer on the bytes that a source gives.
 use Rattle.std.proofs.Common.{◌≡◌, ◌≢◌, ℕ, Bool, true, false, ◌⊎◌, ⊎_elim, List, [], Option, Some, Result, Ok, Err, refl, sym, subst}
-use Rattle.std.proofs.lemmas.Bool.{not-true}
 use Rattle.h264_base.specs.Call.{Call, span}
 use Rattle.h264_base.specs.declared.mode.Mode.{Mode}
 use Rattle.h264_base.specs.declared.mode.Target.{Target}
@@ -12,23 +11,20 @@ use Rattle.h264_report.specs.Chosen.{TookChosen}
 use Rattle.h264_report.specs.Written.{OfBytes, Account, calls_in, told_of}
 use Rattle.h264_report.specs.declared.survey.narrowed.Choice.{Choice}
 use Rattle.h264_report.specs.declared.survey.reading.Reading.{Reading}
-use Rattle.h264_report.specs.Surveyed.{HasCounted}
+use Rattle.h264_report.specs.Surveyed.{HasSurveyed, IsTold, nothing_told}
 use Rattle.h264_report.specs.declared.survey.notes.Survey.{Survey}
 use Rattle.h264_report.specs.declared.survey.surveyed.Surveyed.{Surveyed}
 use Rattle.h264_report.proofs.Accounts.{accounts, of-bytes, of-map}
-use Rattle.h264_report.proofs.Surveying.{none-counted}
+use Rattle.h264_report.proofs.Surveying.{none-surveyed}
 use Rattle.h264_verify.specs.Units.{terms_of}
 use Rattle.h264_verify.specs.Verdict.{Judged}
 use Rattle.h264_verify.specs.declared.state.Summary.{Summary}
 use Rattle.h264_verify.specs.declared.state.Terms.{Terms}
 use Rattle.h264v.specs.More.{IsAnswer, IsAnswerOf}
-use Rattle.h264v.specs.Surveys.{IsSurveyed, surveys}
-use Rattle.h264v.specs.Texts.{chooses}
+use Rattle.h264v.specs.Surveys.{IsSurveyed}
 use Rattle.h264v.specs.declared.job.Job.{Job}
 use Rattle.h264v.specs.Words.{mode_of}
 use Rattle.h264v.specs.declared.command_line.Task.{Task}
-use Rattle.h264v.specs.declared.command_line.Task.TheVariants as tasks
-use Rattle.h264v.specs.declared.options.Options.{Options}
 
 of-judged : {S : Type 0} {took : S → List Call → Type 0} {failures : S → ℕ} {terms : Terms} {bytes : List ℕ} {frames : ℕ → Frame} {s s' : S}
     (answer : Result Summary Stop) →
@@ -68,32 +64,24 @@ took-calls {took = took} {s' = s'} task target mode left answer is known some ju
 pub surveyed-calls : {S M : Type 0} (took : S → List Call → Type 0) {failures : Surveyed S M → ℕ} {s s' : Surveyed S M} (task : Task) (target : Target)
     (mode : Mode) (left : Option (List ℕ)) (answer : Result Summary Stop) →
     mode ≡ mode_of task → ((bytes : List ℕ) → left ≡ Some bytes → (frames : ℕ → Frame) →
-    Judged (terms_of mode target) (span (λ (x : Surveyed S M) calls. took x.sink calls × HasCounted x.survey calls) failures s s') bytes frames [] answer) →
+    Judged (terms_of mode target) (span (λ (x : Surveyed S M) calls. took x.sink calls × HasSurveyed x.survey calls) failures s s') bytes frames [] answer) →
     (some : List ℕ) → ((frames : ℕ → Frame) →
-    Judged (terms_of mode target) (span (λ (x : Surveyed S M) calls. took x.sink calls × HasCounted x.survey calls) failures s s') some frames [] answer) →
-    took s.sink [] → OfBytes left (λ bytes. (a : Account (terms_of (mode_of task) target) bytes answer) × took s'.sink (calls_in a))
-    × OfBytes left (λ bytes. (a : Account (terms_of (mode_of task) target) bytes answer) × HasCounted s'.survey (calls_in a))
-surveyed-calls took {s = s} {s' = s'} task target mode left answer is known some judged none =
+    Judged (terms_of mode target) (span (λ (x : Surveyed S M) calls. took x.sink calls × HasSurveyed x.survey calls) failures s s') some frames [] answer) →
+    took s.sink [] → IsTold s.survey nothing_told → OfBytes left (λ bytes. (a : Account (terms_of (mode_of task) target) bytes answer)
+    × took s'.sink (calls_in a))
+    × OfBytes left (λ bytes. (a : Account (terms_of (mode_of task) target) bytes answer) × HasSurveyed s'.survey (calls_in a))
+surveyed-calls took {s = s} {s' = s'} task target mode left answer is known some judged none fresh =
     let Both : List ℕ → Type 0 = λ bytes. (a : Account (terms_of (mode_of task) target) bytes answer) ×
-    (took s'.sink (calls_in a) × HasCounted s'.survey (calls_in a)) in
-    let both : OfBytes left Both = took-calls {s' = s'} task target mode left answer is known some judged (none, none-counted s.survey) in (
+    (took s'.sink (calls_in a) × HasSurveyed s'.survey (calls_in a)) in
+    let both : OfBytes left Both = took-calls {s' = s'} task target mode left answer is known some judged (none, none-surveyed fresh) in (
       of-map left Both (λ bytes. (a : Account (terms_of (mode_of task) target) bytes answer) × took s'.sink (calls_in a)) (λ bytes t. (t.0, t.1.0)) both,
-      of-map left Both (λ bytes. (a : Account (terms_of (mode_of task) target) bytes answer) × HasCounted s'.survey (calls_in a))
+      of-map left Both (λ bytes. (a : Account (terms_of (mode_of task) target) bytes answer) × HasSurveyed s'.survey (calls_in a))
           (λ bytes t. (t.0, t.1.1)) both,
     )
 
--- A task that lists, and is surveyed, chooses nothing.
-pub surveys-all : (task : Task) (o : Options) → task ≢ tasks.Check → task ≢ tasks.Decode → task ≢ tasks.Info → task ≢ tasks.Report →
-    surveys task o ≡ true → chooses o.choice ≡ false
-surveys-all tasks.Check o c d i r all = absurd (c refl)
-surveys-all tasks.Units o c d i r all = not-true (chooses o.choice) all
-surveys-all tasks.Headers o c d i r all = not-true (chooses o.choice) all
-surveys-all tasks.Frames o c d i r all = not-true (chooses o.choice) all
-surveys-all tasks.Decode o c d i r all = absurd (d refl)
-surveys-all tasks.Elements o c d i r all = not-true (chooses o.choice) all
-surveys-all tasks.Info o c d i r all = absurd (i refl)
-surveys-all tasks.Report o c d i r all = absurd (r refl)
-surveys-all tasks.Explain o c d i r all = not-true (chooses o.choice) all
+-- a survey of nothing under another name
+pub fresh-of : {survey survey' : Survey} → survey' ≡ survey → IsTold survey nothing_told → HasSurveyed survey' []
+fresh-of same fresh = none-surveyed (subst (λ s. IsTold s nothing_told) (sym same) fresh)
 
 -- the survey under other names
 pub survey-of : (job : Job) (left : Option (List ℕ)) {answer answer' : Result Summary Stop} {survey survey' : Survey} → answer' ≡ answer → survey' ≡ survey →
@@ -101,17 +89,21 @@ pub survey-of : (job : Job) (left : Option (List ℕ)) {answer answer' : Result 
 survey-of job left {answer} {answer'} {survey} {survey'} a s h =
     subst (λ x. IsSurveyed job left x survey') (sym a) (subst (λ x. IsSurveyed job left answer x) (sym s) h)
 
--- and those of which a choice leaves something
+-- and those of which a choice leaves something, with their survey
 pub chosen-calls : {S : Type 0} (took : S → List Call → Type 0) (terms : Terms) (answer : Result Summary Stop) (left : Option (List ℕ)) (choice k : Choice)
-    (broke_off : Bool) (reading : Reading) (pending : Option Call) (sink : S) →
+    (broke_off : Bool) (reading : Reading) (pending : Option Call) (sink : S) (survey : Survey) →
     OfBytes left (λ bytes. (a : Account terms bytes answer) ×
-    ((choice ≡ k) × TookChosen took choice broke_off (record { reading = reading; pending = pending }) sink (calls_in a))) →
+    ((choice ≡ k) × TookChosen took choice broke_off (record { reading = reading; pending = pending }) sink (calls_in a) × HasSurveyed survey (calls_in a))) →
     OfBytes left (λ bytes. (a : Account terms bytes answer) × TookChosen took k broke_off (record { reading = reading; pending = pending }) sink (calls_in a))
-chosen-calls took terms answer left choice k broke_off reading pending sink h =
-    of-map left (λ bytes. (a : Account terms bytes answer) ×
-    ((choice ≡ k) × TookChosen took choice broke_off (record { reading = reading; pending = pending }) sink (calls_in a)))
-    (λ bytes. (a : Account terms bytes answer) × TookChosen took k broke_off (record { reading = reading; pending = pending }) sink (calls_in a))
-    (λ bytes t. (t.0, subst (λ c. TookChosen took c broke_off (record { reading = reading; pending = pending }) sink (calls_in t.0)) t.1.0 t.1.1)) h
+    × OfBytes left (λ bytes. (a : Account terms bytes answer) × HasSurveyed survey (calls_in a))
+chosen-calls took terms answer left choice k broke_off reading pending sink survey h =
+    let All : List ℕ → Type 0 = λ bytes. (a : Account terms bytes answer) ×
+    ((choice ≡ k) × TookChosen took choice broke_off (record { reading = reading; pending = pending }) sink (calls_in a) × HasSurveyed survey (calls_in a)) in (
+      of-map left All
+          (λ bytes. (a : Account terms bytes answer) × TookChosen took k broke_off (record { reading = reading; pending = pending }) sink (calls_in a))
+          (λ bytes t. (t.0, subst (λ c. TookChosen took c broke_off (record { reading = reading; pending = pending }) sink (calls_in t.0)) t.1.0 t.1.1)) h,
+      of-map left All (λ bytes. (a : Account terms bytes answer) × HasSurveyed survey (calls_in a)) (λ bytes t. (t.0, t.1.2)) h,
+    )
 
 told-one : (terms : Terms) (bytes : List ℕ) (broke_off : Bool) (answer : Result Summary Stop) → IsAnswer terms bytes answer →
     IsAnswer terms bytes (told_of broke_off answer)

@@ -1,12 +1,11 @@
 -- Of which calls a survey is made beside a judgement, so that more can be told of them. To be read beside docs/OUTPUT.md.
-use Rattle.std.specs.Prelude.{ℕ, Bool, true, not, ◌||◌, List, Option, Result}
+use Rattle.std.specs.Prelude.{ℕ, Bool, true, ◌||◌, List, Option, Result}
 use Rattle.h264_base.specs.declared.stop.Stop.{Stop}
-use Rattle.h264_report.specs.Surveyed.{HasCounted}
+use Rattle.h264_report.specs.Surveyed.{HasSurveyed}
 use Rattle.h264_report.specs.Written.{OfBytes, Account, calls_in}
 use Rattle.h264_report.specs.declared.survey.notes.Survey.{Survey}
 use Rattle.h264_verify.specs.Units.{terms_of}
 use Rattle.h264_verify.specs.declared.state.Summary.{Summary}
-use Rattle.h264v.specs.Texts.{chooses}
 use Rattle.h264v.specs.Words.{mode_of}
 use Rattle.h264v.specs.declared.command_line.Task.{Task}
 use Rattle.h264v.specs.declared.command_line.Task.TheVariants as tasks
@@ -20,16 +19,9 @@ asks_for_survey o = o.explain || (o.json || o.progress)
 -- the calls of a task are surveyed with these options
 abbrev pub surveys : Task → Options → Bool
 surveys tasks.Check o = asks_for_survey o
-surveys tasks.Units o = not (chooses o.choice)
-surveys tasks.Headers o = not (chooses o.choice)
-surveys tasks.Frames o = not (chooses o.choice)
-surveys tasks.Decode o = true
-surveys tasks.Elements o = not (chooses o.choice)
-surveys tasks.Info o = true
-surveys tasks.Report o = true
-surveys tasks.Explain o = not (chooses o.choice)
+surveys task o = true
 
 -- This is a survey of the calls of a job on the bytes that a source gives, judged with this answer.
 abbrev pub IsSurveyed : Job → (source : Option (List ℕ)) → (answer : Result Summary Stop) → Survey → Type 0
 IsSurveyed job source answer survey = OfBytes source
-    (λ bytes. (a : Account (terms_of (mode_of job.task) job.options.target) bytes answer) × HasCounted survey (calls_in a))
+    (λ bytes. (a : Account (terms_of (mode_of job.task) job.options.target) bytes answer) × HasSurveyed survey (calls_in a))

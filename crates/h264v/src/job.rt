@@ -5,6 +5,7 @@ ghost use Rattle.std.specs.Prelude.{◌≡◌, ◌-◌, ◌<◌, ◌^◌, List, 
 ghost use Rattle.h264_base.specs.Call.{Call, HasRoom};
 ghost use Rattle.h264_base.specs.declared.stop.Stop.TheVariants.{Read};
 ghost use Rattle.h264_report.specs.Chosen.{TookChosen, pending_call};
+ghost use Rattle.h264_report.specs.Surveyed.{IsTold, nothing_told};
 ghost use Rattle.h264_report.specs.Written.{OfBytes, Account, calls_in, trail_text};
 ghost use Rattle.h264_verify.specs.Units.{terms_of};
 ghost use Rattle.h264v.specs.Files.{left_of, HasReadAll, IsUnread, TellsUnread};
@@ -79,11 +80,12 @@ pub struct Found {
     pub change: Option<(Head, Head)>,
 }
 
-/// What a judgement is surveyed by, and whom it tells how far it has come.
+/// A survey of nothing, by which a judgement is surveyed, and whom it tells how far it has come.
 #[derive(Drop)]
 pub struct Watch<M: Meter + Drop> {
     pub survey: Survey,
     pub meter: M,
+    ghost fresh: { IsTold survey nothing_told },
 }
 
 /// How far a task judges.
@@ -184,7 +186,7 @@ fn tell_end<S: FrameSink + Drop, M: Meter + Drop>(surveyed: &mut Surveyed<S, M>)
     ensures survey { surveyed.new.survey ≡ surveyed.old.survey }
     ensures ended { M.has_ended surveyed.new.meter }
 {
-    let byte = match surveyed.survey.unit() {
+    let byte = match surveyed.survey.unit {
         Some(unit) => unit.byte.saturating_add(unit.length),
         None => 0,
     };
@@ -251,9 +253,10 @@ fn trail_lines(alloc: Global, answer: Answer, sink: &TrailSink) -> Option<String
 
 /// What a judgement by the further rules left.
 #[derive(Drop)]
-pub struct JudgedFurther<S: FrameSink + Drop> {
+pub struct JudgedFurther<S: FrameSink + Drop, M: Meter + Drop> {
     pub sink: S,
     pub survey: Survey,
+    pub meter: M,
     pub answer: Answer,
     pub further: FurtherRules,
 }
@@ -265,7 +268,7 @@ pub fn judge_further<S: FrameSink + Drop, F: io::Read + Drop, M: Meter + Drop>(
     sink: S,
     watch: Watch<M>,
     is_surveyed: bool,
-) -> JudgedFurther<S>
+) -> JudgedFurther<S, M>
     requires none { S.took sink [] }
     requires sink { HasRoom S.failures sink }
     requires source { file.old.failures < 2 ^ 64 - 1 }
@@ -276,13 +279,14 @@ pub fn judge_further<S: FrameSink + Drop, F: io::Read + Drop, M: Meter + Drop>(
         result.further }
     ensures surveyed { is_surveyed ≡ true → IsSurveyed job.now (left_of F.remaining file.old.reader) result.answer result.survey }
     ensures unsurveyed { is_surveyed ≡ false → result.survey ≡ watch.survey }
+    ensures ended { is_surveyed ≡ true → M.has_ended result.meter }
 {
     let Watch { survey, meter } = watch;
     let mut sink = StrictSink::new(sink);
     let (mode, target) = (mode_of(job.task), job.options.target);
     if !is_surveyed {
         let judgement = judge_strictly(job.alloc, file, &mut sink, mode, target);
-        return judged_further(sink, judgement, survey);
+        return judged_further(sink, judgement, survey, meter);
     }
     let mut surveyed = Surveyed {
         sink,
@@ -291,26 +295,33 @@ pub fn judge_further<S: FrameSink + Drop, F: io::Read + Drop, M: Meter + Drop>(
     };
     let judgement = judge_strictly(job.alloc, file, &mut surveyed, mode, target);
     tell_end(&mut surveyed);
-    let Surveyed { sink, survey, .. } = surveyed;
-    judged_further(sink, judgement, survey)
+    let Surveyed {
+        sink,
+        survey,
+        meter,
+    } = surveyed;
+    judged_further(sink, judgement, survey, meter)
 }
 
 /// The parts of a judgement by the further rules.
-fn judged_further<S: FrameSink + Drop>(
+fn judged_further<S: FrameSink + Drop, M: Meter + Drop>(
     sink: StrictSink<S>,
     judgement: StrictJudgement,
     survey: Survey,
-) -> JudgedFurther<S>
+    meter: M,
+) -> JudgedFurther<S, M>
     ensures answer { result.answer ≡ judgement.answer }
     ensures strict { result.further.strict ≡ sink.strict }
     ensures units { result.further.units ≡ judgement.units }
     ensures survey { result.survey ≡ survey }
+    ensures meter { result.meter ≡ meter }
 {
     let StrictJudgement { answer, units } = judgement;
     let StrictSink { sink, strict } = sink;
     JudgedFurther {
         sink,
         survey,
+        meter,
         answer,
         further: FurtherRules { strict, units },
     }
@@ -345,6 +356,7 @@ fn check_strictly<F: io::Read + Drop, M: Meter + Drop>(
         survey,
         answer,
         further,
+        ..
     } = judged;
     let before = trail_lines(job.alloc, answer, &sink)?;
     Some(Found {
@@ -391,12 +403,12 @@ pub fn check_file<F: io::Read + Drop, M: Meter + Drop>(
     })
 }
 
-/// Judges the open file with a sink that is told what is chosen alone.
-pub fn judge_chosen<S: FrameSink + Drop, K: Sheet, F: io::Read + Drop>(
+/// Judges the open file with a sink that is told what is chosen alone, and surveys its calls.
+pub fn judge_chosen<S: FrameSink + Drop, K: Sheet, F: io::Read + Drop, M: Meter + Drop>(
     job: &Job<'_>,
     file: &mut OpenFile<F>,
     sink: S,
-    survey: Survey,
+    watch: Watch<M>,
 ) -> (Narrowed<S, K>, Answer)
     requires choice { job.now.options.choice ≡ K.choice }
     requires sink { HasRoom S.failures sink }
@@ -409,7 +421,9 @@ pub fn judge_chosen<S: FrameSink + Drop, K: Sheet, F: io::Read + Drop>(
         × TookChosen S.took K.choice result.0.broke_off (record { reading = result.0.reading; pending = pending_call result.0.pending })
         result.0.sink (calls_in a)) }
     ensures some { S.took sink [] → (calls : List Call) × S.took result.0.sink calls }
+    ensures surveyed { S.took sink [] → IsSurveyed job.now (left_of F.remaining file.old.reader) result.1 result.0.survey }
 {
+    let Watch { survey, .. } = watch;
     let mut narrowed: Narrowed<S, K> = Narrowed::new(sink, survey, job.options.choice);
     let (mode, target) = (mode_of(job.task), job.options.target);
     let answer = run(job.alloc, file, &mut narrowed, mode, target);

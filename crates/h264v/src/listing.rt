@@ -119,12 +119,12 @@ fn list_all<F: io::Read + Drop, W: Device, M: Meter + Drop>(
 }
 
 /// Judges the open file, and writes a line, or an object, for each element that is chosen through a pen.
-fn list_chosen_by_pen<'a, 'b, K: Sheet, F: io::Read + Drop, W: Device>(
+fn list_chosen_by_pen<'a, 'b, K: Sheet, F: io::Read + Drop, W: Device, M: Meter + Drop>(
     job: &Job<'_>,
     file: &mut OpenFile<F>,
     form: Form<'b>,
     pen: Pen<'a, W>,
-    survey: Survey,
+    watch: Watch<M>,
     kept: &mut Option<Survey>,
 ) -> (Pen<'a, W>, Answer)
     requires source { file.old.failures < 2 ^ 64 - 1 }
@@ -140,25 +140,28 @@ fn list_chosen_by_pen<'a, 'b, K: Sheet, F: io::Read + Drop, W: Device>(
     ensures read { IsErrOf result.1 Read → IsUnread file.old.failures file.old.reads file.new.failures file.new.reads }
     ensures read_told { TellsUnread file.old.failures file.new.failures result.1 }
     ensures kept { IsSome kept.new }
+    ensures surveyed { IfSome kept.new (λ survey. IsSurveyed job.now (left_of F.remaining file.old.reader) result.1 survey) }
     ensures text { OfBytes (left_of F.remaining file.old.reader) (λ bytes. TakesText (IsListed K.choice
         (lines_of K.opening K.listing 0) (terms_of (mode_of job.now.task) job.now.options.target) bytes result.1) K.start
         (output_of W.contents W.has_failed W.holds_back result.0.out.now)) }
 {
     let listing = listing_of(job.task, job.options.quiet);
     let sink: LineSink<'_, '_, W, K> = LineSink::new(job.alloc, listing, form, pen);
-    let (narrowed, answer) = judge_chosen::<LineSink<'_, '_, W, K>, K, F>(job, file, sink, survey);
+    let (narrowed, answer) = judge_chosen::<LineSink<'_, '_, W, K>, K, F, M>(
+        job, file, sink, watch,
+    );
     let Narrowed { sink, survey, .. } = narrowed;
     *kept = Some(survey);
     (sink.into_pen(), answer)
 }
 
 /// Judges the open file with a line, or an object, for each element that is chosen.
-fn list_chosen<F: io::Read + Drop, W: Device>(
+fn list_chosen<F: io::Read + Drop, W: Device, M: Meter + Drop>(
     job: &Job<'_>,
     file: &mut OpenFile<F>,
     out: &mut W,
     form: Form<'_>,
-    survey: Survey,
+    watch: Watch<M>,
 ) -> Found
     requires source { file.old.failures < 2 ^ 64 - 1 }
     requires chosen { chooses job.now.options.choice ≡ true }
@@ -166,6 +169,7 @@ fn list_chosen<F: io::Read + Drop, W: Device>(
     ensures read { IsErrOf result.answer Read → IsUnread file.old.failures file.old.reads file.new.failures file.new.reads }
     ensures read_told { TellsUnread file.old.failures file.new.failures result.answer }
     ensures further { result.strict ≡ None }
+    ensures surveyed { IsSurveyed job.now (left_of F.remaining file.old.reader) result.answer result.survey }
     ensures text { OfBytes (left_of F.remaining file.old.reader) (λ bytes. TakesText (IsListed
         job.now.options.choice (lines_of (opening_of form.entry) (listing_of job.now.task job.now.options.quiet) 0)
         (terms_of (mode_of job.now.task) job.now.options.target) bytes
@@ -173,7 +177,7 @@ fn list_chosen<F: io::Read + Drop, W: Device>(
 {
     let mut kept = None;
     let pen = Pen { out };
-    let (_, answer) = list_chosen_by_pen::<Brand, F, W>(job, file, form, pen, survey, &mut kept);
+    let (_, answer) = list_chosen_by_pen::<Brand, F, W, M>(job, file, form, pen, watch, &mut kept);
     found_with(job, file.seen, answer, kept)
 }
 
@@ -191,8 +195,7 @@ fn list_in_form<F: io::Read + Drop, W: Device, M: Meter + Drop>(
     ensures read_told { IfSome result (λ found. TellsUnread file.old.failures file.new.failures found.answer) }
     ensures unread { IfNone result (HasReadAll file.old.failures file.new.failures) }
     ensures further { IfSome result (λ found. found.strict ≡ None) }
-    ensures surveyed { IfSome result (λ found. chooses job.now.options.choice ≡ false →
-        IsSurveyed job.now (left_of F.remaining file.old.reader) found.answer found.survey) }
+    ensures surveyed { IfSome result (λ found. IsSurveyed job.now (left_of F.remaining file.old.reader) found.answer found.survey) }
     ensures text { IfSome result (λ found. OfBytes (left_of F.remaining file.old.reader) (λ bytes. TakesText
         (IsListed job.now.options.choice (lines_of (opening_of form.entry) (listing_of job.now.task job.now.options.quiet) 0)
         (terms_of (mode_of job.now.task) job.now.options.target) bytes found.answer) (W.contents out.old)
@@ -202,10 +205,11 @@ fn list_in_form<F: io::Read + Drop, W: Device, M: Meter + Drop>(
     let Ok(survey) = Survey::new(job.alloc) else {
         return None;
     };
+    let watch = Watch { survey, meter };
     if chooses(job.options.choice) {
-        return Some(list_chosen(job, file, out, form, survey));
+        return Some(list_chosen(job, file, out, form, watch));
     }
-    Some(list_all(job, file, out, form, Watch { survey, meter }))
+    Some(list_all(job, file, out, form, watch))
 }
 
 /// Judges the open file with what the task lists, in lines or in objects. None where memory is wanting beside the judgement; then nothing is written.
@@ -221,8 +225,7 @@ pub fn list_file<F: io::Read + Drop, W: Device, M: Meter + Drop>(
     ensures read_told { IfSome result (λ found. TellsUnread file.old.failures file.new.failures found.answer) }
     ensures unread { IfNone result (HasReadAll file.old.failures file.new.failures) }
     ensures further { IfSome result (λ found. found.strict ≡ None) }
-    ensures surveyed { IfSome result (λ found. chooses job.now.options.choice ≡ false →
-        IsSurveyed job.now (left_of F.remaining file.old.reader) found.answer found.survey) }
+    ensures surveyed { IfSome result (λ found. IsSurveyed job.now (left_of F.remaining file.old.reader) found.answer found.survey) }
     ensures text { IfSome result (λ found. OfBytes (left_of F.remaining file.old.reader) (λ bytes. TakesText
         (IsListed job.now.options.choice
         (lines_of (opening_in job.now.options.json job.now.file.now job.now.prefix.now) (listing_of job.now.task job.now.options.quiet) 0)

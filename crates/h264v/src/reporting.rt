@@ -108,6 +108,7 @@ fn judge_page<S: FrameSink + Drop, F: io::Read + Drop, M: Meter + Drop>(
             survey,
             answer,
             further,
+            ..
         } = judged;
         return Paged {
             sink,

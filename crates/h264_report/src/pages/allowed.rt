@@ -12,6 +12,9 @@ use h264_tables::{Limits, limits};
 /// The greatest quantisation parameter (7.4.3).
 const MAX_QP: i64 = 51;
 
+/// The quantisation parameter to which pic_init_qp_minus26 is added (7.4.2.2).
+const MIDDLE_QP: i64 = 26;
+
 /// Frames of the decoded picture buffer at most (A.3.1).
 const MAX_FRAMES: u64 = 16;
 
@@ -36,7 +39,7 @@ fn put_frame_num(page: &mut Page, survey: &Survey) {
     let Some(set) = survey.sequence() else {
         return;
     };
-    let Some(previous) = survey.previous_reference() else {
+    let Some(previous) = survey.pictures.previous_reference else {
         page.put("0, that of an IDR picture");
         return;
     };
@@ -104,18 +107,19 @@ fn put_frame_size(page: &mut Page, survey: &Survey) {
 
 /// Adds what slice_qp_delta may be (7.4.3).
 fn put_qp(page: &mut Page, survey: &Survey) {
-    let Some(slice) = survey.slice() else {
+    let Some(slice) = survey.slice else {
         return;
     };
     let Some(id) = slice.pic_parameter_set_id else {
         return;
     };
-    let Some(set) = survey.picture_set(id) else {
+    let Some(set) = survey.sets.picture_set(id) else {
         return;
     };
-    page.signed(set.pic_init_qp.saturating_neg());
+    let pic_init_qp = set.pic_init_qp_minus26.saturating_add(MIDDLE_QP);
+    page.signed(pic_init_qp.saturating_neg());
     page.put(" to ");
-    page.signed(MAX_QP.saturating_sub(set.pic_init_qp));
+    page.signed(MAX_QP.saturating_sub(pic_init_qp));
     page.put(", so that the quantisation parameter lies in 0 to 51");
 }
 
@@ -147,7 +151,7 @@ fn put_buffering(page: &mut Page, survey: &Survey) {
 
 /// Adds the address of the macroblock that comes next (7.4.3).
 fn put_first(page: &mut Page, survey: &Survey) {
-    page.number(survey.coded());
+    page.number(survey.coded);
     page.put(", the address after the last macroblock of the picture; 0 where a picture begins");
 }
 
@@ -156,7 +160,7 @@ fn put_complete(page: &mut Page, survey: &Survey) {
     if let Some(set) = survey.sequence() {
         page.number(set.width.saturating_mul(set.height));
         page.put(" macroblocks a picture; ");
-        page.number(survey.coded());
+        page.number(survey.coded);
         page.put(" came");
     }
 }

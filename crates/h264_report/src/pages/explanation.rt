@@ -4,7 +4,8 @@
 use crate::pages::allowed::put_allowed;
 use crate::pages::finding::{Answer, Finding, Guide, Reason};
 use crate::pages::page::Page;
-use crate::survey::{ReadElement, Survey};
+use crate::survey::Survey;
+use crate::trail::Element;
 use h264_base::Stop;
 use std::alloc::Global;
 
@@ -22,7 +23,7 @@ fn put_place(page: &mut Page, survey: &Survey, finding: &Finding) {
     page.number(finding.bit);
     page.put(" byte ");
     page.number(finding.byte());
-    if let Some(unit) = survey.unit() {
+    if let Some(unit) = survey.unit {
         page.put(" unit ");
         page.number(unit.byte);
         page.put(" type ");
@@ -48,7 +49,7 @@ fn put_place(page: &mut Page, survey: &Survey, finding: &Finding) {
 }
 
 /// Adds a line with an element, its bit and its value.
-fn put_element(page: &mut Page, word: &str, element: ReadElement) {
+fn put_element(page: &mut Page, word: &str, element: Element) {
     page.put(word);
     page.put(element.name.text());
     page.put(" bit ");

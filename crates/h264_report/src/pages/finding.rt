@@ -3,7 +3,8 @@
 
 use crate::pages::container::{Container, Start};
 use crate::pages::profile::profile_of;
-use crate::survey::{ReadElement, Survey};
+use crate::survey::Survey;
+use crate::trail::Element;
 use h264_base::{ElementName, Rule, Stop};
 use h264_verify::Summary;
 
@@ -50,9 +51,9 @@ pub struct Finding {
     pub slice: Option<u64>,
     pub macroblock: Option<Macroblock>,
     /// The element that begins at the bit.
-    pub element: Option<ReadElement>,
+    pub element: Option<Element>,
     /// The element that was read last.
-    pub last: Option<ReadElement>,
+    pub last: Option<Element>,
     /// Whether the input ends in the unit.
     pub ends_in_unit: bool,
     pub reason: Option<Reason>,
@@ -134,21 +135,26 @@ fn picture_read(survey: &Survey, rule: Option<Rule>) -> Option<u64> {
     if rule == Some(Rule::Incomplete) {
         return begun.checked_sub(1);
     }
-    let slice = survey.slice()?;
+    let slice = survey.slice?;
     let refused = rule == Some(Rule::FirstMb) && slice.first_mb_in_slice == 0;
     begun.checked_sub(if refused { 2 } else { 1 })
 }
 
 /// The frame_num of the slice that is read.
 fn frame_num_read(survey: &Survey) -> Option<u64> {
-    let slice = survey.slice()?;
+    let slice = survey.slice?;
     slice.frame_num
 }
 
 /// The number of the slice that is read.
 fn slice_read(survey: &Survey) -> Option<u64> {
-    let slice = survey.slice()?;
-    Some(slice.number)
+    if survey.slice.is_none() {
+        return None;
+    }
+    match survey.pictures.list.last() {
+        Some(picture) => Some(picture.slices.saturating_sub(1)),
+        None => Some(0),
+    }
 }
 
 impl Finding {
@@ -168,7 +174,7 @@ impl Finding {
             macroblock: macroblock_read(survey),
             element: survey.element_at(bit),
             last: survey.last_element(),
-            ends_in_unit: ended && survey.unit().is_some(),
+            ends_in_unit: ended && survey.unit.is_some(),
             reason,
         })
     }

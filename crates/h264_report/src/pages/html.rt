@@ -117,14 +117,14 @@ fn put_set(page: &mut Page, set: &Sequence) {
 /// Adds the sets.
 fn put_sets(page: &mut Page, survey: &Survey) {
     page.put("<h2>Parameter sets</h2>");
-    for set in survey.sequences().iter() {
+    for set in survey.sets.sequences.iter() {
         put_set(page, set);
     }
 }
 
 /// Adds the plots and the counts of pictures.
 fn put_pictures(page: &mut Page, survey: &Survey, sheets: &Sheets<'_>) {
-    let pictures = survey.pictures();
+    let pictures = survey.pictures.list.as_slice();
     let counts = count_pictures(pictures);
     let failed = match sheets.finding {
         Some(finding) => finding.picture,
@@ -144,12 +144,16 @@ fn put_pictures(page: &mut Page, survey: &Survey, sheets: &Sheets<'_>) {
     put_row(page, "P", counts.predicted);
     put_row(page, "bytes", counts.bytes);
     page.put("</table><h2>Picture buffer</h2>");
-    put_buffer_plot(page, pictures);
+    put_buffer_plot(
+        page,
+        survey.pictures.places_taken.as_slice(),
+        pictures.len(),
+    );
 }
 
 /// Adds the table of macroblocks.
 fn put_macroblocks(page: &mut Page, survey: &Survey) {
-    let counts = survey.macroblocks();
+    let counts = survey.macroblocks;
     page.put("<h2>Macroblocks</h2><table>");
     put_row(page, "I 4x4", counts.intra_4x4);
     put_row(page, "I 16x16", counts.intra_16x16);

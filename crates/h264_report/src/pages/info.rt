@@ -126,7 +126,7 @@ fn put_buffer(page: &mut Page, set: &Sequence) {
 
 /// Adds the lines of pictures and their bytes.
 fn put_pictures(page: &mut Page, survey: &Survey) {
-    let pictures = survey.pictures();
+    let pictures = survey.pictures.list.as_slice();
     let counts = count_pictures(pictures);
     page.put("info pictures ");
     page.number(pictures.len() as u64);
@@ -168,11 +168,11 @@ fn put_macroblocks(page: &mut Page, counts: MacroblockCounts) {
 
 /// Adds the lines of what a stream has.
 pub fn put_info(page: &mut Page, survey: &Survey) {
-    for set in survey.sequences().iter() {
+    for set in survey.sets.sequences.iter() {
         put_set(page, set);
     }
     put_pictures(page, survey);
-    put_macroblocks(page, survey.macroblocks());
+    put_macroblocks(page, survey.macroblocks);
 }
 
 /// Adds the fields of a sequence parameter set.
@@ -225,20 +225,20 @@ pub fn put_info_object(page: &mut Page, file: &str, survey: &Survey) {
     page.open_object(file, "info");
     page.name("sets");
     page.put("[");
-    for (k, set) in survey.sequences().iter().enumerate() {
+    for (k, set) in survey.sets.sequences.iter().enumerate() {
         if k > 0 {
             page.put(",");
         }
         put_set_fields(page, set);
     }
     page.put("]");
-    let counts = count_pictures(survey.pictures());
-    page.number_field("pictures", survey.pictures().len() as u64);
+    let counts = count_pictures(survey.pictures.list.as_slice());
+    page.number_field("pictures", survey.pictures.list.as_slice().len() as u64);
     page.number_field("idr", counts.idr);
     page.number_field("i", counts.intra);
     page.number_field("p", counts.predicted);
     page.number_field("bytes", counts.bytes);
     page.number_field("largest", counts.largest);
-    put_macroblock_fields(page, survey.macroblocks());
+    put_macroblock_fields(page, survey.macroblocks);
     page.close_object();
 }

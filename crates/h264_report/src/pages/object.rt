@@ -9,7 +9,8 @@ use crate::judging::answer_status;
 use crate::pages::allowed::put_allowed;
 use crate::pages::finding::{Answer, Finding, Guide, Reason};
 use crate::pages::page::Page;
-use crate::survey::{ReadElement, Survey};
+use crate::survey::Survey;
+use crate::trail::Element;
 use h264_base::Stop;
 use h264_verify::Summary;
 use std::alloc::Global;
@@ -63,7 +64,7 @@ pub fn put_answer_fields(page: &mut Page, answer: Answer)
 }
 
 /// Adds the fields of an element.
-fn put_element(page: &mut Page, element: ReadElement)
+fn put_element(page: &mut Page, element: Element)
     ensures { Grows page.old page.new }
 {
     page.text_field("element", element.name.text());
@@ -88,7 +89,7 @@ fn put_bit(page: &mut Page, survey: &Survey, finding: &Finding)
 {
     page.number_field("bit", finding.bit);
     page.number_field("byte", finding.byte());
-    if let Some(unit) = survey.unit() {
+    if let Some(unit) = survey.unit {
         page.number_field("unit", unit.byte);
         page.number_field("nal_unit_type", u64::from(unit.nal_unit_type.number()));
     }

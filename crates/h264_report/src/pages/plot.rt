@@ -129,23 +129,19 @@ pub fn put_byte_plot(page: &mut Page, pictures: &[Picture], most: u64, failed: O
     page.put("</svg>");
 }
 
-/// The most places of the picture buffer that are taken at one of these pictures.
-fn most_taken(pictures: &[Picture]) -> u64 {
-    let mut most = 0;
-    for picture in pictures.iter() {
-        most = picture.places_taken.unwrap_or(0).max(most);
-    }
-    most
+/// The most of these numbers of places.
+fn most_taken(places: &[u64]) -> u64 {
+    places.iter().copied().max().unwrap_or(0)
 }
 
-/// Adds the plot of the places that are taken in the picture buffer, picture by picture.
-pub fn put_buffer_plot(page: &mut Page, pictures: &[Picture]) {
-    let group = pictures_a_bar(pictures.len());
-    let count = bars(pictures.len(), group);
-    let most = most_taken(pictures);
+/// Adds the plot of the places that are taken in the picture buffer, picture by picture, of so many pictures.
+pub fn put_buffer_plot(page: &mut Page, places: &[u64], pictures: usize) {
+    let group = pictures_a_bar(pictures);
+    let count = bars(pictures, group);
+    let most = most_taken(places);
     open_plot(page, "places taken in the picture buffer");
     let mut place = 0;
-    for some in pictures.chunks(group) {
+    for some in places.chunks(group) {
         let bar = Bar {
             place,
             count,

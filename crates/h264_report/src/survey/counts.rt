@@ -1,7 +1,12 @@
 //! How many macroblocks of each type a stream has (tables 7-11 and 7-13).
 #![tactic(auto)]
 
-use h264_base::SliceType;
+ghost use Rattle.std.specs.Prelude.{◌≡◌};
+ghost use Rattle.h264_report.specs.SurveyedPictures.{with_intra, with_inter, with_macroblock, macroblocks_after};
+
+use crate::survey::element::count_of;
+use crate::survey::slice::Slice;
+use h264_base::{ElementName, SliceType};
 
 /// How many macroblocks were read, by type.
 #[derive(Clone, Copy, Default)]
@@ -32,7 +37,9 @@ const INTER_TYPES: u64 = 5;
 
 impl MacroblockCounts {
     /// Counts a macroblock of this mb_type in an I slice (table 7-11).
-    fn add_intra(&mut self, mb_type: u64) {
+    fn add_intra(&mut self, mb_type: u64)
+        ensures { self.new ≡ with_intra mb_type self.old }
+    {
         if mb_type == 0 {
             self.intra_4x4 = self.intra_4x4.saturating_add(1);
         } else if mb_type == I_PCM {
@@ -43,7 +50,9 @@ impl MacroblockCounts {
     }
 
     /// Counts an inter macroblock of this mb_type in a P slice (table 7-13).
-    fn add_inter(&mut self, mb_type: u64) {
+    fn add_inter(&mut self, mb_type: u64)
+        ensures { self.new ≡ with_inter mb_type self.old }
+    {
         match mb_type {
             0 => self.inter_16x16 = self.inter_16x16.saturating_add(1),
             1 => self.inter_16x8 = self.inter_16x8.saturating_add(1),
@@ -53,7 +62,9 @@ impl MacroblockCounts {
     }
 
     /// Counts a macroblock of this mb_type in a slice of this type.
-    pub fn add(&mut self, slice_type: SliceType, mb_type: u64) {
+    fn add(&mut self, slice_type: SliceType, mb_type: u64)
+        ensures { self.new ≡ with_macroblock slice_type mb_type self.old }
+    {
         match slice_type {
             SliceType::I => self.add_intra(mb_type),
             SliceType::P => {
@@ -66,8 +77,19 @@ impl MacroblockCounts {
         }
     }
 
-    /// Counts so many macroblocks that are skipped.
-    pub fn skip(&mut self, run: u64) {
-        self.skipped = self.skipped.saturating_add(run);
+    /// Notes an element in the slice that is read: mb_type, or mb_skip_run.
+    #[tactic(auto, unfolding(crate::specs::SurveyedPictures::macroblocks_after))]
+    pub fn note_element(&mut self, name: ElementName, value: i64, slice: Option<Slice>)
+        ensures { self.new ≡ macroblocks_after name value slice self.old }
+    {
+        match name {
+            ElementName::MbSkipRun => self.skipped = self.skipped.saturating_add(count_of(value)),
+            ElementName::MbType => {
+                if let Some(slice) = slice {
+                    self.add(slice.slice_type.unwrap_or(SliceType::I), count_of(value));
+                }
+            }
+            _ => {}
+        }
     }
 }

@@ -5,6 +5,7 @@ ghost use Rattle.std.specs.Prelude.{◌≡◌, ℕ, ◌+◌, ◌-◌, ◌<◌, �
 ghost use Rattle.std.specs.Prelude.{[]};
 ghost use Rattle.h264_base.specs.Call.{HasRoom, IsQuiet, Tells};
 ghost use Rattle.h264_report.specs.Chosen.{held, pending_call, is_chosen, has_picture, has_macroblock, TookChosen, after_element};
+ghost use Rattle.h264_report.specs.Surveyed.{HasSurveyed};
 
 use crate::lines::UnitCall;
 use crate::sheet::Sheet;
@@ -67,8 +68,8 @@ impl Choice {
     }
 }
 
-/// Hands to the sink inside what is chosen of the elements, each unit of them before the first, and no frames. Once the sink inside failed, each call fails,
-/// and it is told nothing more.
+/// Hands to the sink inside what is chosen of the elements, each unit of them before the first, and no frames; and notes each call in a survey unless it was
+/// refused. Once the sink inside failed, each call fails, and it is told nothing more.
 #[derive(Drop)]
 pub struct Narrowed<S: FrameSink + Drop, K: Sheet> {
     pub sink: S,
@@ -89,6 +90,7 @@ impl<S: FrameSink + Drop, K: Sheet> Narrowed<S, K> {
     pub fn new(sink: S, survey: Survey, choice: Choice) -> Narrowed<S, K>
         ensures quiet { result.failures + S.failures result.sink ≡ S.failures sink }
         ensures sink { result.sink ≡ sink }
+        ensures survey { result.survey ≡ survey }
         ensures choice { result.choice ≡ choice }
         ensures took { S.took sink [] → TookChosen S.took result.choice result.broke_off
             (record { reading = result.reading; pending = pending_call result.pending }) result.sink [] }
@@ -132,7 +134,7 @@ fn put_pending<S: FrameSink>(sink: &mut S, pending: Option<UnitCall>) -> Result<
 
 impl<S: FrameSink + Drop, K: Sheet> Elements for Narrowed<S, K> {
     ghost took = { λ s calls. (s.choice ≡ K.choice) × TookChosen S.took s.choice s.broke_off
-        (record { reading = s.reading; pending = pending_call s.pending }) s.sink calls };
+        (record { reading = s.reading; pending = pending_call s.pending }) s.sink calls × HasSurveyed s.survey calls };
 
     ghost failures = { λ s. s.failures + S.failures s.sink };
 
@@ -140,9 +142,9 @@ impl<S: FrameSink + Drop, K: Sheet> Elements for Narrowed<S, K> {
         if self.broke_off {
             return self.fail();
         }
-        self.survey.note_element(name, bit, value);
         self.reading.note_element(name, value);
         if !self.choice.is_chosen(self.reading) {
+            self.survey.note_element(name, bit, value);
             return Ok(());
         }
         match put_pending(&mut self.sink, self.pending) {
@@ -154,7 +156,10 @@ impl<S: FrameSink + Drop, K: Sheet> Elements for Narrowed<S, K> {
         }
         self.pending = None;
         match self.sink.element(name, bit, value) {
-            Ok(()) => Ok(()),
+            Ok(()) => {
+                self.survey.note_element(name, bit, value);
+                Ok(())
+            }
             Err(Failed) => {
                 self.broke_off = true;
                 Err(Failed)

@@ -26,6 +26,4 @@ pub struct Picture {
     pub slices: u64,
     /// Whether it has memory_management_control_operation 5, so that its frame_num counts as 0 afterwards (7.4.3).
     pub resets: bool,
-    /// How many places of the picture buffer are taken while it is decoded (C.4.2); none where that was not noted.
-    pub places_taken: Option<u64>,
 }

@@ -1,6 +1,10 @@
 //! What is noted of the parameter sets.
 #![tactic(auto)]
 
+ghost use Rattle.std.specs.Prelude.{◌≡◌};
+ghost use Rattle.h264_bits.specs.Forms.{natural};
+ghost use Rattle.h264_report.specs.SurveyedSets.{with_usability, with_size, with_element, with_picture_element, timing_of};
+
 use crate::survey::element::count_of;
 use h264_base::ElementName;
 
@@ -49,12 +53,17 @@ pub struct Sequence {
 
 impl Sequence {
     /// The timing, with zeros where none is given yet.
-    fn timing(&self) -> Timing {
+    fn timing(&self) -> Timing
+        ensures { result ≡ timing_of self.now }
+    {
         self.timing.unwrap_or_default()
     }
 
     /// Notes an element of its video usability information.
-    fn note_usability(&mut self, name: ElementName, value: u64) {
+    #[tactic(auto, unfolding(crate::specs::SurveyedSets::with_usability))]
+    fn note_usability(&mut self, name: ElementName, value: u64)
+        ensures { self.new ≡ with_usability name value self.old }
+    {
         let timing = self.timing();
         match name {
             ElementName::NumUnitsInTick => {
@@ -82,7 +91,10 @@ impl Sequence {
     }
 
     /// Notes an element of its size and cropping.
-    fn note_size(&mut self, name: ElementName, value: u64) {
+    #[tactic(auto, unfolding(crate::specs::SurveyedSets::with_size))]
+    fn note_size(&mut self, name: ElementName, value: u64)
+        ensures { self.new ≡ with_size name value self.old }
+    {
         match name {
             ElementName::PicWidthInMbsMinus1 => self.width = value.saturating_add(1),
             ElementName::PicHeightInMapUnitsMinus1 => self.height = value.saturating_add(1),
@@ -95,7 +107,10 @@ impl Sequence {
     }
 
     /// Notes an element of it.
-    pub fn note(&mut self, name: ElementName, value: i64) {
+    #[tactic(auto, unfolding(crate::specs::SurveyedSets::with_element))]
+    pub fn note(&mut self, name: ElementName, value: i64)
+        ensures { self.new ≡ with_element name (natural value) self.old }
+    {
         let value = count_of(value);
         match name {
             ElementName::ProfileIdc => self.profile_idc = value,
@@ -120,20 +135,19 @@ impl Sequence {
 pub struct PictureSet {
     pub pic_parameter_set_id: u64,
     pub seq_parameter_set_id: u64,
-    /// 26 + pic_init_qp_minus26.
-    pub pic_init_qp: i64,
+    pub pic_init_qp_minus26: i64,
 }
-
-/// The quantisation parameter to which pic_init_qp_minus26 is added (7.4.2.2).
-const MIDDLE_QP: i64 = 26;
 
 impl PictureSet {
     /// Notes an element of it.
-    pub fn note(&mut self, name: ElementName, value: i64) {
+    #[tactic(auto, unfolding(crate::specs::SurveyedSets::with_picture_element))]
+    pub fn note(&mut self, name: ElementName, value: i64)
+        ensures { self.new ≡ with_picture_element name value self.old }
+    {
         match name {
             ElementName::PicParameterSetId => self.pic_parameter_set_id = count_of(value),
             ElementName::SeqParameterSetId => self.seq_parameter_set_id = count_of(value),
-            ElementName::PicInitQpMinus26 => self.pic_init_qp = value.saturating_add(MIDDLE_QP),
+            ElementName::PicInitQpMinus26 => self.pic_init_qp_minus26 = value,
             _ => {}
         }
     }

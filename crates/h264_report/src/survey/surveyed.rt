@@ -1,8 +1,10 @@
 //! A sink whose calls are surveyed.
 #![tactic(auto)]
 
-ghost use Rattle.std.specs.Prelude.{◌≡◌};
-ghost use Rattle.h264_report.specs.Surveyed.{HasCounted};
+ghost use Rattle.std.specs.Prelude.{◌≡◌, false, []};
+ghost use Rattle.h264_base.specs.Call.{Tells, IsQuiet};
+ghost use Rattle.h264_report.specs.SurveyedPictures.{places_after};
+ghost use Rattle.h264_report.specs.SurveyedCalls.{TookSurveyed};
 
 use crate::survey::meter::Meter;
 use crate::survey::notes::Survey;
@@ -11,7 +13,7 @@ use h264_dpb::{FrameOut, Rectangle};
 use h264_plane::Frame;
 use h264_verify::{FrameSink, NalUnitType};
 
-/// Notes each call in a survey, and hands it to the sink inside, whose answer it gives.
+/// Hands each call to the sink inside, whose answer it gives, and notes it in a survey unless it was refused.
 #[derive(Drop)]
 pub struct Surveyed<S: FrameSink + Drop, M: Meter + Drop> {
     pub sink: S,
@@ -20,20 +22,22 @@ pub struct Surveyed<S: FrameSink + Drop, M: Meter + Drop> {
 }
 
 impl<S: FrameSink + Drop, M: Meter + Drop> Elements for Surveyed<S, M> {
-    ghost took = { λ s calls. S.took s.sink calls × HasCounted s.survey calls };
+    ghost took = { TookSurveyed S.took };
 
     ghost failures = { λ s. S.failures s.sink };
 
     fn element(&mut self, name: ElementName, bit: u64, value: i64) -> Result<(), Failed> {
+        self.sink.element(name, bit, value)?;
         self.survey.note_element(name, bit, value);
-        self.sink.element(name, bit, value)
+        Ok(())
     }
 }
 
 impl<S: FrameSink + Drop, M: Meter + Drop> FrameOut for Surveyed<S, M> {
     fn frame(&mut self, count: i32, frame: &Frame, rectangle: Rectangle) -> Result<(), Failed> {
+        self.sink.frame(count, frame, rectangle)?;
         self.survey.note_frame();
-        self.sink.frame(count, frame, rectangle)
+        Ok(())
     }
 }
 
@@ -47,9 +51,10 @@ impl<S: FrameSink + Drop, M: Meter + Drop> FrameSink for Surveyed<S, M> {
     ) -> Result<(), Failed> {
         self.meter
             .note(byte, self.survey.picture_count(), self.survey.frames);
+        self.sink.unit(byte, nal_unit_type, nal_ref_idc, length)?;
         self.survey
             .note_unit(byte, nal_unit_type, nal_ref_idc, length);
-        self.sink.unit(byte, nal_unit_type, nal_ref_idc, length)
+        Ok(())
     }
 
     fn slice(
@@ -64,7 +69,12 @@ impl<S: FrameSink + Drop, M: Meter + Drop> FrameSink for Surveyed<S, M> {
             .slice(byte, first_mb_in_slice, slice_type, frame_num, count)
     }
 
-    fn note_places_taken(&mut self, places: usize) {
+    fn note_places_taken(&mut self, places: usize)
+        ensures same { Tells (TookSurveyed S.took) self.old self.new [] }
+        ensures quiet { IsQuiet S.failures self.old.sink self.new.sink }
+        ensures places { self.new.survey.pictures.is_short ≡ false → self.new.survey.pictures.places_taken.items ≡
+            places_after places self.old.survey.pictures.list.items self.old.survey.pictures.places_taken.items }
+    {
         self.survey.note_places_taken(places as u64);
         self.sink.note_places_taken(places);
     }

@@ -1,7 +1,7 @@
 use Rattle.std.proofs.Common.{refl}
 use Rattle.h264_plane.specs.Frames.{no_frame}
 use Rattle.h264_report.proofs.Accounts.{accounts}
-use Rattle.h264_report.proofs.Surveying.{none-counted}
+use Rattle.h264_report.proofs.Surveying.{none-surveyed}
 use Rattle.h264_report.specs.Written.{calls_in}
 use Rattle.h264v.proofs.Answered.{answered, survey-of, surveyed-calls}
 use Rattle.h264v.proofs.job.judge.Goals as goal
@@ -13,15 +13,15 @@ returns-clause-answer g c = answered c.args.job.now.task c.args.job.now.options.
 pub returns-clause-took : goal.returns-clause-took
 returns-clause-took g c none =
     rw c.tell_end.ensures.sink (surveyed-calls g.S.Elements.took {s' = c.run-answer.new.sink} c.args.job.now.task c.args.job.now.options.target _ _ _
-    c.mode_of-mode.ensures c.run-answer.ensures.verdict c.run-answer.ensures.some.0 c.run-answer.ensures.some.4 none).0
+    c.mode_of-mode.ensures c.run-answer.ensures.verdict c.run-answer.ensures.some.0 c.run-answer.ensures.some.4 none c.args.watch.fresh).0
 
 pub returns-clause-some : goal.returns-clause-some
 returns-clause-some g c none =
-    let a = accounts {s' = c.run-answer.new.sink} (c.run-answer.ensures.some.4 (λ k. no_frame)) (none, none-counted _) in
+    let a = accounts {s' = c.run-answer.new.sink} (c.run-answer.ensures.some.4 (λ k. no_frame)) (none, none-surveyed c.args.watch.fresh) in
     rw c.tell_end.ensures.sink (calls_in a.0, a.1.0)
 
 pub returns-clause-surveyed : goal.returns-clause-surveyed
 returns-clause-surveyed g c none =
     survey-of c.args.job.now _ refl c.tell_end.ensures.survey
     (surveyed-calls g.S.Elements.took {s' = c.run-answer.new.sink} c.args.job.now.task c.args.job.now.options.target _ _ _
-    c.mode_of-mode.ensures c.run-answer.ensures.verdict c.run-answer.ensures.some.0 c.run-answer.ensures.some.4 none).1
+    c.mode_of-mode.ensures c.run-answer.ensures.verdict c.run-answer.ensures.some.0 c.run-answer.ensures.some.4 none c.args.watch.fresh).1

@@ -1,5 +1,5 @@
 use Rattle.std.proofs.Common.{[], ap, sym, subst, ◌∙◌}
-use Rattle.h264_report.proofs.Surveying.{none-counted}
+use Rattle.h264_report.proofs.Surveying.{none-surveyed}
 use Rattle.h264_report.specs.StrictUnits.{TellsOfBytes}
 use Rattle.h264_report.specs.declared.strict_units.UnitsRead.{UnitsRead}
 use Rattle.h264_report.specs.Strict.{TookStrict}
@@ -46,7 +46,7 @@ returns-clause-further g c =
     let tells = subst (λ (units : UnitsRead). TellsOfBytes units.extent u.1 units.found units.lack u.0) (sym c.judged_further-2.ensures.units) u.5 in
     rw c.judged_further-2.ensures.answer (judged _ (mode_of c.args.job.now.task) c.args.job.now.options.target
     (left_of g.F.Read.remaining c.args.file.now.reader) c.judge_strictly-judgement-2.result.answer c.judged_further-2.result.further
-    c.mode_of-mode.ensures u.0 u.1 u.2 u.3 (u.4 (λ k. no_frame)) ((none, c.new-sink.ensures.strict), none-counted _)
+    c.mode_of-mode.ensures u.0 u.1 u.2 u.3 (u.4 (λ k. no_frame)) ((none, c.new-sink.ensures.strict), none-surveyed c.args.watch.fresh)
     (λ calls t. subst (λ s. TookStrict s calls)
     (ap (λ (s : StrictSink g.row.S.Denot). s.strict) (sym c.tell_end.ensures.sink) ∙ sym c.judged_further-2.ensures.strict) t.0.1) tells)
 
@@ -58,4 +58,4 @@ returns-clause-surveyed g c e =
     (surveyed-calls (λ (x : StrictSink g.row.S.Denot) calls. g.S.Elements.took x.sink calls × TookStrict x.strict calls)
     {s' = c.judge_strictly-judgement-2.new.sink} c.args.job.now.task c.args.job.now.options.target _ (left_of g.F.Read.remaining c.args.file.now.reader)
     c.judge_strictly-judgement-2.result.answer c.mode_of-mode.ensures c.judge_strictly-judgement-2.ensures.verdict u.0 u.4
-    (none, c.new-sink.ensures.strict)).1
+    (none, c.new-sink.ensures.strict) c.args.watch.fresh).1

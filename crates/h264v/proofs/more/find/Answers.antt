@@ -1,6 +1,5 @@
 use Rattle.std.proofs.Common.{refl, sym, ap, ◌∙◌}
 use Rattle.h264v.specs.Surveys.{surveys}
-use Rattle.h264v.proofs.Answered.{surveys-all}
 use Rattle.h264v.proofs.Texts.{decode-text, list-text, no-text, report-text, some-map}
 use Rattle.h264v.proofs.more.find.Goals as goal
 
@@ -26,5 +25,4 @@ returns-in-Check-clause-surveyed g c = some-map _ _ c.check_file.result
 
 pub returns-in_default-clause-surveyed : goal.returns-in_default-clause-surveyed
 returns-in_default-clause-surveyed g c = some-map _ _ c.list_file.result
-    (λ found h e. h (surveys-all c.args.job.now.task c.args.job.now.options c.in_default.not-Check c.in_default.not-Decode c.in_default.not-Info
-    c.in_default.not-Report e)) c.list_file.ensures.surveyed
+    (λ found h e. h) c.list_file.ensures.surveyed

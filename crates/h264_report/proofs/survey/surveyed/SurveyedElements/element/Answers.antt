@@ -1,19 +1,12 @@
-use Rattle.std.proofs.Common.{rules, arith, SFits, w64}
+use Rattle.std.proofs.Common.{rules, SFits, w64}
 use Rattle.std.proofs.lemmas.Int.{to_z-of_z}
-use Rattle.h264_report.proofs.Sinks.{ok-map, err-map}
-use Rattle.h264_report.proofs.Surveying.{Counts, surveyed-tells}
+use Rattle.h264_base.specs.Call.{OfElement}
+use Rattle.h264_report.proofs.Surveying.{surveyed-tells}
 use Rattle.h264_report.proofs.survey.surveyed.SurveyedElements.element.Goals as goal
 
 pub returns-clause-ok : goal.returns-clause-ok
 returns-clause-ok g c =
     let f : SFits w64 c.args.value = search rules in
-    let ok = simp to_z-of_z at c.element.ensures.ok in
-    let units = c.note_element.ensures.units in
-    let frames = c.note_element.ensures.frames in
-    ok-map c.element.result (λ t. surveyed-tells (record { units = omega (arith, units); frames = omega (arith, frames) }) t) ok
-
-pub returns-clause-refused : goal.returns-clause-refused
-returns-clause-refused g c =
-    let units = c.note_element.ensures.units in
-    let frames = c.note_element.ensures.frames in
-    err-map c.element.result (λ t. surveyed-tells (record { units = omega (arith, units); frames = omega (arith, frames) }) t) c.element.ensures.refused
+    let ok = simp to_z-of_z at c.in_ok-element.ensures.ok in
+    let noted = simp to_z-of_z at c.note_element.ensures in
+    surveyed-tells (OfElement c.args.name c.args.bit c.args.value) noted ok
