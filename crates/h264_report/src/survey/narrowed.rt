@@ -27,11 +27,6 @@ pub struct Choice {
 }
 
 impl Choice {
-    /// Whether anything is chosen.
-    pub fn is_some(&self) -> bool {
-        self.picture.is_some() || self.macroblock.is_some()
-    }
-
     /// Whether the picture that is read is chosen.
     fn has_picture(&self, reading: Reading) -> bool
         ensures { result ≡ has_picture self.now.picture reading }
