@@ -134,22 +134,25 @@ fn most_taken(places: &[u64]) -> u64 {
     places.iter().copied().max().unwrap_or(0)
 }
 
-/// Adds the plot of the places that are taken in the picture buffer, picture by picture, of so many pictures.
+/// Adds the plot of the places that are taken in the picture buffer, picture by picture, of so many pictures; none at one of which that was not noted.
 pub fn put_buffer_plot(page: &mut Page, places: &[u64], pictures: usize) {
     let group = pictures_a_bar(pictures);
     let count = bars(pictures, group);
     let most = most_taken(places);
     open_plot(page, "places taken in the picture buffer");
-    let mut place = 0;
-    for some in places.chunks(group) {
+    let mut waiting = places.chunks(group);
+    for place in 0..count {
+        let value = match waiting.next() {
+            Some(some) => most_taken(some),
+            None => 0,
+        };
         let bar = Bar {
             place,
             count,
-            value: most_taken(some),
+            value,
             most,
         };
         put_bar(page, bar, "#3f8f5f");
-        place = place.saturating_add(1);
     }
     page.put(
         "</svg><p>Places that are taken while a picture is decoded, by frames that wait for output or are held for reference, \
