@@ -79,8 +79,8 @@ impl MacroblockCounts {
 
     /// Notes an element in the slice that is read: mb_type, or mb_skip_run.
     #[tactic(auto, unfolding(crate::specs::SurveyedPictures::macroblocks_after))]
-    pub fn note_element(&mut self, name: ElementName, value: i64, slice: Option<Slice>)
-        ensures { self.new ≡ macroblocks_after name value slice self.old }
+    pub fn note_element(&mut self, name: ElementName, value: i64, slice: &Option<Slice>)
+        ensures { self.new ≡ macroblocks_after name value slice.now self.old }
     {
         match name {
             ElementName::MbSkipRun => self.skipped = self.skipped.saturating_add(count_of(value)),

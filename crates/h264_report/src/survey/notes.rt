@@ -97,9 +97,9 @@ impl Survey {
         let _ = self.elements.push_back(Element { name, bit, value });
         self.sets.note_element(name, value);
         self.pictures
-            .note_element(name, value, self.unit, self.slice);
-        self.macroblocks.note_element(name, value, self.slice);
-        self.slice = Slice::after(self.slice, name, value);
+            .note_element(name, value, &self.unit, &self.slice);
+        self.macroblocks.note_element(name, value, &self.slice);
+        Slice::note_element(&mut self.slice, name, value);
         self.reading.note_element(name, value);
         self.coded = self.coded_after(self.coded);
     }

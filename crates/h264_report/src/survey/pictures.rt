@@ -175,20 +175,20 @@ impl Pictures {
         &mut self,
         name: ElementName,
         value: i64,
-        unit: Option<Unit>,
-        slice: Option<Slice>,
+        unit: &Option<Unit>,
+        slice: &Option<Slice>,
     )
         ensures list { self.new.is_short ≡ false →
-            self.new.list.items ≡ pictures_after name value (option_map unit_told unit) slice self.old.list.items }
+            self.new.list.items ≡ pictures_after name value (option_map unit_told unit.now) slice.now self.old.list.items }
         ensures places_taken { self.new.places_taken.items ≡ self.old.places_taken.items }
         ensures previous { self.new.previous_reference ≡
-            previous_after name value (option_map unit_told unit) self.old.list.items self.old.previous_reference }
+            previous_after name value (option_map unit_told unit.now) self.old.list.items self.old.previous_reference }
         ensures short { self.new.is_short ≡ false → self.old.is_short ≡ false }
     {
         match name {
             ElementName::FirstMbInSlice => {
                 if let Some(unit) = unit {
-                    self.begin_slice(count_of(value), unit);
+                    self.begin_slice(count_of(value), *unit);
                 }
             }
             ElementName::SliceType => {

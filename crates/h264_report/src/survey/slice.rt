@@ -55,26 +55,38 @@ impl Slice {
         }
     }
 
-    /// The slice that is read after an element, where this one was read before it.
+    /// Notes an element in the slice that is read, where there is one; first_mb_in_slice begins one.
     #[tactic(auto, unfolding(crate::specs::SurveyedPictures::slice_after))]
-    pub fn after(slice: Option<Slice>, name: ElementName, value: i64) -> Option<Slice>
-        ensures { result ≡ slice_after name value slice }
+    pub fn note_element(slice: &mut Option<Slice>, name: ElementName, value: i64)
+        ensures { slice.new ≡ slice_after name value slice.old }
     {
         match name {
-            ElementName::FirstMbInSlice => Some(Slice::begun(count_of(value))),
-            ElementName::SliceType => Some(Slice {
-                slice_type: slice_type_of(count_of(value)),
-                ..slice?
-            }),
-            ElementName::PicParameterSetId => Some(Slice {
-                pic_parameter_set_id: Some(count_of(value)),
-                ..slice?
-            }),
-            ElementName::FrameNum => Some(Slice {
-                frame_num: Some(count_of(value)),
-                ..slice?
-            }),
-            _ => slice,
+            ElementName::FirstMbInSlice => *slice = Some(Slice::begun(count_of(value))),
+            ElementName::SliceType => {
+                if let Some(known) = *slice {
+                    *slice = Some(Slice {
+                        slice_type: slice_type_of(count_of(value)),
+                        ..known
+                    });
+                }
+            }
+            ElementName::PicParameterSetId => {
+                if let Some(known) = *slice {
+                    *slice = Some(Slice {
+                        pic_parameter_set_id: Some(count_of(value)),
+                        ..known
+                    });
+                }
+            }
+            ElementName::FrameNum => {
+                if let Some(known) = *slice {
+                    *slice = Some(Slice {
+                        frame_num: Some(count_of(value)),
+                        ..known
+                    });
+                }
+            }
+            _ => {}
         }
     }
 }
