@@ -47,13 +47,6 @@ impl Writer {
         }
     }
 
-    /// How many bits were written.
-    pub fn bit_count(&self) -> usize
-        ensures { result ≡ length self.now }
-    {
-        self.bits.len()
-    }
-
     /// Writes u(n): `n` bits, the highest first (7.2).
     pub fn u(&mut self, n: u32, value: u32) -> Result<(), AllocError>
         requires few { n ≤ 32 }
