@@ -144,3 +144,8 @@ previous_after name v unit pictures previous = previous
 -- How many places of the picture buffer were taken at each picture (C.4.2), after a note of so many: the first after a picture has begun is its own.
 abbrev pub places_after : (places : ℕ) → List Picture → List ℕ → List ℕ
 places_after places pictures taken = if nat_lt (length taken) (length pictures) then taken ++ places ∷ [] else taken
+
+-- An element begins a picture: first_mb_in_slice of 0.
+unfoldable pub begins_picture : ElementName → ℤ → Bool
+begins_picture names.FirstMbInSlice v = natural v == 0
+begins_picture name v = false

@@ -1,10 +1,10 @@
 //! The survey of a stream.
 #![tactic(auto)]
 
-ghost use Rattle.std.specs.Prelude.{◌≡◌, ◌||◌, false, find, reverse, length, IfOk};
+ghost use Rattle.std.specs.Prelude.{◌≡◌, ◌||◌, false, None, find, reverse, length, IfOk};
 ghost use Rattle.circular_buffer.specs.Buffer.{last_item};
 ghost use Rattle.h264_verify.specs.UnitTypes.{type_number};
-ghost use Rattle.h264_report.specs.SurveyedPictures.{places_after};
+ghost use Rattle.h264_report.specs.SurveyedPictures.{begins_picture, places_after};
 ghost use Rattle.h264_report.specs.Surveyed.{IsTold, Follows, nothing_told, and_unit, and_frame, and_element, coded_after, begins_at, macroblock_read};
 ghost use Rattle.h264_report.specs.Surveyed.{picture_set_named, sequence_read};
 
@@ -68,7 +68,9 @@ impl Survey {
 
     /// Notes a unit.
     pub fn note_unit(&mut self, byte: u64, nal_unit_type: NalUnitType, nal_ref_idc: u8, length: u64)
-        ensures { Follows (and_unit byte (type_number nal_unit_type) nal_ref_idc length) self.old self.new }
+        ensures told { Follows (and_unit byte (type_number nal_unit_type) nal_ref_idc length) self.old self.new }
+        ensures pictures { self.new.pictures.is_short ≡ self.old.pictures.is_short }
+        ensures sets { self.old.sets.read ≡ None → self.new.sets.is_short ≡ self.old.sets.is_short }
     {
         self.unit = Some(Unit {
             byte,
@@ -85,14 +87,18 @@ impl Survey {
 
     /// Notes a frame that is output.
     pub fn note_frame(&mut self)
-        ensures { Follows and_frame self.old self.new }
+        ensures told { Follows and_frame self.old self.new }
+        ensures pictures { self.new.pictures.is_short ≡ self.old.pictures.is_short }
+        ensures sets { self.new.sets.is_short ≡ self.old.sets.is_short }
     {
         self.frames = self.frames.saturating_add(1);
     }
 
     /// Notes an element.
     pub fn note_element(&mut self, name: ElementName, bit: u64, value: i64)
-        ensures { Follows (and_element name bit value) self.old self.new }
+        ensures told { Follows (and_element name bit value) self.old self.new }
+        ensures pictures { begins_picture name value ≡ false → self.new.pictures.is_short ≡ self.old.pictures.is_short }
+        ensures sets { self.new.sets.is_short ≡ self.old.sets.is_short }
     {
         let _ = self.elements.push_back(Element { name, bit, value });
         self.sets.note_element(name, value);

@@ -1,9 +1,9 @@
 //! The pictures that were told.
 #![tactic(auto)]
 
-ghost use Rattle.std.specs.Prelude.{◌≡◌, ◌-◌, ◌==◌, false, true, None, [], ◌++◌, ◌∷◌, set, option_map, length, if◌then◌else◌};
+ghost use Rattle.std.specs.Prelude.{◌≡◌, ◌-◌, ◌==◌, false, true, None, [], ◌++◌, ◌∷◌, set, option_map, length, nat_lt, if◌then◌else◌};
 ghost use Rattle.h264_report.specs.SurveyedPictures.{unit_told, kind_begun, picture_begun, last_picture, change_last, with_slice, with_frame_num};
-ghost use Rattle.h264_report.specs.SurveyedPictures.{pictures_begun, pictures_after, previous_after, reference_after, places_after};
+ghost use Rattle.h264_report.specs.SurveyedPictures.{pictures_begun, pictures_after, previous_after, reference_after, places_after, begins_picture};
 ghost use Rattle.h264_report.specs.declared.survey.picture.Picture.{Picture};
 ghost use Rattle.h264_report.specs.declared.survey.picture.PictureKind.TheVariants as kinds;
 ghost use Rattle.h264_verify.specs.UnitTypes.{type_number};
@@ -109,6 +109,7 @@ impl Pictures {
         ensures previous { self.new.previous_reference ≡
             (if first == 0 then reference_after (last_picture self.old.list.items) self.old.previous_reference else self.old.previous_reference) }
         ensures short { self.new.is_short ≡ false → self.old.is_short ≡ false }
+        ensures stays { (first == 0) ≡ false → self.new.is_short ≡ self.old.is_short }
     {
         if first == 0 {
             self.begin(unit);
@@ -170,7 +171,7 @@ impl Pictures {
     }
 
     /// Notes an element in the unit and the slice that are read.
-    #[tactic(auto, unfolding(crate::specs::SurveyedPictures::pictures_after, crate::specs::SurveyedPictures::previous_after))]
+    #[tactic(auto, unfolding(crate::specs::SurveyedPictures::pictures_after, crate::specs::SurveyedPictures::previous_after, crate::specs::SurveyedPictures::begins_picture))]
     pub fn note_element(
         &mut self,
         name: ElementName,
@@ -184,6 +185,7 @@ impl Pictures {
         ensures previous { self.new.previous_reference ≡
             previous_after name value (option_map unit_told unit.now) self.old.list.items self.old.previous_reference }
         ensures short { self.new.is_short ≡ false → self.old.is_short ≡ false }
+        ensures stays { begins_picture name value ≡ false → self.new.is_short ≡ self.old.is_short }
     {
         match name {
             ElementName::FirstMbInSlice => {
@@ -217,6 +219,7 @@ impl Pictures {
         ensures list { self.new.list.items ≡ self.old.list.items }
         ensures previous { self.new.previous_reference ≡ self.old.previous_reference }
         ensures short { self.new.is_short ≡ false → self.old.is_short ≡ false }
+        ensures stays { nat_lt (length self.old.places_taken.items) (length self.old.list.items) ≡ false → self.new.is_short ≡ self.old.is_short }
     {
         if self.places_taken.len() < self.list.len() && self.places_taken.push(places).is_err() {
             self.is_short = true;

@@ -146,6 +146,7 @@ impl Sets {
         ensures sequences { self.new.is_short ≡ false → self.new.sequences.items ≡ kept_sequences self.old.read self.old.sequences.items }
         ensures picture_sets { self.new.is_short ≡ false → self.new.picture_sets.items ≡ kept_picture_sets self.old.read self.old.picture_sets.items }
         ensures short { self.new.is_short ≡ false → self.old.is_short ≡ false }
+        ensures stays { self.old.read ≡ None → self.new.is_short ≡ self.old.is_short }
     {
         match self.read {
             Some(ParameterSet::Sequence(set)) => self.put_sequence(set),

@@ -13,7 +13,7 @@ returns-then-not-is_chosen-clause-ok g c =
     let goes = rw (to_z-of_z w64 c.args.value c.ranges.value) at c.note_element.ensures in
     let chosen = ap (is_chosen s.choice) (sym goes) ∙ sym c.is_chosen.ensures ∙ c.if-not-is_chosen.true in
     let fits : SFits w64 c.args.value = c.ranges.value in
-    let noted = simp to_z-of_z at c.note_element-then-not-is_chosen.ensures in
+    let noted = simp to_z-of_z at c.note_element-then-not-is_chosen.ensures.told in
     rw (c.if-self.false, goes) (record {
       told =
           λ before h. (
@@ -47,7 +47,7 @@ returns-in-Ok-element-clause-ok g c =
     let chosen = ap (is_chosen s.choice) (sym goes) ∙ sym c.is_chosen.ensures ∙ c.if-not-is_chosen.false in
     let fits : SFits w64 c.args.value = c.ranges.value in
     let told = simp to_z-of_z at c.in-Ok-element.ensures.ok in
-    let noted = simp to_z-of_z at c.note_element-in-Ok-element.ensures in
+    let noted = simp to_z-of_z at c.note_element-in-Ok-element.ensures.told in
     rw (c.if-self.false, goes) (record {
       told =
           λ before h. (

@@ -14,6 +14,6 @@ returns-clause-ok g c =
           λ before h. (
             h.0,
             took-none g.S.Elements.took s.choice s.reading s.reading (pending_call s.pending) (pending_call s.pending) s.sink before call refl refl h.1,
-            surveyed-more call c.note_frame.ensures before h.2,
+            surveyed-more call c.note_frame.ensures.told before h.2,
           );
     })

@@ -16,6 +16,6 @@ returns-clause-ok g c =
           λ before h. (
             h.0,
             took-none g.S.Elements.took s.choice s.reading _ (pending_call s.pending) _ s.sink before call refl refl h.1,
-            surveyed-more call c.note_unit.ensures before h.2,
+            surveyed-more call c.note_unit.ensures.told before h.2,
           );
     })

@@ -8,5 +8,5 @@ pub returns-clause-ok : goal.returns-clause-ok
 returns-clause-ok g c =
     let f : SFits w64 c.args.value = search rules in
     let ok = simp to_z-of_z at c.in_ok-element.ensures.ok in
-    let noted = simp to_z-of_z at c.note_element.ensures in
+    let noted = simp to_z-of_z at c.note_element.ensures.told in
     surveyed-tells (OfElement c.args.name c.args.bit c.args.value) noted ok

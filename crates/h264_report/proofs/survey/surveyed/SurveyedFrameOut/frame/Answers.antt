@@ -8,4 +8,4 @@ pub returns-clause-ok : goal.returns-clause-ok
 returns-clause-ok g c =
     let f : SFits w32 c.args.count = search rules in
     let ok = simp to_z-of_z at c.in_ok-frame.ensures.ok in
-    surveyed-tells (frame_call c.args.count c.args.frame.now c.args.rectangle) c.note_frame.ensures ok
+    surveyed-tells (frame_call c.args.count c.args.frame.now c.args.rectangle) c.note_frame.ensures.told ok

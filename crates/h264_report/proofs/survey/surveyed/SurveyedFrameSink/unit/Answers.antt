@@ -5,4 +5,4 @@ use Rattle.h264_report.proofs.survey.surveyed.SurveyedFrameSink.unit.Goals as go
 
 pub returns-clause-ok : goal.returns-clause-ok
 returns-clause-ok g c =
-    surveyed-tells (OfUnit c.args.byte (type_number c.args.nal_unit_type) c.args.nal_ref_idc c.args.length) c.note_unit.ensures c.in_ok-unit.ensures.ok
+    surveyed-tells (OfUnit c.args.byte (type_number c.args.nal_unit_type) c.args.nal_ref_idc c.args.length) c.note_unit.ensures.told c.in_ok-unit.ensures.ok
