@@ -1,5 +1,5 @@
 #!/usr/bin/env bash
-# kernels.sh [RUNS]: times inter prediction (h264_inter), the filter of edges (h264_deblock), residuals (h264_scale) and blocks of levels
+# kernels.sh [RUNS]: times inter prediction (h264_inter), residuals (h264_scale) and blocks of levels
 # (h264_cavlc) beside their plain forms (sample by sample, element by element) in Rust at -O3, for the same processor, in alternating runs, and prints
 # the best time of each kernel, the ratio, and whether both gave the same numbers.
 # The program that calls our kernels (kernels/*.rt.txt) is no crate of the repository: it is proved and built in a throwaway copy.
@@ -14,7 +14,7 @@ import pathlib, shutil, sys
 top, work = map(pathlib.Path, sys.argv[1:])
 lines = [line.partition(":") for line in (top / "crates.txt").read_text().splitlines() if line.startswith("h264_")]
 uses = {name.split()[0]: words.split() for name, _, words in lines}
-own = "h264_base h264_units h264_tables h264_rbsp h264_bits h264_cavlc h264_write h264_plane h264_scale h264_inter h264_deblock".split()
+own = "h264_base h264_units h264_tables h264_rbsp h264_bits h264_cavlc h264_write h264_plane h264_scale h264_inter".split()
 wanted, waiting = [], list(own)
 while waiting:
     crate = waiting.pop(0)

@@ -28,14 +28,6 @@ impl Plane {
     fn row(&self, y: usize) -> &[u8] {
         &self.samples[y * self.width..(y + 1) * self.width]
     }
-    #[inline(always)]
-    fn look<const VERTICAL: bool>(&self, along: usize, across: usize) -> u8 {
-        if VERTICAL { self.get(across, along) } else { self.get(along, across) }
-    }
-    #[inline(always)]
-    fn put<const VERTICAL: bool>(&mut self, along: usize, across: usize, sample: u8) {
-        if VERTICAL { self.set(across, along, sample) } else { self.set(along, across, sample) }
-    }
 }
 
 // ---- inter prediction
@@ -231,177 +223,6 @@ fn chroma<const W: usize, const H: usize>(p: &Plane, x: usize, y: usize, vector:
     }
 }
 
-// ---- edges
-
-const ALPHA: [u8; 52] = [
-    0, 0, 0, 0, 0, 0, 0, 0, 0, 0, 0, 0, 0, 0, 0, 0, 4, 4, 5, 6, 7, 8, 9, 10, 12, 13, 15, 17, 20, 22, 25, 28, 32, 36, 40, 45, 50, 56, 63, 71, 80, 90, 101,
-    113, 127, 144, 162, 182, 203, 226, 255, 255,
-];
-const BETA: [u8; 52] = [
-    0, 0, 0, 0, 0, 0, 0, 0, 0, 0, 0, 0, 0, 0, 0, 0, 2, 2, 2, 3, 3, 3, 3, 4, 4, 4, 6, 6, 7, 7, 8, 8, 9, 9, 10, 10, 11, 11, 12, 12, 13, 13, 14, 14, 15, 15,
-    16, 16, 17, 17, 18, 18,
-];
-const TC0: [[u8; 52]; 3] = [
-    [
-        0, 0, 0, 0, 0, 0, 0, 0, 0, 0, 0, 0, 0, 0, 0, 0, 0, 0, 0, 0, 0, 0, 0, 1, 1, 1, 1, 1, 1, 1, 1, 1, 1, 2, 2, 2, 2, 3, 3, 3, 4, 4, 4, 5, 6, 6, 7, 8, 9,
-        10, 11, 13,
-    ],
-    [
-        0, 0, 0, 0, 0, 0, 0, 0, 0, 0, 0, 0, 0, 0, 0, 0, 0, 0, 0, 0, 0, 1, 1, 1, 1, 1, 1, 1, 1, 1, 1, 2, 2, 2, 2, 3, 3, 3, 4, 4, 5, 5, 6, 7, 8, 8, 10, 11, 12,
-        13, 15, 17,
-    ],
-    [
-        0, 0, 0, 0, 0, 0, 0, 0, 0, 0, 0, 0, 0, 0, 0, 0, 0, 1, 1, 1, 1, 1, 1, 1, 1, 1, 1, 2, 2, 2, 2, 3, 3, 3, 4, 4, 4, 5, 6, 6, 7, 8, 9, 10, 11, 13, 14, 16,
-        18, 20, 23, 25,
-    ],
-];
-
-struct EdgeParameters {
-    qp_p: u8,
-    qp_q: u8,
-    filter_offset_a: i8,
-    filter_offset_b: i8,
-    strengths: [u8; 4],
-}
-
-#[derive(Clone, Copy)]
-enum Filter {
-    Off,
-    Normal(u8),
-    Strong,
-}
-
-#[derive(Clone, Copy)]
-struct Limits {
-    alpha: u8,
-    beta: u8,
-    filter: Filter,
-}
-
-#[derive(Clone, Copy)]
-struct Line {
-    p3: u8,
-    p2: u8,
-    p1: u8,
-    p0: u8,
-    q0: u8,
-    q1: u8,
-    q2: u8,
-    q3: u8,
-}
-
-impl Line {
-    #[inline(always)]
-    fn turned(self) -> Line {
-        Line { p3: self.q3, p2: self.q2, p1: self.q1, p0: self.q0, q0: self.p0, q1: self.p1, q2: self.p2, q3: self.p3 }
-    }
-    #[inline(always)]
-    fn is_within(self, k: Limits) -> bool {
-        self.p0.abs_diff(self.q0) < k.alpha && self.p1.abs_diff(self.p0) < k.beta && self.q1.abs_diff(self.q0) < k.beta
-    }
-    #[inline(always)]
-    fn is_flat(self, k: Limits) -> bool {
-        self.p2.abs_diff(self.p0) < k.beta
-    }
-    #[inline(always)]
-    fn second<const CHROMA: bool>(self, k: Limits, tc0: u8) -> u8 {
-        if !CHROMA && self.is_flat(k) {
-            let middle = (self.p0 as i32 + self.q0 as i32 + 1) >> 1;
-            (self.p1 as i32 + ((self.p2 as i32 + middle - 2 * self.p1 as i32) >> 1).clamp(-(tc0 as i32), tc0 as i32)) as u8
-        } else {
-            self.p1
-        }
-    }
-    #[inline(always)]
-    fn normal<const CHROMA: bool>(self, k: Limits, tc0: u8) -> Line {
-        let tc = if CHROMA { tc0 + 1 } else { tc0 + self.is_flat(k) as u8 + self.turned().is_flat(k) as u8 } as i32;
-        let delta = ((4 * (self.q0 as i32 - self.p0 as i32) + (self.p1 as i32 - self.q1 as i32) + 4) >> 3).clamp(-tc, tc);
-        Line {
-            p3: self.p3,
-            p2: self.p2,
-            p1: self.second::<CHROMA>(k, tc0),
-            p0: (self.p0 as i32 + delta).clamp(0, 255) as u8,
-            q0: (self.q0 as i32 - delta).clamp(0, 255) as u8,
-            q1: self.turned().second::<CHROMA>(k, tc0),
-            q2: self.q2,
-            q3: self.q3,
-        }
-    }
-    #[inline(always)]
-    fn strong_side<const CHROMA: bool>(self, k: Limits) -> (u8, u8, u8) {
-        let (p3, p2, p1, p0) = (self.p3 as u32, self.p2 as u32, self.p1 as u32, self.p0 as u32);
-        let (q0, q1) = (self.q0 as u32, self.q1 as u32);
-        if !CHROMA && self.is_flat(k) && self.p0.abs_diff(self.q0) < (k.alpha >> 2) + 2 {
-            (
-                ((p2 + 2 * p1 + 2 * p0 + 2 * q0 + q1 + 4) >> 3) as u8,
-                ((p2 + p1 + p0 + q0 + 2) >> 2) as u8,
-                ((2 * p3 + 3 * p2 + p1 + p0 + q0 + 4) >> 3) as u8,
-            )
-        } else {
-            (((2 * p1 + p0 + q1 + 2) >> 2) as u8, self.p1, self.p2)
-        }
-    }
-    #[inline(always)]
-    fn strong<const CHROMA: bool>(self, k: Limits) -> Line {
-        let p = self.strong_side::<CHROMA>(k);
-        let q = self.turned().strong_side::<CHROMA>(k);
-        Line { p3: self.p3, p2: p.2, p1: p.1, p0: p.0, q0: q.0, q1: q.1, q2: q.2, q3: self.q3 }
-    }
-}
-
-#[inline(always)]
-fn line<const VERTICAL: bool, const CHROMA: bool>(plane: &mut Plane, along: usize, across: usize, k: Limits) {
-    let before = Line {
-        p3: plane.look::<VERTICAL>(along, across - 4),
-        p2: plane.look::<VERTICAL>(along, across - 3),
-        p1: plane.look::<VERTICAL>(along, across - 2),
-        p0: plane.look::<VERTICAL>(along, across - 1),
-        q0: plane.look::<VERTICAL>(along, across),
-        q1: plane.look::<VERTICAL>(along, across + 1),
-        q2: plane.look::<VERTICAL>(along, across + 2),
-        q3: plane.look::<VERTICAL>(along, across + 3),
-    };
-    if before.is_within(k) {
-        let after = match k.filter {
-            Filter::Off => before,
-            Filter::Normal(tc0) => before.normal::<CHROMA>(k, tc0),
-            Filter::Strong => before.strong::<CHROMA>(k),
-        };
-        if !CHROMA {
-            plane.put::<VERTICAL>(along, across - 3, after.p2);
-            plane.put::<VERTICAL>(along, across - 2, after.p1);
-        }
-        plane.put::<VERTICAL>(along, across - 1, after.p0);
-        plane.put::<VERTICAL>(along, across, after.q0);
-        if !CHROMA {
-            plane.put::<VERTICAL>(along, across + 1, after.q1);
-            plane.put::<VERTICAL>(along, across + 2, after.q2);
-        }
-    }
-}
-
-#[inline(never)]
-fn edge<const VERTICAL: bool, const CHROMA: bool>(plane: &mut Plane, along: usize, across: usize, e: &EdgeParameters) {
-    let average = (e.qp_p as i32 + e.qp_q as i32 + 1) >> 1;
-    let index_a = (average + e.filter_offset_a as i32).clamp(0, 51) as usize;
-    let index_b = (average + e.filter_offset_b as i32).clamp(0, 51) as usize;
-    let count = if CHROMA { 2 } else { 4 };
-    for n in 0..4 {
-        let filter = match e.strengths[n] {
-            0 => Filter::Off,
-            4 => Filter::Strong,
-            s => Filter::Normal(TC0[s as usize - 1][index_a]),
-        };
-        if let Filter::Off = filter {
-            continue;
-        }
-        let k = Limits { alpha: ALPHA[index_a], beta: BETA[index_b], filter };
-        for line_of in 0..count {
-            line::<VERTICAL, CHROMA>(plane, along + count * n + line_of, across, k);
-        }
-    }
-}
-
 // ---- the runs
 
 fn fill(plane: &mut Plane) {
@@ -412,20 +233,6 @@ fn fill(plane: &mut Plane) {
             let base = ((x / 8 + y / 8) % 200) as u8;
             let noise = ((seed >> 24) % 8) as u8;
             plane.set(x, y, base.wrapping_add(noise));
-        }
-    }
-}
-
-fn digest(plane: &Plane) -> u32 {
-    plane.samples.iter().fold(0u32, |sum, s| sum.wrapping_mul(31).wrapping_add(*s as u32))
-}
-
-fn edges_of<const VERTICAL: bool, const CHROMA: bool>(plane: &mut Plane, x: usize, y: usize, size: usize, e: &EdgeParameters) {
-    for k in 0..size / 4 {
-        let (along, across) = if VERTICAL { (size * y, size * x + 4 * k) } else { (size * x, size * y + 4 * k) };
-        let (length, width) = if VERTICAL { (plane.height, plane.width) } else { (plane.width, plane.height) };
-        if across >= 4 && across + 4 <= width && along + size <= length {
-            edge::<VERTICAL, CHROMA>(plane, along, across, e);
         }
     }
 }
@@ -468,43 +275,4 @@ fn main() {
     time("chroma8", || {
         (0..20).fold(0u32, |s, _| s.wrapping_mul(7).wrapping_add(interpolated::<8>(&plane, &mut out[..64], |p, x, y, o| chroma::<8, 8>(p, x, y, vector, o))))
     });
-    let weak = EdgeParameters { qp_p: 34, qp_q: 35, filter_offset_a: 0, filter_offset_b: 0, strengths: [1, 2, 3, 2] };
-    let strong = EdgeParameters { qp_p: 34, qp_q: 35, filter_offset_a: 0, filter_offset_b: 0, strengths: [4; 4] };
-    let mut run = |name: &str, size: usize, each: &dyn Fn(&mut Plane, usize, usize)| {
-        fill(&mut plane);
-        let start = Instant::now();
-        for _ in 0..5 {
-            for y in 0..1088 / size {
-                for x in 0..1920 / size {
-                    each(&mut plane, x, y);
-                }
-            }
-        }
-        println!("{name} {} {}", start.elapsed().as_micros(), digest(&plane));
-    };
-    run("edges_below_four", 16, &|p, x, y| {
-        edges_of::<true, false>(p, x, y, 16, &weak);
-        edges_of::<false, false>(p, x, y, 16, &weak);
-    });
-    run("edges_of_four", 16, &|p, x, y| {
-        edges_of::<true, false>(p, x, y, 16, &strong);
-        edges_of::<false, false>(p, x, y, 16, &strong);
-    });
-    run("vertical_edges", 16, &|p, x, y| edges_of::<true, false>(p, x, y, 16, &weak));
-    run("horizontal_edges", 16, &|p, x, y| edges_of::<false, false>(p, x, y, 16, &weak));
-    fill(&mut plane);
-    let mut other = Plane::new(1920, 1088);
-    fill(&mut other);
-    let start = Instant::now();
-    for _ in 0..5 {
-        for y in 0..1088 / 8 {
-            for x in 0..1920 / 8 {
-                edges_of::<true, true>(&mut plane, x, y, 8, &weak);
-                edges_of::<true, true>(&mut other, x, y, 8, &weak);
-                edges_of::<false, true>(&mut plane, x, y, 8, &weak);
-                edges_of::<false, true>(&mut other, x, y, 8, &weak);
-            }
-        }
-    }
-    println!("chroma_edges {} {}", start.elapsed().as_micros(), digest(&plane).wrapping_add(digest(&other)));
 }

@@ -5,11 +5,11 @@ use Rattle.std.proofs.lemmas.Bool.Decides.{nat_tests}
 use Rattle.std.specs.Int.{abs_diff}
 use Rattle.h264_plane.specs.Clip.{clip1}
 use Rattle.h264_deblock.proofs.Signed.{clip1-is}
-use Rattle.h264_deblock.specs.Line.{filtered, is_within_limits, is_flat, turned, number, clip3, delta, step, bend, reach, second, normal, by_filter, strong}
+use Rattle.h264_deblock.specs.Line.{filtered, is_within_limits, is_flat, turned, number, clip3, delta, bend, reach, second, normal, by_filter, strong}
 use Rattle.h264_deblock.specs.Line.{strong_side, Line, Side, Limits, Filter, Off, Normal, Strong}
 use Rattle.h264_deblock.specs.Rows.{filter_by, any_filter, is_on, is_smooth, side_by, sign}
 use Rattle.h264_deblock.specs.Inner.{SameInner}
-use Rattle.h264_deblock.proofs.Lines.{filtered_is, filtered_not, filtered_off, far, within_inner}
+use Rattle.h264_deblock.proofs.Lines.{filtered_is, filtered_not, filtered_off, within_inner}
 use Rattle.h264_deblock.proofs.Beside.{same_line}
 use Rattle.h264_deblock.proofs.Groups.{any_four, any_other}
 
@@ -23,10 +23,6 @@ bent_by t l = number (pos l.p1 +ℤ clip3 (neg_ℤ (pos t)) (pos t) (bend l))
 
 stays : (l : Line) → bent_by 0 l ≡ l.p1
 stays l = rw (no_reach (bend l)) (omega arith)
-
-no_delta : (l : Line) → delta 0 l ≡ pos 0
-unfolding delta
-no_delta l = no_reach (step l)
 
 inside : (n : ℕ) → n < 256 → clip3 (pos 0) (pos 255) (pos n +ℤ pos 0) ≡ pos n
 inside n p = omega (arith, ints, clamps)
@@ -256,27 +252,6 @@ both_lane false f false a b r ea eb er = rw (er, ea, eb) refl
 pub number_four : (t : ℕ) (f : Bool) → f ≡ nat_lt (abs_diff t 254) 1 → (t == 254) ≡ f
 number_four t true e = grind (arith, nat_tests, e)
 number_four t false e = grind (arith, nat_tests, e)
-
-by_kind : (k : Limits) (l : Line) (f g : Filter) → f ≡ g →
-    filtered false (record { alpha = k.alpha; beta = k.beta; filter = f }) l ≡ filtered false (record { alpha = k.alpha; beta = k.beta; filter = g }) l
-by_kind k l f g e = ap (λ (h : Filter). let n : Limits = record { alpha = k.alpha; beta = k.beta; filter = h } in filtered false n l) e
-
--- the lines of an edge with some bS of 4, by whether each has one
-pub mixed_line : (f : Bool) (k : Limits) (t : ℕ) (l a b m : Line) → f ≡ nat_lt (abs_diff t 254) 1 →
-    a ≡ filtered false (record { alpha = k.alpha; beta = k.beta; filter = Strong }) l →
-    b ≡ filtered false (record { alpha = k.alpha; beta = k.beta; filter = filter_by t }) l →
-    m.p3 ≡ l.p3 → m.p2 ≡ cond f a.p2 b.p2 → m.p1 ≡ cond f a.p1 b.p1 → m.p0 ≡ cond f a.p0 b.p0 → m.q0 ≡ cond f a.q0 b.q0 → m.q1 ≡ cond f a.q1 b.q1 →
-    m.q2 ≡ cond f a.q2 b.q2 → m.q3 ≡ l.q3 → m ≡ filtered false (record { alpha = k.alpha; beta = k.beta; filter = any_filter t }) l
-mixed_line true k t l a b m ef ea eb e3 e2 e1 e0 h0 h1 h2 h3 =
-    let outer = far (record { alpha = k.alpha; beta = k.beta; filter = Strong }) l in
-    same_line a m.p3 m.p2 m.p1 m.p0 m.q0 m.q1 m.q2 m.q3 (e3 ∙ sym outer.0 ∙ ap (λ x. x.p3) (sym ea)) e2 e1 e0 h0 h1 h2
-    (h3 ∙ sym outer.1 ∙ ap (λ x. x.q3) (sym ea))
-    ∙ ea ∙ by_kind k l _ _ (sym (any_four t (number_four t true ef)))
-mixed_line false k t l a b m ef ea eb e3 e2 e1 e0 h0 h1 h2 h3 =
-    let outer = far (record { alpha = k.alpha; beta = k.beta; filter = filter_by t }) l in
-    same_line b m.p3 m.p2 m.p1 m.p0 m.q0 m.q1 m.q2 m.q3 (e3 ∙ sym outer.0 ∙ ap (λ x. x.p3) (sym eb)) e2 e1 e0 h0 h1 h2
-    (h3 ∙ sym outer.1 ∙ ap (λ x. x.q3) (sym eb))
-    ∙ eb ∙ by_kind k l _ _ (sym (any_other t (number_four t false ef)))
 
 -- ---- chroma
 

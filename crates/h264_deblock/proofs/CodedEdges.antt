@@ -21,10 +21,8 @@ use Rattle.h264_near.specs.declared.motion.Motion.{Motion}
 use Rattle.h264_near.specs.declared.motion.Vector.{Vector}
 use Rattle.h264_near.proofs.Neighbours.{last-above}
 use Rattle.h264_near.proofs.Places.{quotient, remainder, number-below}
-use Rattle.h264_deblock.specs.Filtering.{PlaneEdges, edges_of}
+use Rattle.h264_deblock.specs.Filtering.{PlaneEdges}
 use Rattle.h264_deblock.specs.Strength.{Side, side_part, far, moves_apart, strength_of}
-use Rattle.h264_deblock.specs.declared.filtering.Edges.{Edges}
-use Rattle.h264_deblock.specs.declared.filtering.ChromaEdges.{ChromaEdges}
 use Rattle.h264_deblock.specs.declared.slice_filter.Deblocking.TheVariants.{Off}
 use Rattle.h264_deblock.specs.Steps.{NamedBorder as Border}
 use Rattle.h264_deblock.specs.declared.edge_parameters.EdgeParameters.{EdgeParameters}
@@ -448,18 +446,20 @@ none-chroma slices Y v p q c t = absurd (cc)
 none-chroma slices Cb v p q c t = rw (sym (none-border slices Cb v p q t), sym (none-inner slices Cb v 2 q t)) refl
 none-chroma slices Cr v p q c t = rw (sym (none-border slices Cr v p q t), sym (none-inner slices Cr v 2 q t)) refl
 
-abbrev no_chroma : ChromaEdges
+abbrev no_chroma : PlaneEdges
 no_chroma = record { vertical = None ∷ None ∷ []; horizontal = None ∷ None ∷ [] }
 
-abbrev no_edges : Edges
-no_edges = record { y = record { vertical = None ∷ None ∷ None ∷ None ∷ []; horizontal = None ∷ None ∷ None ∷ None ∷ [] }; cb = no_chroma; cr = None }
+abbrev no_edges : Component → PlaneEdges
+no_edges Y = record { vertical = None ∷ None ∷ None ∷ None ∷ []; horizontal = None ∷ None ∷ None ∷ None ∷ [] }
+no_edges Cb = no_chroma
+no_edges Cr = no_chroma
 
 off : (slices : ℕ → SliceFilter) (q : CodedMacroblock) (f : SliceFilter) → slices q.slice ≡ f → f.deblocking ≡ Off →
     (same : Bool) → filters (slices q.slice).deblocking same ≡ false
 off slices q f is e same = ap (λ z. filters z.deblocking same) is ∙ ap (λ z. filters z same) e
 
 pub none-is : (slices : ℕ → SliceFilter) (width : ℕ) (picture : List CodedMacroblock) (q : CodedMacroblock) (f : SliceFilter) → slices q.slice ≡ f →
-    f.deblocking ≡ Off → (p : Component) → edges_of no_edges p ≡ coded_edges slices width picture q p
+    f.deblocking ≡ Off → (p : Component) → no_edges p ≡ coded_edges slices width picture q p
 none-is slices width picture q f is e Y =
     pair-is slices width picture q Y _ _ (none-luma slices true _ q (off slices q f is e)) (none-luma slices false _ q (off slices q f is e))
 none-is slices width picture q f is e Cb =

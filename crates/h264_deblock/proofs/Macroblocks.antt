@@ -6,15 +6,13 @@ use Rattle.h264_deblock.specs.Edge.{edge_after, lines_of, reads, writes, IsBesid
 use Rattle.h264_deblock.specs.declared.edge_parameters.EdgeParameters.{EdgeParameters}
 use Rattle.h264_deblock.proofs.Local.{edge_near, edge_far, holds_more}
 use Rattle.h264_plane.specs.Samples.{Samples, at, size_along, size_across, ShowsSamples}
-use Rattle.h264_plane.specs.Frames.{plane_of, is_chroma}
+use Rattle.h264_plane.specs.Frames.{is_chroma}
 use Rattle.h264_plane.specs.declared.frame.Component.{Component}
 use Rattle.h264_plane.specs.declared.frame.Component.TheVariants.{Y, Cb, Cr}
-use Rattle.h264_plane.specs.declared.frame.Frame.{Frame}
 use Rattle.h264_plane.specs.Places.{side, Before, After, Agree, with_own}
 use Rattle.h264_plane.proofs.Own.{moved, own_in, own_out}
 use Rattle.h264_plane.proofs.Raster.{raster, or_in, wrap_before}
-use Rattle.h264_deblock.specs.declared.filtering.Edges.{Edges}
-use Rattle.h264_deblock.specs.Filtering.{edges_of, AreEdges, IsOf, PlaneEdges, edge_or, edges_after, edges_done, IsInside, AreInside, Fits}
+use Rattle.h264_deblock.specs.Filtering.{PlaneEdges, edge_or, edges_after, edges_done, IsInside, AreInside, Fits}
 use Rattle.h264_deblock.specs.Filtering.{filtered_by, IsReached, unfiltered}
 
 -- where the edges of a direction begin, along them and across them
@@ -309,11 +307,6 @@ unfolding edges_after
 after_or k v chroma es a b place o p q t s here same i j d held edge =
     rw (here, same) at (or_held o v chroma a place p q t (edges_after k v chroma es (edge_at a b) s) i j d held edge)
 
--- the places of a plane are those of one that it holds
-pub size_held : (v : Bool) (p q : Samples) (s : ℕ → ℕ → ℕ) → ShowsSamples p q s → (size_along v q ≡ size_along v p) × (size_across v q ≡ size_across v p)
-size_held true p q s held = (held.height, held.width)
-size_held false p q s held = (held.width, held.height)
-
 -- an edge that is filtered has four samples before it
 pub before_edge : (b k : ℕ) (es : List (Option EdgeParameters)) (e : EdgeParameters) → (IsTrue (is_some (get_or es 0 None)) → 4 ≤ b) →
     get_or es k None ≡ Some e → 4 ≤ b + 4 * k
@@ -377,24 +370,6 @@ eight_edges e c r p q1 q2 q3 q4 q5 q6 q7 q8 o0 o1 o2 o3 o4 o5 o6 o7 wide tall in
 
 -- ---- one macroblock further
 
--- its edges are filtered in a plane that holds it as it was constructed
-pub plane_step : (w h n : ℕ) (chroma : Bool) (edges : ℕ → PlaneEdges) (es : PlaneEdges) (u : ℕ → ℕ → ℕ) (c r : ℕ) (old new : Samples) → n ≡ lines_of chroma →
-    c < w → r < h → AreInside c r es → edges (r * w + c) ≡ es →
-    old.width ≡ n * w → old.height ≡ n * h → Agree n w (c + 1) r (at old) (filtered_by (r * w + c) (unfiltered w n chroma edges u)) →
-    ShowsSamples old new (edges_done n chroma es c r (at old)) →
-    Agree n w (c + 1) r (at new) (filtered_by (r * w + (c + 1)) (unfiltered w n chroma edges u))
-plane_step w h n chroma edges es u c r old new e k m inside here ew eh agree filtered =
-    let least = lines_least chroma in
-    let tall = mul-le n (r + 1) n h (omega arith) (omega arith) in
-    let further = local_step w n chroma es (at old) (filtered_by (r * w + c) (unfiltered w n chroma edges u)) (edges_done n chroma es c r (at old))
-    (filtered_by (r * w + (c + 1)) (unfiltered w n chroma edges u))
-    c r e (omega arith) k inside agree (λ x y. refl)
-    (λ x y. next_macroblock w n chroma edges u c r k x y ∙
-    ap (λ z. edges_done n chroma z c r (filtered_by (r * w + c) (unfiltered w n chroma edges u)) x y) here) in
-    record {
-      each = λ x y i b. filtered.samples x y (omega arith) (⊎_elim (λ (z : y < n * r). omega arith) (λ z. omega (arith, z.0)) b) ∙ further.each x y i b;
-    }
-
 pub reached_more : (w h n : ℕ) (chroma : Bool) (edges : ℕ → PlaneEdges) (u : ℕ → ℕ → ℕ) (c r : ℕ) (old put new : Samples) → n ≡ lines_of chroma → 4 ≤ n →
     Fits w h edges → c < w → r < h →
     old.width ≡ n * w → old.height ≡ n * h → IsReached (unfiltered w n chroma edges u) c r old →
@@ -440,18 +415,6 @@ pub side_lines : (p : Component) → side p ≡ lines_of (is_chroma p)
 side_lines Y = refl
 side_lines Cb = refl
 side_lines Cr = refl
-
-pub frame_step : (across down : ℕ) (all : Component → ℕ → PlaneEdges) (e : Edges) (u : Component → ℕ → ℕ → ℕ) (c r : ℕ) (old new : Frame) → c < across →
-    r < down → ((p : Component) → AreInside c r (edges_of e p)) →
-    IsOf across down old → AreEdges across all e c r →
-    ((p : Component) → Agree (side p) across (c + 1) r (at (plane_of p old))
-    (filtered_by (r * across + c) (unfiltered across (side p) (is_chroma p) (all p) (u p)))) →
-    ((p : Component) → ShowsSamples (plane_of p old) (plane_of p new) (edges_done (side p) (is_chroma p) (edges_of e p) c r (at (plane_of p old)))) →
-    (p : Component) → Agree (side p) across (c + 1) r (at (plane_of p new))
-    (filtered_by (r * across + (c + 1)) (unfiltered across (side p) (is_chroma p) (all p) (u p)))
-frame_step across down all e u c r old new k m inside sized here agree filtered p =
-    plane_step across down (side p) (is_chroma p) (all p) (edges_of e p) (u p) c r (plane_of p old) (plane_of p new) (side_lines p) k m (inside p) (here p)
-    (sized p).columns (sized p).rows (agree p) (filtered p)
 
 pub planes : (P : Component → Type 0) → P Y → P Cb → P Cr → (p : Component) → P p
 planes P y cb cr Y = y

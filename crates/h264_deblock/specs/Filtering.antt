@@ -6,13 +6,9 @@ use Rattle.h264_plane.specs.Samples.{Samples, at, IsSized}
 use Rattle.h264_plane.specs.Frames.{plane_of}
 use Rattle.h264_plane.specs.Places.{side, Before, Grid}
 use Rattle.h264_plane.specs.declared.frame.Component.{Component}
-use Rattle.h264_plane.specs.declared.frame.Component.TheVariants.{Y, Cb, Cr}
 use Rattle.h264_plane.specs.declared.frame.Frame.{Frame}
 use Rattle.h264_deblock.specs.Edge.{edge_after, EdgePlace, edge_at}
 use Rattle.h264_deblock.specs.declared.edge_parameters.EdgeParameters.{EdgeParameters}
-use Rattle.h264_deblock.specs.declared.filtering.LumaEdges.{LumaEdges}
-use Rattle.h264_deblock.specs.declared.filtering.ChromaEdges.{ChromaEdges}
-use Rattle.h264_deblock.specs.declared.filtering.Edges.{Edges}
 
 -- ---- the edges of a macroblock
 
@@ -20,22 +16,6 @@ use Rattle.h264_deblock.specs.declared.filtering.Edges.{Edges}
 pub record PlaneEdges : Type 0 where
   pub vertical : List (Option EdgeParameters)
   pub horizontal : List (Option EdgeParameters)
-
-abbrev pub luma_edges : LumaEdges → PlaneEdges
-luma_edges e = record { vertical = e.vertical; horizontal = e.horizontal }
-
-abbrev pub chroma_edges : ChromaEdges → PlaneEdges
-chroma_edges e = record { vertical = e.vertical; horizontal = e.horizontal }
-
--- those of Cr are Cb's where none are given
-abbrev pub given_or : Option ChromaEdges → ChromaEdges → ChromaEdges
-given_or None e = e
-given_or (Some f) e = f
-
-abbrev pub edges_of : Edges → Component → PlaneEdges
-edges_of e Y = luma_edges e.y
-edges_of e Cb = chroma_edges e.cb
-edges_of e Cr = chroma_edges (given_or e.cr e.cb)
 
 -- samples after an edge that may be filtered
 unfoldable pub edge_or : Option EdgeParameters → Bool → Bool → EdgePlace → Grid → Grid
@@ -84,10 +64,6 @@ pub record AreInside (c r : ℕ) (e : PlaneEdges) : Type 0 where
 -- the edges of each macroblock of a picture of w by h, by its address, lie in it
 pub record Fits (w h : ℕ) (edges : ℕ → PlaneEdges) : Type 0 where
   pub each : (c r : ℕ) → c < w → r < h → AreInside c r (edges (r * w + c))
-
--- of the edges of a picture's macroblocks by plane and address, those of the macroblock at column c and row r are e
-abbrev pub AreEdges : ℕ → (Component → ℕ → PlaneEdges) → Edges → ℕ → ℕ → Type 0
-AreEdges across all e c r = (p : Component) → all p (r * across + c) ≡ edges_of e p
 
 -- a frame of so many macroblocks across and down
 abbrev pub IsOf : ℕ → ℕ → Frame → Type 0

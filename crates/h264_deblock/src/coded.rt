@@ -1,50 +1,26 @@
 //! The edges of a macroblock of the coded picture (8.7).
 #![tactic(auto)]
 
-ghost use Rattle.std.specs.Prelude.{◌≡◌, ℕ, ◌+◌, ◌*◌, ◌<◌, ◌≤◌, ◌%◌, ◌==◌, Bool, true, false, IsTrue, List, [], ◌∷◌, length, get_or, Option, Some};
-ghost use Rattle.std.specs.Prelude.{None, is_some};
-ghost use Rattle.h264_tables.specs.ChromaQp.{clip_51};
+ghost use Rattle.std.specs.Prelude.{◌≡◌, ℕ, ◌+◌, ◌*◌, ◌<◌, ◌≤◌, true, IsTrue, List, length, Option, Some, None, is_some};
 ghost use Rattle.h264_plane.specs.declared.frame.Component.{Component};
 ghost use Rattle.h264_plane.specs.Frames.{plane_of, is_chroma};
 ghost use Rattle.h264_plane.specs.Places.{side};
 ghost use Rattle.h264_plane.specs.Samples.{at, ShowsSamples, IsSized};
-ghost use Rattle.h264_near.specs.Raster.{last_in, last_left};
 ghost use Rattle.h264_near.specs.Coded.{CodedMacroblock};
 ghost use Rattle.h264_near.specs.Keeps.{Keeps, AreContexts, IsEdge};
-ghost use Rattle.h264_deblock.specs.Filtering.{edges_of, edges_done, AreInside};
+ghost use Rattle.h264_deblock.specs.Filtering.{edges_done};
 ghost use Rattle.h264_deblock.specs.declared.slice_filter.SliceFilter.{SliceFilter as Filter};
-ghost use Rattle.h264_deblock.specs.CodedEdges.{filters, coded_edges as edges_of_coded};
-ghost use Rattle.h264_deblock.specs.Steps.{LiesAlong, IsEven, side_qp, parameters, border_of, border_edge, inner_edge, IsStill, MovesBy};
-ghost use Rattle.h264_deblock.specs.Words.{names, named_border, IsWord};
+ghost use Rattle.h264_deblock.specs.CodedEdges.{coded_edges};
+ghost use Rattle.h264_deblock.specs.Steps.{LiesAlong, IsEven, border_of, IsStill, MovesBy};
+ghost use Rattle.h264_deblock.specs.Words.{named_border, IsWord};
 
 use crate::by_level::{Marks, filter_by};
-use crate::edge_parameters::{BoundaryStrength, EdgeParameters};
-use crate::filtering::{ChromaEdges, Edges, LumaEdges, NO_EDGES};
-use crate::named::{Word, is_zero, names};
-use crate::plane_level::{Border, qp_in};
+use crate::named::is_zero;
+use crate::plane_level::Border;
 use crate::slice_filter::{Deblocking, SliceFilter, is_filtered};
 use crate::strengths::{border_strengths, inner_strengths, is_even, is_uniform};
 use h264_near::{Contexts, Edge, Near, Partition};
 use h264_plane::Frame;
-use h264_tables::chroma_qp;
-
-#[inline]
-fn parameters(
-    qp_p: u8,
-    qp_q: u8,
-    filter: SliceFilter,
-    strengths: [BoundaryStrength; 4],
-) -> EdgeParameters
-    ensures { result ≡ parameters qp_p qp_q filter strengths }
-{
-    EdgeParameters {
-        qp_p,
-        qp_q,
-        filter_offset_a: filter.filter_offset_a,
-        filter_offset_b: filter.filter_offset_b,
-        strengths,
-    }
-}
 
 /// The edge between a macroblock and the one beside it, if it is filtered; `place` is the column of the macroblock, or its row, and
 /// `even` says that nothing tells the blocks of the macroblock apart.
@@ -79,75 +55,6 @@ fn border_of(
     }
 }
 
-/// That edge in a plane, by the quantisation parameter of the macroblock there.
-#[inline]
-fn border_edge(
-    border: &Option<Border>,
-    chroma: bool,
-    qp: u8,
-    filter: SliceFilter,
-) -> Option<EdgeParameters>
-    ensures { result ≡ border_edge chroma qp filter (named_border border.now) }
-{
-    match border {
-        None => None,
-        Some(border) => Some(parameters(
-            qp_in(chroma, border.qp, filter),
-            qp,
-            filter,
-            names(&border.strengths),
-        )),
-    }
-}
-
-/// An inner edge, which every slice has filtered that has any edge filtered.
-#[inline]
-fn inner_edge(
-    strengths: [BoundaryStrength; 4],
-    qp: u8,
-    filter: SliceFilter,
-) -> Option<EdgeParameters>
-    requires { filters filter.deblocking true ≡ true }
-    ensures { result ≡ inner_edge qp filter strengths }
-{
-    Some(parameters(qp, qp, filter, strengths))
-}
-
-/// The luma edges of one direction.
-fn luma_along(
-    border: &Option<Border>,
-    inner: &[Word; 3],
-    qp: u8,
-    filter: SliceFilter,
-) -> [Option<EdgeParameters>; 4]
-    requires { filters filter.deblocking true ≡ true }
-    ensures { result ≡ border_edge false qp filter (named_border border.now) ∷ inner_edge qp filter (names (get_or inner.now 0 [])) ∷
-        inner_edge qp filter (names (get_or inner.now 1 [])) ∷ inner_edge qp filter (names (get_or inner.now 2 [])) ∷ [] }
-{
-    [
-        border_edge(border, false, qp, filter),
-        inner_edge(names(&inner[0]), qp, filter),
-        inner_edge(names(&inner[1]), qp, filter),
-        inner_edge(names(&inner[2]), qp, filter),
-    ]
-}
-
-/// And those of a chroma plane: the first one and the one in the middle.
-fn chroma_along(
-    border: &Option<Border>,
-    inner: &[Word; 3],
-    qp: u8,
-    filter: SliceFilter,
-) -> [Option<EdgeParameters>; 2]
-    requires { filters filter.deblocking true ≡ true }
-    ensures { result ≡ border_edge true qp filter (named_border border.now) ∷ inner_edge qp filter (names (get_or inner.now 1 [])) ∷ [] }
-{
-    [
-        border_edge(border, true, qp, filter),
-        inner_edge(names(&inner[1]), qp, filter),
-    ]
-}
-
 /// Whether an edge is not filtered, or has no bS but 0: no sample changes by it.
 #[inline]
 pub(crate) fn is_still(border: &Option<Border>) -> bool
@@ -157,61 +64,6 @@ pub(crate) fn is_still(border: &Option<Border>) -> bool
         None => true,
         Some(border) => is_zero(&border.strengths),
     }
-}
-
-/// The edges of a macroblock, by those to the macroblocks beside it.
-fn edges_by(
-    left: &Option<Border>,
-    above: &Option<Border>,
-    own: &Contexts,
-    filter: &SliceFilter,
-) -> Edges
-    requires filtered { filters filter.now.deblocking true ≡ true }
-    ensures inside { (column row : ℕ) → (IsTrue (is_some left.now) → 0 < column) → (IsTrue (is_some above.now) → 0 < row) → (p : Component) →
-        AreInside column row (edges_of result p) }
-    ensures edges { (slices : ℕ → Filter) (width : ℕ) (picture : List CodedMacroblock) (coded : CodedMacroblock) → AreContexts own.now coded →
-        slices coded.slice ≡ filter.now → ((n : ℕ) → (slices n).chroma_qp_index_offset ≡ filter.now.chroma_qp_index_offset) →
-        named_border left.now ≡ border_of filter.now true (last_left width picture) coded →
-        named_border above.now ≡ border_of filter.now false (last_in width picture (length picture % width)) coded → (p : Component) →
-        edges_of result p ≡ edges_of_coded slices width picture coded p }
-{
-    let inner = inner_strengths(own, &None, false);
-    let qp = qp_in(true, own.qp, *filter);
-    Edges {
-        y: LumaEdges {
-            vertical: luma_along(left, &inner.vertical, own.qp, *filter),
-            horizontal: luma_along(above, &inner.horizontal, own.qp, *filter),
-        },
-        cb: ChromaEdges {
-            vertical: chroma_along(left, &inner.vertical, qp, *filter),
-            horizontal: chroma_along(above, &inner.horizontal, qp, *filter),
-        },
-        cr: None,
-    }
-}
-
-/// The edges of the macroblock after those that `near` keeps, at this column and row of macroblocks, by its slice's filter (8.7): bS by intra
-/// prediction, coefficients, reference pictures and vectors on both sides; no edge at the picture's border, and those to other slices or none as
-/// disable_deblocking_filter_idc says.
-pub fn coded_edges(
-    near: &Near,
-    own: &Contexts,
-    filter: &SliceFilter,
-    column: usize,
-    row: usize,
-) -> Edges
-    ensures inside { (p : Component) → AreInside column row (edges_of result p) }
-    ensures edges { (slices : ℕ → Filter) (width : ℕ) (picture : List CodedMacroblock) (coded : CodedMacroblock) → Keeps width picture near.now →
-        AreContexts own.now coded → length picture ≡ row * width + column → column < width → slices coded.slice ≡ filter.now →
-        ((n : ℕ) → (slices n).chroma_qp_index_offset ≡ filter.now.chroma_qp_index_offset) → (p : Component) →
-        edges_of result p ≡ edges_of_coded slices width picture coded p }
-{
-    if let Deblocking::Off = filter.deblocking {
-        return NO_EDGES;
-    }
-    let left = border_of(near.left_edge(), own, false, true, filter, column);
-    let above = border_of(near.above_edge(), own, false, false, filter, row);
-    edges_by(&left, &above, own, filter)
 }
 
 /// A macroblock of the coded picture whose edges are to be filtered.
@@ -226,8 +78,8 @@ pub struct Coded<'a> {
     pub filter: &'a SliceFilter,
 }
 
-/// Filters the edges of a macroblock of the coded picture, which stands at this column and row of macroblocks (8.7), in place and in the order of `macroblock`:
-/// the edges are those of `coded_edges`. Where nothing tells its blocks from one another and from those beside it, that look is all that it costs.
+/// Filters the edges of a macroblock of the coded picture, which stands at this column and row of macroblocks (8.7), in place: in each plane the vertical ones
+/// from left to right, and then the horizontal ones from top to bottom. A uniform macroblock beside macroblocks like it returns after a few tests.
 pub fn filter_coded(frame: &mut Frame, coded: &Coded<'_>, column: usize, row: usize)
     requires y { (16 * column + 16 ≤ frame.old.y.width) × (16 * row + 16 ≤ frame.old.y.height) }
     requires cb { (8 * column + 8 ≤ frame.old.cb.width) × (8 * row + 8 ≤ frame.old.cb.height) }
@@ -239,7 +91,7 @@ pub fn filter_coded(frame: &mut Frame, coded: &Coded<'_>, column: usize, row: us
         AreContexts coded.now.own.now q → length picture ≡ row * width + column → column < width →
         slices q.slice ≡ coded.now.filter.now → ((n : ℕ) → (slices n).chroma_qp_index_offset ≡ coded.now.filter.now.chroma_qp_index_offset) →
         (p : Component) → ShowsSamples (plane_of p frame.old) (plane_of p frame.new)
-        (edges_done (side p) (is_chroma p) (edges_of_coded slices width picture q p) column row (at (plane_of p frame.old))) }
+        (edges_done (side p) (is_chroma p) (coded_edges slices width picture q p) column row (at (plane_of p frame.old))) }
 {
     let (own, filter) = (coded.own, coded.filter);
     if let Deblocking::Off = filter.deblocking {

@@ -9,10 +9,10 @@ ghost use Rattle.h264_deblock.specs.Inner.{limits_at};
 ghost use Rattle.h264_deblock.specs.Rows.{line_of, sign, filter_by, IsFiltered, side_by, side_of};
 
 use crate::lanes::{
-    above, all, are_zero, average, average_down, chosen, eighth, either, fourth, greatest, least,
-    near, outer_eighth, plus, three, topped,
+    above, all, are_zero, average, average_down, chosen, eighth, fourth, greatest, least, near,
+    outer_eighth, plus, three, topped,
 };
-use crate::limits::{LineLimits, Mix, OFF, STRONG};
+use crate::limits::{LineLimits, Mix, OFF};
 use crate::line::{below_four, moved, shifts_by, weak, within};
 use crate::rows::Rows;
 use std::simd::prelude::*;
@@ -118,25 +118,6 @@ fn strong(r: &Rows, k: &LineLimits) -> Rows
     }
 }
 
-/// The lines of an edge some of whose bS are 4 and others not.
-#[inline(never)]
-fn mixed(r: &Rows, k: &LineLimits) -> Rows
-    ensures { IsFiltered r.now result (limits_at k.now) }
-{
-    let four = near(u8x16::from_array(k.numbers), all(STRONG), 1);
-    let (a, b) = (strong(r, k), normal(r, k));
-    Rows {
-        p3: r.p3,
-        p2: either(four, a.p2, b.p2),
-        p1: either(four, a.p1, b.p1),
-        p0: either(four, a.p0, b.p0),
-        q0: either(four, a.q0, b.q0),
-        q1: either(four, a.q1, b.q1),
-        q2: either(four, a.q2, b.q2),
-        q3: r.q3,
-    }
-}
-
 /// The lines of an edge of luma after its filter. Where each bS of the edge is 4, or none, they take the steps of one kind alone.
 #[inline(always)]
 pub fn filtered_rows(r: &Rows, k: &LineLimits, mix: Mix) -> Rows
@@ -146,7 +127,6 @@ pub fn filtered_rows(r: &Rows, k: &LineLimits, mix: Mix) -> Rows
     match mix {
         Mix::NoFour => normal(r, k),
         Mix::AllFour => strong(r, k),
-        Mix::SomeFour => mixed(r, k),
     }
 }
 

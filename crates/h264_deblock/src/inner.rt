@@ -7,8 +7,8 @@ ghost use Rattle.h264_deblock.specs.Rows.{filter_by};
 ghost use Rattle.h264_deblock.specs.Inner.{inner_of, limits_at, HasInner, SameInner, AreBeside, AreNearest, AreNearestWritten};
 
 use crate::columns::{columns_of, pair_in_turn};
-use crate::lanes::{all, chosen, either, joined, near, plus};
-use crate::limits::{LineLimits, Mix, STRONG};
+use crate::lanes::{all, chosen, joined, plus};
+use crate::limits::{LineLimits, Mix};
 use crate::line::{below_four, moved, shifts_by, weak, within};
 use h264_plane::{Plane, sixteen};
 use std::simd::prelude::*;
@@ -143,19 +143,6 @@ fn strong(r: &Inner, k: &LineLimits) -> Pairs
     }
 }
 
-/// The samples of an edge some of whose bS are 4 and others not.
-#[inline(never)]
-fn mixed(r: &Inner, k: &LineLimits) -> Pairs
-    ensures { AreBeside result (λ n. filtered_of true (limits_at k.now n) (inner_of r.now n)) }
-{
-    let four = near(u8x16::from_array(k.numbers), all(STRONG), 1);
-    let (a, b) = (strong(r, k), normal(r, k));
-    Pairs {
-        p0: either(four, a.p0, b.p0),
-        q0: either(four, a.q0, b.q0),
-    }
-}
-
 /// The samples after the filter of an edge. Where each of its bS is 4, or none, they take the steps of one kind alone.
 #[inline(always)]
 fn filtered(r: &Inner, k: &LineLimits, mix: Mix) -> Pairs
@@ -165,7 +152,6 @@ fn filtered(r: &Inner, k: &LineLimits, mix: Mix) -> Pairs
     match mix {
         Mix::NoFour => normal(r, k),
         Mix::AllFour => strong(r, k),
-        Mix::SomeFour => mixed(r, k),
     }
 }
 

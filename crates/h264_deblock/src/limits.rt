@@ -2,15 +2,14 @@ ghost use Rattle.std.specs.Prelude.{◌≡◌, ◌≢◌, ℕ, ◌<◌, ◌≤�
 ghost use Rattle.h264_deblock.specs.Edge.{filter_of, limits};
 ghost use Rattle.h264_deblock.specs.Rows.{any_filter};
 ghost use Rattle.h264_deblock.specs.Inner.{limits_at};
-ghost use Rattle.h264_deblock.specs.Limits.{AreAll, AreOther, IsIdle, Suits, quarter};
+ghost use Rattle.h264_deblock.specs.Limits.{IsIdle, Suits, quarter};
 ghost use Rattle.h264_deblock.specs.Steps.{parameters};
 ghost use Rattle.h264_deblock.specs.Words.{names, IsWord, IsLevel, AreBelow};
 ghost use Rattle.h264_deblock.specs.declared.edge_parameters.BoundaryStrength.{BoundaryStrength as Bs};
 ghost use Rattle.h264_deblock.specs.declared.edge_parameters.EdgeParameters.{EdgeParameters as Parameters};
 ghost use Rattle.h264_deblock.specs.declared.limits.Mix.TheVariants.{NoFour, AllFour};
-ghost use Rattle.h264_deblock.specs.declared.edge_parameters.BoundaryStrength.TheVariants.{Zero};
 
-use crate::edge_parameters::{BoundaryStrength, EdgeParameters, index};
+use crate::edge_parameters::{BoundaryStrength, index};
 use crate::named::{FOUR, Word};
 use crate::slice_filter::SliceFilter;
 use h264_tables::{Strength, alpha, beta, tc0};
@@ -40,36 +39,11 @@ pub struct Level {
     pub numbers: [u8; 4],
 }
 
-/// Which bS of an edge of luma are 4. A coded picture has all of them or none.
+/// Whether all bS of an edge are 4, or none of them: a coded picture has no others.
 #[derive(Clone, Copy)]
 pub enum Mix {
     NoFour,
     AllFour,
-    SomeFour,
-}
-
-/// Whether each bS is this one.
-#[inline(always)]
-pub fn are_all(strengths: &[BoundaryStrength; 4], strength: BoundaryStrength) -> bool
-    ensures all { result ≡ true → AreAll strength strengths.now }
-    ensures only { AreAll strength strengths.now → result ≡ true }
-{
-    strengths[0] == strength
-        && strengths[1] == strength
-        && strengths[2] == strength
-        && strengths[3] == strength
-}
-
-/// Whether no bS is this one.
-#[inline(always)]
-pub fn are_other(strengths: &[BoundaryStrength; 4], strength: BoundaryStrength) -> bool
-    ensures all { result ≡ true → AreOther strength strengths.now }
-    ensures only { AreOther strength strengths.now → result ≡ true }
-{
-    strengths[0] != strength
-        && strengths[1] != strength
-        && strengths[2] != strength
-        && strengths[3] != strength
 }
 
 /// A filter's number.
@@ -101,47 +75,6 @@ fn spread<const CHROMA: bool>(quarters: [u8; 4]) -> [u8; 16]
     quarters
         .swizzle([0, 0, 0, 0, 1, 1, 1, 1, 2, 2, 2, 2, 3, 3, 3, 3])
         .to_array()
-}
-
-/// The numbers of the filters of an edge's lines.
-#[inline(always)]
-fn numbers<const CHROMA: bool>(index_a: u8, strengths: &[BoundaryStrength; 4]) -> [u8; 16]
-    requires { index_a ≤ 51 }
-    ensures { (n : ℕ) → n < 16 → any_filter (slice_index result n) ≡ filter_of index_a (get_or strengths.now (quarter CHROMA n) Zero) }
-{
-    if are_all(strengths, strengths[0]) {
-        return [number(index_a, strengths[0]); 16];
-    }
-    spread::<CHROMA>([
-        number(index_a, strengths[0]),
-        number(index_a, strengths[1]),
-        number(index_a, strengths[2]),
-        number(index_a, strengths[3]),
-    ])
-}
-
-/// Whether alpha or beta of an edge is 0, so that none of its lines is filtered.
-#[inline(always)]
-pub fn is_idle(e: &EdgeParameters) -> bool
-    ensures idle { result ≡ true → IsIdle e.now }
-{
-    let by_a = index(e.qp_p, e.qp_q, e.filter_offset_a);
-    let by_b = index(e.qp_p, e.qp_q, e.filter_offset_b);
-    alpha(by_a) == 0 || beta(by_b) == 0
-}
-
-/// What the filter of an edge's lines depends on: of 16 lines of luma, or of 8 lines of each of two planes of chroma.
-#[inline(always)]
-pub fn limits_of<const CHROMA: bool>(e: &EdgeParameters) -> LineLimits
-    ensures { (n : ℕ) → n < 16 → limits_at result n ≡ limits e.now (quarter CHROMA n) }
-{
-    let by_a = index(e.qp_p, e.qp_q, e.filter_offset_a);
-    let by_b = index(e.qp_p, e.qp_q, e.filter_offset_b);
-    LineLimits {
-        alpha: alpha(by_a),
-        beta: beta(by_b),
-        numbers: numbers::<CHROMA>(by_a, &e.strengths),
-    }
 }
 
 /// What edges between two quantisation parameters, in a slice with this filter, have in common.
