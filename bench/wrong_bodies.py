@@ -1,5 +1,6 @@
 #!/usr/bin/env python3
-"""wrong_bodies.py [--jobs N] [--alone] [--part K/N] [FOLDER] [CRATE..]: tries the edits of wrong-bodies/CRATE/. Each has to be refused by the prover.
+"""wrong_bodies.py [--jobs N] [--alone] [--part K/N] [--stale REV] [FOLDER] [CRATE..]: tries the edits of wrong-bodies/CRATE/. Each has to be
+refused by the prover.
 
 Edits of functions that do not call one another are tried together, in one check of a copy of the crate. An edit is refused there where the check does
 not prove a function that the edit changes, and says so of that function itself: not because of one that it calls. Where that check does not tell, or
@@ -9,6 +10,10 @@ runs share a large crate. Standard error is told of each batch when it is done.
 FOLDER is a folder with the repository's crates/ and what checks left in their out/, such as KEEP=1 ./install.sh leaves in FOLDER/work; the
 repository itself where it is left out. With no CRATE it tries the edits of every crate that has some. It prints a line for each edit that is not refused,
 or only for a name in a proof or by a limit of the prover, and a count for each crate. Status 1 where an edit was not refused.
+
+With --stale REV nothing is proved. It names the edits that cannot be applied to the files as they are, since an old text does not stand there once, and
+those to be tried again, since something changed after REV: the edit, a function that it turns with its contract, or a file of the crate's specs/ that the
+function's file cites, also through others of that crate. Definitions of lower crates are not looked at. Status 1 where an edit cannot be applied.
 """
 import argparse
 import os
@@ -66,13 +71,18 @@ class Sources:
                 called.setdefault(name, set()).update(CALLED.findall("\n".join(lines[first:last])))
         self.called = {name: within(called, name) for name in called}
 
-    def function_at(self, file, old):
-        """The one function in which a text stands. None where there is none, or the text does not stand there once."""
+    def span_at(self, file, old):
+        """The lines and the name of the one function in which a text stands. None where there is none, or the text does not stand there once."""
         text = self.texts.get(file, "")
         if not old or text.count(old) != 1:
             return None
         line = text.count("\n", 0, text.index(old)) + 1
-        return next(((file, name) for first, last, name in self.spans[file] if first <= line <= last), None)
+        return next(((first, last, name) for first, last, name in self.spans[file] if first <= line <= last), None)
+
+    def function_at(self, file, old):
+        """The function in which a text stands so."""
+        span = self.span_at(file, old)
+        return span and (file, span[2])
 
 
 def spans_of(text):
@@ -251,11 +261,87 @@ def tried(folder, crate, asked):
     return len(edits), len(refused), len(named)
 
 
+class Change:
+    """What changed in the repository since a revision."""
+
+    def __init__(self, revision):
+        self.revision, self.kept = revision, {}
+        if self.said("rev-parse", "--verify", "--quiet", f"{revision}^{{commit}}") == "":
+            sys.exit(f"no such revision: {revision}")
+        self.files = set((self.said("diff", "--name-only", revision) + self.said("ls-files", "--others", "--exclude-standard")).split())
+
+    def said(self, *words):
+        """What git says."""
+        return subprocess.run(["git", *words], cwd=TOP, stdout=subprocess.PIPE, stderr=subprocess.DEVNULL, text=True).stdout
+
+    def functions_of(self, path):
+        """The texts of the functions that a file had."""
+        if path not in self.kept:
+            text = self.said("show", f"{self.revision}:{path}")
+            lines = text.split("\n")
+            self.kept[path] = {"\n".join(lines[first - 1 : last]) for first, last, _ in spans_of(text)}
+        return self.kept[path]
+
+
+def cited_by(text, crate):
+    """The files of a crate's specs/ that a text cites, also through others of them."""
+    seen, left = set(), [text]
+    while left:
+        for name in re.findall(rf"\bRattle\.{crate}\.specs\.(\w+)", left.pop()):
+            path = TOP / "crates" / crate / "specs" / f"{name}.antt"
+            if path not in seen and path.is_file():
+                seen.add(path)
+                left.append(path.read_text())
+    return {str(it.relative_to(TOP)) for it in seen}
+
+
+def why_not_applied(edit, sources):
+    """Why an edit cannot be applied; nothing where it can. A text may stand in what the edit's texts before it made."""
+    texts = dict(sources.texts)
+    for file, old, new in edit.pairs:
+        count = texts.get(file, "").count(old) if old else 0
+        if count != 1:
+            return f"a text stands {count} times in {file}: {(old or '').strip()[:80]}"
+        texts[file] = texts[file].replace(old, new)
+    return "" if edit.pairs else "it has no texts"
+
+
+def why_again(edit, crate, sources, change):
+    """Why an edit has to be tried again; nothing where it need not."""
+    if str(edit.path.relative_to(TOP)) in change.files:
+        return "the edit is new"
+    for file, old, _ in edit.pairs:
+        path, span = f"crates/{crate}/{file}", sources.span_at(file, old)
+        if path in change.files and span is None:
+            return f"{file} changed"
+        if path in change.files and "\n".join(sources.texts[file].split("\n")[span[0] - 1 : span[1]]) not in change.functions_of(path):
+            return f"fn {span[2]} changed"
+    cited = set().union(*(cited_by(sources.texts[file], crate) for file, _, _ in edit.pairs))
+    return next((f"{it} changed" for it in sorted(cited & change.files)), "")
+
+
+def stale(crates, revision):
+    """Names the edits that cannot be applied, and those to be tried again; gives how many cannot."""
+    change, count, broken, again = Change(revision), 0, 0, 0
+    for crate in crates:
+        sources = Sources(TOP / "crates" / crate)
+        for path in sorted((TOP / "wrong-bodies" / crate).glob("*.edit")):
+            edit = Edit(path, sources)
+            fault = why_not_applied(edit, sources)
+            why = "" if fault else why_again(edit, crate, sources, change)
+            if fault or why:
+                print(f"{crate}/{edit.name}: {f'cannot be applied: {fault}' if fault else f'to be tried again: {why}'}")
+            count, broken, again = count + 1, broken + bool(fault), again + bool(why)
+    print(f"{count} edits: {broken} cannot be applied, {again} are to be tried again")
+    return broken
+
+
 def main():
     words = argparse.ArgumentParser(description=__doc__, formatter_class=argparse.RawDescriptionHelpFormatter)
     words.add_argument("--jobs", default="1", help="how many functions a check proves at once")
     words.add_argument("--alone", action="store_true", help="each edit in a check of its own")
     words.add_argument("--part", default="1/1", metavar="K/N", help="the K-th of N parts of each crate's edits")
+    words.add_argument("--stale", metavar="REV", help="proves nothing, and names the edits that a change since REV made stale")
     words.add_argument("names", nargs="*", metavar="FOLDER or CRATE")
     asked = words.parse_args()
     folders = [it for it in asked.names if os.path.isdir(f"{it}/crates")]
@@ -266,6 +352,8 @@ def main():
     unknown = [it for it in crates if not (TOP / "wrong-bodies" / it).is_dir() or not (folder / "crates" / it).is_dir()]
     if unknown:
         sys.exit(f"no crate with wrong bodies: {unknown[0]}")
+    if asked.stale:
+        sys.exit(stale(crates, asked.stale) != 0)
     counts = [tried(folder, it, asked) for it in crates]
     edits, refused, named = (sum(it) for it in zip(*counts))
     print(f"{edits} tried, {refused} refused ({named} of them only for a name in a proof), {edits - refused} not")
