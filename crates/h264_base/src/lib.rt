@@ -1,5 +1,6 @@
 //! What all other crates of the decoder speak of: the rules that a stream can break, the features that are not judged,
-//! the stops that both lead to, the names of the syntax elements, the weights of prediction, and the calls that a sink takes.
+//! the stops that both lead to, what is counted of a legal stream, the names of the syntax elements, the weights of prediction, and the calls
+//! that a sink takes.
 //!
 //! `specs/` has the language in which each syntax structure of H.264 (clause 7.3, Annex E) is written down once, as a
 //! grammar, with what it means that the bits of a unit derive in it, break a rule of it, or reach a feature.
@@ -13,8 +14,7 @@ pub mod laws;
 pub mod mode;
 pub mod rule;
 pub mod stop;
-#[cfg(test)]
-mod tests;
+pub mod summary;
 pub mod weight;
 
 pub use element_name::ElementName;
@@ -22,4 +22,5 @@ pub use elements::{Elements, Failed};
 pub use mode::{Mode, SliceType, Target};
 pub use rule::Rule;
 pub use stop::{Feature, Stop};
+pub use summary::Summary;
 pub use weight::{Weight, Weights};

@@ -6,3 +6,4 @@ pub mod Seen
 pub mod Supports
 pub mod Forms
 pub mod Stretch
+pub mod Counts

@@ -9,15 +9,15 @@
 
 pub mod bits;
 mod codes;
+pub mod count;
 pub mod element;
 pub mod forms;
 pub mod laws;
 mod stretch;
-#[cfg(test)]
-mod tests;
 mod window;
 
 pub use bits::{Bits, NoWord};
+pub use count::count_of;
 pub use element::{
     Ahead, Found, SeenWord, check, look, read_align, read_bits, read_bytes, read_entry,
     read_entry_if, read_flag, read_held_entry, read_residual_bits, read_se, read_te, read_trailing,

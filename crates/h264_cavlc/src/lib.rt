@@ -10,8 +10,6 @@
 mod level;
 pub mod residual;
 mod runs;
-#[cfg(test)]
-mod tests;
 mod token;
 mod token_words;
 mod totals;

@@ -15,6 +15,7 @@ mod bumping;
 mod ended;
 mod entry;
 mod format;
+pub mod frame_sink;
 pub mod laws;
 mod output;
 mod places;
@@ -24,8 +25,6 @@ pub use buffer::Buffer;
 pub use ended::{Ended, ended_of};
 pub use entry::{Entry, Kind, Picture, Placed, Rectangle};
 pub use format::rectangle_of;
+pub use frame_sink::FrameSink;
 pub use output::Output;
 pub use sink::FrameOut;
-
-#[cfg(test)]
-mod tests;

@@ -8,8 +8,6 @@
 //! Rules that look at other slices or at held pictures are not judged here.
 #![tactic(auto)]
 
-#[cfg(test)]
-mod cases;
 pub mod header;
 pub mod laws;
 mod layout;
@@ -18,8 +16,6 @@ mod picture;
 mod read;
 mod ref_list;
 mod same;
-#[cfg(test)]
-mod tests;
 mod weights;
 
 pub use header::{

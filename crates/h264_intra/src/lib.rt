@@ -16,6 +16,3 @@ pub use chroma::{IntraChromaPredMode, NeighboursChroma, predict_chroma};
 pub use luma4::{Intra4x4PredMode, Neighbours4, predict4};
 pub use luma16::{Intra16x16PredMode, Neighbours16, predict16};
 pub use sides::{Sides, Sides4};
-
-#[cfg(test)]
-mod tests;

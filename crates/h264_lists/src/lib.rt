@@ -11,8 +11,6 @@ pub mod laws;
 mod list;
 mod modified;
 pub mod slot;
-#[cfg(test)]
-mod tests;
 
 pub use list::build;
 pub use slot::RefSlot;

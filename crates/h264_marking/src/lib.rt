@@ -15,8 +15,6 @@ pub mod laws;
 mod numbers;
 mod operations;
 mod steady;
-#[cfg(test)]
-mod tests;
 mod window;
 
 pub use ending::{is_window, mark_end, numbering_of, resets};

@@ -11,8 +11,6 @@ pub mod macroblock;
 pub mod residual;
 pub mod skip;
 pub mod slice;
-#[cfg(test)]
-mod tests;
 
 pub use macroblock::{Kind, Macroblock, read_macroblock};
 pub use residual::Residual;

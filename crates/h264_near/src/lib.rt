@@ -13,8 +13,6 @@ pub mod motion;
 pub mod near;
 pub mod partition;
 pub mod skipped;
-#[cfg(test)]
-mod tests;
 
 pub use context::{Contexts, Edge};
 pub use motion::{Motion, Vector};

@@ -19,6 +19,3 @@ pub use frame_store::FrameStore;
 pub use plane::{MAX_SIDE, Plane, put_row, put_rows};
 pub use pool::Pool;
 pub use vectors::{beside, eight, narrow, sixteen, widened};
-
-#[cfg(test)]
-mod tests;

@@ -13,8 +13,6 @@ mod lsb;
 pub mod picture;
 mod slice;
 mod step;
-#[cfg(test)]
-mod tests;
 mod within;
 
 pub use counts::Counts;

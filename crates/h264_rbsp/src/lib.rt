@@ -12,8 +12,6 @@ pub mod emulation;
 pub mod laws;
 pub mod rbsp;
 mod scan;
-#[cfg(test)]
-mod tests;
 mod unescape;
 
 pub use emulation::check_emulation;

@@ -34,6 +34,3 @@ pub use macroblock::{
 pub use scaled::ReadLevels;
 pub use store::{Lines, Samples, Store};
 pub use weights::SliceWeights;
-
-#[cfg(test)]
-mod tests;

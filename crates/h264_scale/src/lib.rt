@@ -18,6 +18,3 @@ pub use dc::{dc2, dc16};
 pub use levels::{ChromaLevels, ChromaWithDc, Levels, LumaLevels, LumaWithDc};
 pub use residual::{residual4, residual4_of_dc, residual4_with_dc};
 pub use transform::TransformRange;
-
-#[cfg(test)]
-mod tests;

@@ -15,9 +15,6 @@ ghost use Rattle.h264_base.specs.declared.rule.Rule.TheVariants.{NoSet, SetChang
 ghost use Rattle.h264_base.specs.declared.stop.Stop.TheVariants.{No};
 ghost use Rattle.h264_sets.specs.declared.SetPair.{SetPair};
 
-#[cfg(test)]
-mod tests;
-
 use h264_base::{Rule, Stop};
 use h264_pps::Pps;
 use h264_sps::sps::Sps;

@@ -30,8 +30,6 @@ mod level_prefix;
 pub mod quantisation;
 mod run_before;
 pub mod table;
-#[cfg(test)]
-mod tests;
 pub mod thresholds;
 mod total_zeros;
 

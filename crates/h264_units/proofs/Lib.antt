@@ -4,3 +4,4 @@ pub mod Longest
 pub mod Scans
 pub mod Plans
 pub mod Taking
+pub mod UnitNumbers

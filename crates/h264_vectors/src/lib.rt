@@ -12,8 +12,6 @@ pub mod part;
 pub mod predicted;
 pub mod range;
 pub mod slice;
-#[cfg(test)]
-mod tests;
 
 pub use derived::derive;
 pub use inter::read_motions;

@@ -11,8 +11,6 @@ pub mod escape;
 mod pack;
 mod rows;
 mod spell;
-#[cfg(test)]
-mod tests;
 pub mod writer;
 
 pub use escape::unit;

@@ -1,7 +1,0 @@
-use Rattle.std.proofs.Common.{arith}
-use Rattle.h264_dpb.specs.Bumping.{marked}
-use Rattle.h264_dpb.proofs.tests.gap.Goals as goal
-
-pub store-requires-clause-few : goal.store-requires-clause-few
-unfolding marked
-store-requires-clause-few g c = rw c.in_ok-flush.ensures.emptied (omega arith, omega arith)

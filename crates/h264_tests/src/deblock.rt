@@ -1,0 +1,66 @@
+use crate::macroblocks::{INTRA, motion};
+use h264_deblock::{Coded, CodedSkip, Deblocking, SliceFilter, filter_coded, filter_skipped};
+use h264_near::{Near, Skipped};
+use h264_plane::{Component, Frame};
+use std::alloc::{AllocError, Global};
+
+const ALL_EDGES: SliceFilter = SliceFilter {
+    deblocking: Deblocking::AllEdges,
+    filter_offset_a: 0,
+    filter_offset_b: 0,
+    chroma_qp_index_offset: 0,
+};
+
+/// The first frame of a stream that public decoders agree on, before the filter: luma is 128 in the left macroblock and 131 in the right one.
+fn two_macroblocks(alloc: Global) -> Result<Frame, AllocError> {
+    let mut frame = Frame::new(alloc, 32, 16)?;
+    frame.put_block::<16, 16>(Component::Y, 0, 0, &[128; 256]);
+    frame.put_block::<16, 16>(Component::Y, 16, 0, &[131; 256]);
+    frame.put_block::<8, 8>(Component::Cb, 0, 0, &[100; 64]);
+    frame.put_block::<8, 8>(Component::Cb, 8, 0, &[103; 64]);
+    Ok(frame)
+}
+
+/// That frame with its right macroblock filtered, as one that is coded or as one that is skipped.
+fn filtered(alloc: Global, near: &Near, is_coded: bool) -> Result<Frame, AllocError> {
+    let mut frame = two_macroblocks(alloc)?;
+    let (own, filter) = (&INTRA, &ALL_EDGES);
+    if is_coded {
+        let coded = Coded {
+            near,
+            own,
+            partition: None,
+            filter,
+        };
+        filter_coded(&mut frame, &coded, 1, 0);
+        return Ok(frame);
+    }
+    let own = &Skipped {
+        slice: 0,
+        qp: 26,
+        motion: motion(0, 7, 0, 0),
+    };
+    filter_skipped(&mut frame, &CodedSkip { near, own, filter }, 1, 0);
+    Ok(frame)
+}
+
+/// The edge at 16 has bS 4, beside an intra macroblock. Of an intra macroblock the edge at 20 has bS 3, and changes what the edge at 16 wrote; of a skipped one
+/// it has bS 0. In Cb p0 is (200 + 100 + 103 + 2) >> 2 and q0 is (206 + 103 + 100 + 2) >> 2.
+#[test]
+fn filters_a_macroblock(rt: HostRuntime) -> Result<(), AllocError> {
+    let mut near = Near::new(rt.alloc(), 2)?;
+    near.push(&INTRA);
+    for (is_coded, third) in [(true, 130), (false, 131)] {
+        let frame = filtered(rt.alloc(), &near, is_coded)?;
+        assert_eq!(rt; (frame.y.width(), frame.y.height()), (32, 16));
+        let row = frame.y.row(15);
+        assert_eq!(rt; row.len(), 32);
+        assert_eq!(rt; &row[..14], [128; 14].as_slice());
+        assert_eq!(rt; &row[14..19], [129, 129, 130, 130, third].as_slice());
+        assert_eq!(rt; &row[19..], [131; 13].as_slice());
+        assert_eq!(rt; frame.cb.width(), 16);
+        assert_eq!(rt; frame.cb.height(), 8);
+        assert_eq!(rt; &frame.cb.row(7)[6..10], [100, 101, 102, 103].as_slice());
+    }
+    Ok(())
+}
