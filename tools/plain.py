@@ -154,7 +154,6 @@ def converted(name, text):
         (r"vec!\[in \w+(?:\.\w+)*; ([^;\]]*); ([^\]]*)\]", r"crate::rt::filled(\1, \2)"),
         (r"(?<![\w:])crate::(?!rt\b)", "crate::h264_%s::" % name),
         (r"(?<![\w:])(h264_(?:%s))::" % crates, r"crate::\1::"),
-        (r"#\[cfg\(test\)\]\s*mod tests;", ""),
         (r"fn fmt<W: fmt::Write>\(&self, f: &mut fmt::Formatter<W>\)", "fn fmt(&self, f: &mut fmt::Formatter)"),
         (r"\n\s*\n+", "\n\n"),
     ):
@@ -175,7 +174,7 @@ def main():
     for name in CRATES:
         sources = f"{top}/crates/h264_{name}/src"
         for file in sorted(os.listdir(sources)):
-            if file.endswith(".rt") and file != "tests.rt":
+            if file.endswith(".rt"):
                 module = "mod" if file == "lib.rt" else file[:-len(".rt")]
                 write(f"{out}/src/h264_{name}/{module}.rs", converted(name, open(f"{sources}/{file}").read()))
     write(f"{out}/src/rt.rs", open(f"{HERE}/plain_rt.rs").read())

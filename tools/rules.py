@@ -1,5 +1,5 @@
 #!/usr/bin/env python3
-"""Writes the entries of docs/RULES.md from the tables of h264_report, which the program prints too (`h264v explain LABEL`).
+"""Writes the entries of docs/RULES.md from the tables of h264_pages and h264_strict, which the program prints too (`h264v explain LABEL`).
 
     tools/rules.py            writes them
     tools/rules.py --check    says whether they are up to date, and whether docs/EXAMPLES.md has the example of each further rule; status 1 where not
@@ -9,10 +9,10 @@ import re
 import sys
 
 TOP = os.path.dirname(os.path.dirname(os.path.abspath(__file__)))
-SOURCE = f"{TOP}/crates/h264_report/src/rules.rt"
+SOURCE = f"{TOP}/crates/h264_pages/src/rules.rt"
 CLAUSES = f"{TOP}/crates/h264_base/specs/Rule.antt"
-FURTHER_SOURCE = f"{TOP}/crates/h264_report/src/strict_entries.rt"
-FURTHER_CLAUSES = f"{TOP}/crates/h264_report/specs/StrictRules.antt"
+FURTHER_SOURCE = f"{TOP}/crates/h264_strict/src/strict_entries.rt"
+FURTHER_CLAUSES = f"{TOP}/crates/h264_strict/specs/StrictRules.antt"
 PAGE = f"{TOP}/docs/RULES.md"
 EXAMPLES = f"{TOP}/docs/EXAMPLES.md"
 BEGIN, END = "<!-- entries, by tools/rules.py -->\n", "<!-- end of entries -->\n"

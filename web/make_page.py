@@ -19,7 +19,7 @@ def texts(source, kind, fields):
 
 def rules(top):
     """What is said of each rule and each feature, by its label."""
-    with open(os.path.join(top, "crates", "h264_report", "src", "rules.rt")) as file:
+    with open(os.path.join(top, "crates", "h264_pages", "src", "rules.rt")) as file:
         source = file.read()
     told = {label: [breaks, cause] for label, breaks, _, cause in texts(source, "RuleEntry", ["breaks", "bit", "cause"])}
     told.update({label: [stands, advice] for label, stands, _, advice in texts(source, "FeatureEntry", ["stands", "bit", "advice"])})

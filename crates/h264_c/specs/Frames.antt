@@ -2,7 +2,7 @@
 use Rattle.std.specs.Prelude.{◌≡◌, ◌<◌, ◌^◌, length}
 use Rattle.std.specs.Vec.{vec_ptr}
 use Rattle.h264_c.specs.declared.frame.CFrame.{CFrame}
-use Rattle.h264_report.specs.declared.queue.ShownFrame.{ShownFrame}
+use Rattle.h264_stream.specs.declared.queue.ShownFrame.{ShownFrame}
 
 -- The fields are those of this frame, whose samples they point to. A side has 32 bits, which hold those of every stream.
 pub record IsFrame (shown : ShownFrame) (frame : CFrame) : Type 0 where

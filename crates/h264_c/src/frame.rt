@@ -4,7 +4,7 @@
 ghost use Rattle.std.specs.Prelude.{◌≡◌, ◌<◌, ◌^◌};
 ghost use Rattle.h264_c.specs.Frames.{IsFrame};
 
-use h264_report::ShownFrame;
+use h264_stream::ShownFrame;
 
 /// A frame that is lent: `h264v_frame` of h264v.h.
 #[repr(C)]

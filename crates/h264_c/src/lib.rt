@@ -1,6 +1,6 @@
 //! The verifier and decoder for C, as include/h264v.h has it: a stream is sent in pieces, and its frames are received as they come.
 //!
-//! What a decoder does stands in `Decoder` of h264_report with its contract. The exports hand calls on: a `Handle` is the pointer that C holds, a
+//! What a decoder does stands in `Decoder` of h264_stream with its contract. The exports hand calls on: a `Handle` is the pointer that C holds, a
 //! `Stream` what it points to, and `CVerdict` and `CFrame` what C reads. A caller in C has to do what the header asks of it.
 #![tactic(auto)]
 
@@ -9,12 +9,12 @@ ghost use Rattle.h264_base.specs.declared.mode.Mode.{Mode};
 ghost use Rattle.h264_base.specs.declared.mode.Target.{Target};
 ghost use Rattle.h264_base.specs.declared.stop.Stop.{Stop};
 ghost use Rattle.h264_verify.specs.Units.{terms_of};
-ghost use Rattle.h264_verify.specs.declared.state.Summary.{Summary};
+ghost use Rattle.h264_base.specs.declared.summary.Summary.{Summary};
 ghost use Rattle.h264_verify.specs.declared.state.Terms.{Terms};
-ghost use Rattle.h264_report.specs.Given.{IsGiven, HasAnswered};
-ghost use Rattle.h264_report.specs.Written.{Account};
-ghost use Rattle.h264_report.specs.declared.decoder.Decoder.{Decoder};
-ghost use Rattle.h264_report.specs.declared.queue.ShownFrame.{ShownFrame};
+ghost use Rattle.h264_stream.specs.Given.{IsGiven, HasAnswered};
+ghost use Rattle.h264_verify.specs.Account.{Account};
+ghost use Rattle.h264_stream.specs.declared.decoder.Decoder.{Decoder};
+ghost use Rattle.h264_stream.specs.declared.queue.ShownFrame.{ShownFrame};
 ghost use Rattle.h264_c.specs.Frames.{IsFrame};
 ghost use Rattle.h264_c.specs.Numbers.{mode_by, target_by};
 ghost use Rattle.h264_c.specs.Verdicts.{IsVerdict};
@@ -26,7 +26,7 @@ mod verdict;
 
 use frame::CFrame;
 use h264_base::Stop;
-use h264_report::{Decoder, judge_bytes};
+use h264_stream::{Decoder, judge_bytes};
 use numbers::{mode_of, target_of};
 use std::alloc::Global;
 use stream::{Handle, Hidden, Stream};

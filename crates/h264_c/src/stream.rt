@@ -4,7 +4,7 @@ ghost use Rattle.h264_c.specs.declared.stream.Stream.{Stream};
 ghost use Rattle.std.specs.declared.alloc.Global.{Global};
 
 use crate::frame::{CFrame, frame_of};
-use h264_report::{Decoder, ShownFrame};
+use h264_stream::{Decoder, ShownFrame};
 use std::alloc::Global;
 use std::marker::Model;
 
@@ -17,7 +17,7 @@ pub struct Stream {
 
 impl Stream {
     ghost use Rattle.std.specs.Prelude.{List, ◌∷◌, IfSome, Some};
-    ghost use Rattle.h264_report.specs.declared.queue.ShownFrame.{ShownFrame};
+    ghost use Rattle.h264_stream.specs.declared.queue.ShownFrame.{ShownFrame};
     ghost use Rattle.h264_c.specs.Frames.{IsFrame};
 
     /// A stream of which no frame is lent.

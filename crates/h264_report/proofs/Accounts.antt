@@ -1,6 +1,5 @@
 -- What a sink took of a stream that was judged, and what its writer holds of it.
 use Rattle.std.proofs.Common.{⊎_elim, ◌≡◌, ℕ, Bool, true, false, List, [], ◌++◌, Option, None, Some, Result, Ok, Err, ◌⊎◌, inl, inr, refl, sym, ap, ◌∙◌, subst}
-use Rattle.std.proofs.lemmas.List.{append-nil}
 use Rattle.std.specs.Io.KnownBytes.{Keeps}
 use Rattle.circular_buffer.specs.Buffer.{keep_last}
 use Rattle.h264_base.specs.Call.{Call, span}
@@ -10,71 +9,26 @@ use Rattle.h264_base.specs.declared.stop.Stop.{Stop}
 use Rattle.h264_base.specs.declared.stop.Stop.TheVariants.{No, Outside, Memory, Read, Write}
 use Rattle.h264_plane.specs.Frames.{no_frame}
 use Rattle.h264_plane.specs.declared.frame.Frame.{Frame}
-use Rattle.h264_report.specs.Objects.{Opening, bare}
-use Rattle.h264_report.specs.Sent.{Sends, Takes, IsBlamed, LentWriter, lent, wrote}
-use Rattle.h264_report.specs.Told.{lines_of, bytes_of, elements_of, HoldsCalls, LineSinkState, TookLines, TookFrames}
-use Rattle.h264_report.specs.Written.{OfBytes, IsFront, Answers, Account, calls_in, told_of, Writes, last_line, Lists, is_no, trail_text, Checks, Decodes}
-use Rattle.h264_report.specs.Trail.{element_lines}
+use Rattle.h264_lines.specs.Objects.{Opening, bare}
+use Rattle.h264_lines.specs.Sent.{Sends, Takes, IsBlamed, LentWriter, lent, wrote}
+use Rattle.h264_lines.specs.Told.{lines_of, bytes_of, elements_of, HoldsCalls, LineSinkState, TookLines, TookFrames}
+use Rattle.h264_report.specs.Written.{OfBytes, Writes, last_line, Lists, is_no, trail_text, Checks, Decodes}
+use Rattle.h264_verify.specs.Account.{Account, calls_in}
+use Rattle.h264_lines.specs.Answer.{told_of}
+use Rattle.h264_lines.specs.Trail.{element_lines}
 use Rattle.h264_report.specs.declared.judging.Ending.{Ending}
-use Rattle.h264_report.specs.declared.listing.Listing.{Listing}
-use Rattle.h264_report.specs.declared.trail.Element.{Element}
-use Rattle.h264_report.proofs.Known.{sends-more, sends-none, sends-keeps, some-after}
-use Rattle.h264_report.proofs.Sinks.{lined}
-use Rattle.h264_verify.specs.Telling.{Told, Tells, took_with, calls_of, AreDecoded}
-use Rattle.h264_verify.specs.Verdict.{Verdict, JudgedBy, Judged}
-use Rattle.h264_verify.specs.declared.state.Summary.{Summary}
+use Rattle.h264_lines.specs.declared.listing.Listing.{Listing}
+use Rattle.h264_lines.specs.declared.trail.Element.{Element}
+use Rattle.h264_lines.proofs.Known.{sends-more, sends-none, sends-keeps, some-after}
+use Rattle.h264_lines.proofs.Sinks.{lined}
+use Rattle.h264_verify.specs.Verdict.{Judged}
+use Rattle.h264_base.specs.declared.summary.Summary.{Summary}
 use Rattle.h264_verify.specs.declared.state.Terms.{Terms}
 use Rattle.h264_verify.specs.Units.{terms_of}
 use Rattle.h264_verify.proofs.Verdicts.{judges-judged, none-judged}
-
--- ---- from a sink's account
-
--- A sink that had taken nothing took this.
-pub taken : {S : Type 0} (frames : ℕ → Frame) (took : S → List Call → Type 0) (s s' : S) (more : List Told) → took s [] →
-    Tells (took_with frames took) s s' more → AreDecoded frames more × took s' (calls_of frames more)
-unfolding took_with
-taken frames took s s' more h t = t.told [] (tt, h)
-
-module _ {S : Type 0} (took : S → List Call → Type 0) (failures : S → ℕ) (terms : Terms) (bytes : List ℕ) (s s' : S) where
-  -- what the sink took
-  account : (none : took s []) (frames : ℕ → Frame) (answer : Result Summary Stop) →
-      JudgedBy terms (span (took_with frames took) failures s s') bytes [] answer → (a : Account terms bytes answer) × took s' (calls_in a)
-  account none frames (Ok summary) j = let t = taken frames took s s' j.0.more none j.0.tells in
-      (record { frames = frames; told = j.0.more; decoded = t.0; answers = j.0.verdict }, t.1)
-  account none frames (Err (No bit rule)) j = let t = taken frames took s s' j.0.more none j.0.tells in
-      (record { frames = frames; told = j.0.more; decoded = t.0; answers = j.0.verdict }, t.1)
-  account none frames (Err (Outside bit feature)) j = let t = taken frames took s s' j.0.more none j.0.tells in
-      (record { frames = frames; told = j.0.more; decoded = t.0; answers = j.0.verdict }, t.1)
-  account none frames (Err Memory) j = let t = taken frames took s s' j.0.more none j.0.tells in
-      (record { frames = frames; told = j.0.more; decoded = t.0; answers = record { rest = j.0.rest; answer = j.0.answer; verdict = j.0.verdict } }, t.1)
-  account none frames (Err Read) j = let t = taken frames took s s' j.0.more none j.0.tells in
-      (record { frames = frames; told = j.0.more; decoded = t.0; answers = record { rest = j.0.rest; answer = j.0.answer; verdict = j.0.verdict } }, t.1)
-  account none frames (Err Write) j = let t = taken frames took s s' j.0.more none j.0.tells in
-      (record { frames = frames; told = j.0.more; decoded = t.0; answers = record { rest = j.0.rest; answer = j.0.answer; verdict = j.0.verdict } }, t.1)
-
--- what the sink took
-pub accounts : {S : Type 0} {took : S → List Call → Type 0} {failures : S → ℕ} {terms : Terms} {bytes : List ℕ} {frames : ℕ → Frame} {s s' : S}
-    {answer : Result Summary Stop} → Judged terms (span took failures s s') bytes frames [] answer → took s [] → (a : Account terms bytes answer) ×
-    took s' (calls_in a)
-accounts {S} {took} {failures} {terms} {bytes} {frames} {s} {s'} {answer} j none = account took failures terms bytes s s' none j.made answer j.judged
+use Rattle.h264_verify.proofs.Accounts.{accounts, front-of}
 
 -- ---- with another answer
-
--- what was told up to any answer is the first of the stream's
-pub front-of : (terms : Terms) (bytes : List ℕ) (told : List Told) (answer : Result Summary Stop) → Answers terms bytes told answer → IsFront terms bytes told
-front-of terms bytes told (Ok summary) v =
-    record { rest = []; answer = Ok summary; verdict = subst (λ l. Verdict terms bytes l (Ok summary)) (sym (append-nil told)) v }
-front-of terms bytes told (Err (No bit rule)) v =
-    record { rest = []; answer = Err (No bit rule); verdict = subst (λ l. Verdict terms bytes l (Err (No bit rule))) (sym (append-nil told)) v }
-front-of terms bytes told (Err (Outside bit feature)) v =
-    record {
-      rest = [];
-      answer = Err (Outside bit feature);
-      verdict = subst (λ l. Verdict terms bytes l (Err (Outside bit feature))) (sym (append-nil told)) v;
-    }
-front-of terms bytes told (Err Memory) v = v
-front-of terms bytes told (Err Read) v = v
-front-of terms bytes told (Err Write) v = v
 
 module _ {terms : Terms} {bytes : List ℕ} where
   -- the same calls, up to a want of memory

@@ -5,22 +5,24 @@ ghost use Rattle.std.specs.Prelude.{◌≡◌, ◌≢◌, ℕ, ◌+◌, ◌-◌,
 ghost use Rattle.h264_base.specs.Call.{HasRoom, IsQuiet};
 ghost use Rattle.h264_base.specs.declared.mode.Mode.TheVariants as modes;
 ghost use Rattle.h264_verify.specs.Units.{terms_of};
-ghost use Rattle.h264_report.specs.Objects.{bare};
-ghost use Rattle.h264_report.specs.Sent.{Takes, wrote};
-ghost use Rattle.h264_report.specs.Told.{ended, lines_of, bytes_of};
-ghost use Rattle.h264_report.specs.Written.{OfBytes, Writes, Lists, Checks, Decodes, told_of, is_no, last_line, trail_text, answer_status, status_of};
+ghost use Rattle.h264_lines.specs.Objects.{bare};
+ghost use Rattle.h264_lines.specs.Sent.{Takes, wrote};
+ghost use Rattle.h264_lines.specs.Told.{ended, lines_of, bytes_of};
+ghost use Rattle.h264_report.specs.Written.{OfBytes, Writes, Lists, Checks, Decodes, is_no, last_line, trail_text, status_of};
+ghost use Rattle.h264_lines.specs.Answer.{told_of, answer_status};
 
-use crate::device::Device;
-use crate::form::Form;
-use crate::line_sink::LineSink;
-use crate::lines::verdict_line;
-use crate::listing::Listing;
-use crate::send::send;
-use crate::sheet::{Pen, Sheet};
-use crate::trail::Trail;
-use crate::trail_sink::TrailSink;
-use crate::yuv_sink::YuvSink;
 use h264_base::{Failed, Mode, Stop, Target};
+use h264_lines::answer::{answer_status, told_answer};
+use h264_lines::device::Device;
+use h264_lines::form::Form;
+use h264_lines::line_sink::LineSink;
+use h264_lines::lines::verdict_line;
+use h264_lines::listing::Listing;
+use h264_lines::send::send;
+use h264_lines::sheet::{Pen, Sheet};
+use h264_lines::trail::Trail;
+use h264_lines::trail_sink::TrailSink;
+use h264_lines::yuv_sink::YuvSink;
 use h264_verify::{Source, Summary, Terms, run};
 use std::alloc::Global;
 use std::marker::Brand;
@@ -32,20 +34,6 @@ pub struct Ending {
     pub answer: Result<Summary, Stop>,
     /// Whether the last line was written, with the text that comes with it, and handed over.
     pub written: bool,
-}
-
-/// The exit status of an answer.
-pub(crate) fn answer_status(answer: Result<Summary, Stop>) -> u8
-    ensures { result ≡ answer_status answer }
-{
-    match answer {
-        Ok(_) => 0,
-        Err(Stop::No { .. }) => 1,
-        Err(Stop::Outside { .. }) => 2,
-        Err(Stop::Memory) => 3,
-        Err(Stop::Read) => 4,
-        Err(Stop::Write) => 4,
-    }
 }
 
 impl Ending {
@@ -146,23 +134,6 @@ pub fn put_answer<W: Device>(
             written: put_line("", "write failed", out),
         },
         Err(Stop::Memory) => put_memory(out),
-    }
-}
-
-/// The answer that is told: that a write failed, where a sink broke off; where it did not, a call of it that failed was for want of memory.
-pub fn told_answer(answer: Result<Summary, Stop>, broke_off: bool) -> Result<Summary, Stop>
-    ensures { result ≡ told_of broke_off answer }
-{
-    if broke_off {
-        return Err(Stop::Write);
-    }
-    match answer {
-        Ok(summary) => Ok(summary),
-        Err(Stop::No { bit, rule }) => Err(Stop::No { bit, rule }),
-        Err(Stop::Outside { bit, feature }) => Err(Stop::Outside { bit, feature }),
-        Err(Stop::Read) => Err(Stop::Read),
-        Err(Stop::Memory) => Err(Stop::Memory),
-        Err(Stop::Write) => Err(Stop::Memory),
     }
 }
 

@@ -7,11 +7,11 @@ ghost use Rattle.h264_plane.specs.declared.frame.Frame.{Frame};
 ghost use Rattle.h264_verify.specs.Giving.{AreFirst};
 ghost use Rattle.h264_verify.specs.Units.{terms_of};
 ghost use Rattle.h264_verify.specs.Verdict.{Judged};
-ghost use Rattle.h264_report.specs.StrictUnits.{TellsOfBytes};
+ghost use Rattle.h264_strict.specs.StrictUnits.{TellsOfBytes};
 
 use crate::strict_source::{Inside, Lent, UnitSource};
-use crate::strict_units::UnitsRead;
 use h264_base::{Mode, Stop, Target};
+use h264_strict::strict_units::UnitsRead;
 use h264_verify::{FrameSink, Source, Summary, run};
 use std::alloc::Global;
 use std::marker::Brand;

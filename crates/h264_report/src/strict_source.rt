@@ -2,10 +2,10 @@
 #![tactic(auto)]
 
 ghost use Rattle.std.specs.Prelude.{◌≡◌, ℕ, false, List, []};
-ghost use Rattle.h264_report.specs.StrictUnits.{TookBytes, TellsOfBytes};
+ghost use Rattle.h264_strict.specs.StrictUnits.{TookBytes, TellsOfBytes};
 
-use crate::strict_units::{UnitReader, UnitsRead};
 use h264_base::Failed;
+use h264_strict::strict_units::{UnitReader, UnitsRead};
 use h264_verify::Source;
 use std::alloc::Global;
 use std::marker::{Brand, PhantomData};

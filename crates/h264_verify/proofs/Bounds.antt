@@ -4,7 +4,7 @@ use Rattle.h264_verify.specs.Units.{terms_of}
 use Rattle.h264_base.specs.declared.mode.Target.{Target}
 use Rattle.h264_base.specs.declared.mode.Mode.{Mode}
 use Rattle.h264_base.specs.declared.mode.Mode.TheVariants as modes
-use Rattle.h264_verify.specs.declared.state.Summary.{Summary}
+use Rattle.h264_base.specs.declared.summary.Summary.{Summary}
 use Rattle.h264_verify.specs.Telling.{Told}
 use Rattle.h264_verify.specs.History.{History}
 use Rattle.h264_verify.specs.Steps.{AreMet}

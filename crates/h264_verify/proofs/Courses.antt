@@ -26,7 +26,7 @@ use Rattle.h264_verify.specs.Content.{Content}
 use Rattle.h264_verify.specs.Content as contents
 use Rattle.h264_verify.specs.Outcome.{Outcome, ◌>>=◌, with_calls, continued, answers, gives, tells, value_of, structure_outcome, Plays}
 use Rattle.h264_verify.specs.Steps.{Step, needs}
-use Rattle.h264_verify.specs.UnitHeader.{header_of, nal_unit_type}
+use Rattle.h264_units.specs.UnitHeader.{header_of, nal_unit_type}
 use Rattle.h264_verify.specs.Order.{header_demands}
 use Rattle.h264_verify.specs.History.{History, maps_of}
 use Rattle.h264_verify.specs.Pictures.{CodedPicture, goes_on as may_go_on, runs_of}
@@ -35,9 +35,10 @@ use Rattle.h264_verify.specs.Buffering.{closing_frames, last_frames}
 use Rattle.h264_verify.specs.Keeping.{ended_pictures, close_steps}
 use Rattle.h264_verify.specs.Order.{whole_at, whole_picture, whole_steps}
 use Rattle.h264_verify.specs.Demands.{Demand}
-use Rattle.h264_verify.specs.declared.state.Summary.{Summary}
+use Rattle.h264_base.specs.declared.summary.Summary.{Summary}
 use Rattle.h264_verify.specs.declared.state.Terms.{Terms}
-use Rattle.h264_verify.specs.Units.{unit_call, is_slice, slice_unit, other_content, picture_demand, summary_of}
+use Rattle.h264_verify.specs.Units.{unit_call, slice_unit, other_content, picture_demand, summary_of}
+use Rattle.h264_units.specs.UnitHeader.{is_slice}
 use Rattle.h264_verify.specs.Order.{content, content_steps, data_course, content_course, frames_at, end_steps}
 use Rattle.h264_verify.specs.StepOutcome.{steps_outcome, structure_from, course_outcome}
 use Rattle.h264_verify.specs.UnitOutcome.{sps_outcome, pps_outcome, slice_outcome, header_content, whole_slice, joined, joined_on, joined_other, joined_by}

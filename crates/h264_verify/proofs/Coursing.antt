@@ -15,7 +15,7 @@ use Rattle.h264_verify.specs.Content.{Content}
 use Rattle.h264_verify.specs.Content as contents
 use Rattle.h264_verify.specs.Demands.{Demand}
 use Rattle.h264_verify.specs.Steps.{Step, Tells, needs, AreMet, IsFirstStop, Course, Takes, Reads, Ends, told, Runs}
-use Rattle.h264_verify.specs.UnitHeader.{header_of}
+use Rattle.h264_units.specs.UnitHeader.{header_of}
 use Rattle.h264_verify.specs.Order.{header_demands}
 use Rattle.h264_verify.specs.History.{History}
 use Rattle.h264_verify.specs.Order.{slice_steps}

@@ -3,7 +3,7 @@ use Rattle.std.proofs.Common.{◌≡◌, ℕ, List, [], ◌∷◌, ◌++◌, len
 use Rattle.h264_base.specs.declared.stop.Stop.{Stop}
 use Rattle.h264_units.specs.Stream.{NalUnit, Tail, Zeros}
 use Rattle.h264_units.proofs.Streams.{same-units}
-use Rattle.h264_verify.specs.declared.state.Summary.{Summary}
+use Rattle.h264_base.specs.declared.summary.Summary.{Summary}
 use Rattle.h264_verify.specs.declared.state.Terms.{Terms}
 use Rattle.h264_verify.specs.UnitOutcome.{unit_outcome}
 use Rattle.h264_verify.specs.Telling.{Told}

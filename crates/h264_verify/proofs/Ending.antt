@@ -21,13 +21,14 @@ use Rattle.h264_dpb.specs.declared.entry.Entry.{Entry}
 use Rattle.h264_dpb.specs.Buffered.{Buffered}
 use Rattle.h264_dpb.specs.Turns.{Shown, missing_turn, last_turn}
 use Rattle.h264_sets.specs.Sets.{Maps}
-use Rattle.h264_verify.specs.declared.state.Summary.{Summary}
+use Rattle.h264_base.specs.declared.summary.Summary.{Summary}
 use Rattle.h264_verify.specs.Telling.{Told, Said, Decodes, Shows}
 use Rattle.h264_verify.specs.Demands.{Demand}
 use Rattle.h264_verify.specs.Steps.{Step, Needs, Tells, needs, AreMet, IsFirstStop, told}
-use Rattle.h264_verify.specs.UnitHeader.{header_of, nal_unit_type}
+use Rattle.h264_units.specs.UnitHeader.{header_of, nal_unit_type}
 use Rattle.h264_verify.specs.History.{History, maps_of}
-use Rattle.h264_verify.specs.Pictures.{CodedSlice, CodedPicture, ends_picture, with_sets, sets_at, goes_on, held_after, joined_to, runs_of, begins_at}
+use Rattle.h264_verify.specs.Pictures.{CodedSlice, CodedPicture, with_sets, sets_at, goes_on, held_after, joined_to, runs_of, begins_at}
+use Rattle.h264_units.specs.UnitHeader.{ends_picture}
 use Rattle.h264_verify.specs.Pictures.{prev_ref_frame_num_of, end_of_picture}
 use Rattle.h264_verify.specs.Order.{closing_at, closing_demands}
 use Rattle.h264_verify.specs.Order.{whole_picture, whole_steps, whole_at}

@@ -11,7 +11,7 @@ use Rattle.h264_plane.specs.declared.frame.Frame.{Frame}
 use Rattle.h264_units.specs.Stream.{NalUnit, Next}
 use Rattle.h264_units.specs.Splitting.{Splitting, Pushed, Taken, Finished}
 use Rattle.h264_verify.specs.declared.state.State.{State}
-use Rattle.h264_verify.specs.declared.state.Summary.{Summary}
+use Rattle.h264_base.specs.declared.summary.Summary.{Summary}
 use Rattle.h264_verify.specs.Outcome.{Plays}
 use Rattle.h264_verify.specs.Telling.{Told, took_with, Agree, AreOf, frame_span}
 use Rattle.h264_verify.specs.Judging.{Judging, judging}
@@ -25,8 +25,8 @@ use Rattle.h264_verify.specs.Feeding.{standing_after, GoesOn, StopsOn, FinishesO
 use Rattle.h264_verify.specs.Verdict.{SameTold}
 use Rattle.h264_verify.proofs.AgreeingUnits.{of-more, of-both, calls-agree, decoded-told-agree, tells-agree, plays-agree}
 use Rattle.h264_verify.specs.Memory.{is_read, ChangesFormat}
-use Rattle.h264_verify.specs.Units.{is_slice}
-use Rattle.h264_verify.specs.UnitHeader.{header_of, nal_unit_type}
+use Rattle.h264_units.specs.UnitHeader.{is_slice}
+use Rattle.h264_units.specs.UnitHeader.{header_of, nal_unit_type}
 use Rattle.h264_base.specs.declared.mode.Mode.{Mode}
 use Rattle.h264_verify.specs.Progress.{LastIsRead}
 use Rattle.h264_verify.proofs.Growing.{unit-grows}

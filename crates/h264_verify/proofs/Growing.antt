@@ -49,10 +49,11 @@ use Rattle.h264_verify.specs.Content.{Content}
 use Rattle.h264_verify.specs.Content as contents
 use Rattle.h264_verify.specs.Demands.{Demand}
 use Rattle.h264_verify.specs.Steps.{Step, Needs, Tells, needs, Course}
-use Rattle.h264_verify.specs.UnitHeader.{header_of, nal_unit_type}
+use Rattle.h264_units.specs.UnitHeader.{header_of, nal_unit_type}
 use Rattle.h264_verify.specs.Order.{header_demands}
 use Rattle.h264_verify.specs.History.{History, maps_of}
-use Rattle.h264_verify.specs.Pictures.{CodedSlice, CodedPicture, sets_at, with_sets, ends_picture, goes_on, open_of, begins_after, begins_at, joined_to}
+use Rattle.h264_verify.specs.Pictures.{CodedSlice, CodedPicture, sets_at, with_sets, goes_on, open_of, begins_after, begins_at, joined_to}
+use Rattle.h264_units.specs.UnitHeader.{ends_picture}
 use Rattle.h264_verify.specs.Pictures.{joined_by, runs_of, coded_of, prev_ref_frame_num_of, held_after}
 use Rattle.h264_verify.specs.Order.{closing_demands, closing_at}
 use Rattle.h264_verify.specs.Order.{whole_picture, whole_steps, whole_at}
@@ -60,7 +61,8 @@ use Rattle.h264_verify.specs.Slices.{is_idr_due, new_num_demand, first_mb_demand
 use Rattle.h264_verify.specs.Order.{gap_rules, first_slice_rules, rules_of, steps_by, slice_steps}
 use Rattle.h264_verify.specs.Data.{slice_data_at}
 use Rattle.h264_verify.specs.declared.state.Terms.{Terms}
-use Rattle.h264_verify.specs.Units.{unit_call, is_slice, slice_unit, header_or_passed, other_content}
+use Rattle.h264_verify.specs.Units.{unit_call, slice_unit, header_or_passed, other_content}
+use Rattle.h264_units.specs.UnitHeader.{is_slice}
 use Rattle.h264_verify.specs.Order.{content, content_steps, data_course, frames_at, content_course, unit_course, end_steps}
 use Rattle.h264_verify.specs.Outcome.{Outcome, ◌>>=◌, continued as outcome_on, answers, gives}
 use Rattle.h264_verify.specs.StepOutcome.{steps_outcome, structure_from, course_outcome}

@@ -15,8 +15,9 @@ use Rattle.h264_verify.specs.Outcome.{Outcome, gives, Plays}
 use Rattle.h264_verify.specs.Content.{Content}
 use Rattle.h264_verify.specs.Content as contents
 use Rattle.h264_verify.specs.History.{History, ReadUnit, maps_of, maps_with}
-use Rattle.h264_verify.specs.UnitHeader.{header_of, nal_unit_type}
-use Rattle.h264_verify.specs.Pictures.{CodedPicture, with_sets, ends_picture, open_of, goes_on, runs_of, begins_after, begins_at, joined_to, joined_by}
+use Rattle.h264_units.specs.UnitHeader.{header_of, nal_unit_type}
+use Rattle.h264_verify.specs.Pictures.{CodedPicture, with_sets, open_of, goes_on, runs_of, begins_after, begins_at, joined_to, joined_by}
+use Rattle.h264_units.specs.UnitHeader.{ends_picture}
 use Rattle.std.specs.Option.{option_map}
 use Rattle.h264_near.specs.Coded.{CodedMacroblock}
 use Rattle.h264_sets.specs.Sets.{Maps}
@@ -26,7 +27,7 @@ use Rattle.h264_header.specs.Layout.{sets_of}
 use Rattle.h264_verify.specs.KeepingUnits.{Keeps, KeepsWithin, KeepsSome}
 use Rattle.h264_verify.specs.Keeping.{KeepsSomeSlice, KeepsFrames, WhereMade, IsLeft, KeepsSlices}
 use Rattle.h264_header.specs.declared.header.Header.{Header}
-use Rattle.h264_verify.specs.Units.{is_slice}
+use Rattle.h264_units.specs.UnitHeader.{is_slice}
 use Rattle.h264_verify.specs.Order.{content_steps}
 use Rattle.h264_verify.specs.StepOutcome.{steps_outcome}
 use Rattle.h264_verify.specs.UnitOutcome.{slice_outcome, whole_slice, joined, joined_other}

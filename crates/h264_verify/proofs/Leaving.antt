@@ -21,14 +21,15 @@ use Rattle.h264_vectors.specs.declared.slice.SliceContext.{SliceContext}
 use Rattle.h264_picture.specs.Context.{slice_context}
 use Rattle.h264_picture.specs.Levels.{transform_fits}
 use Rattle.h264_plane.specs.declared.frame.Frame.{Frame}
-use Rattle.h264_verify.specs.declared.state.Summary.{Summary}
+use Rattle.h264_base.specs.declared.summary.Summary.{Summary}
 use Rattle.h264_verify.specs.Telling.{Told, Said, HasFrame, AreDecoded}
 use Rattle.h264_verify.specs.Content.{Content}
 use Rattle.h264_verify.specs.Content as contents
 use Rattle.h264_verify.specs.Steps.{Step, needs, AreMet, Reads, Ends, Runs}
-use Rattle.h264_verify.specs.UnitHeader.{header_of, nal_unit_type}
+use Rattle.h264_units.specs.UnitHeader.{header_of, nal_unit_type}
 use Rattle.h264_verify.specs.History.{History, ReadUnit, maps_of, maps_with}
-use Rattle.h264_verify.specs.Pictures.{CodedSlice, CodedPicture, last_in, last_slice, picture_size, ends_picture, with_sets, sets_at, goes_on, open_of}
+use Rattle.h264_verify.specs.Pictures.{CodedSlice, CodedPicture, last_in, last_slice, picture_size, with_sets, sets_at, goes_on, open_of}
+use Rattle.h264_units.specs.UnitHeader.{ends_picture}
 use Rattle.h264_verify.specs.Pictures.{begins_after, begins_at, joined_to, runs_of, coded_of}
 use Rattle.h264_verify.specs.Order.{closing_at, closing_demands}
 use Rattle.h264_verify.specs.Order.{whole_at, whole_steps}

@@ -32,12 +32,13 @@ use Rattle.h264_verify.specs.Content.{Content}
 use Rattle.h264_verify.specs.Content as contents
 use Rattle.h264_verify.specs.Demands.{Demand, judged}
 use Rattle.h264_verify.specs.Steps.{Step, Needs, Tells, needs, AreMet, Course, Takes, Reads, Ends, told, Runs}
-use Rattle.h264_verify.specs.UnitHeader.{header_of, nal_unit_type}
+use Rattle.h264_units.specs.UnitHeader.{header_of, nal_unit_type}
 use Rattle.h264_verify.specs.Order.{header_demands}
 use Rattle.h264_verify.specs.History.{History, ReadUnit, maps_of}
 use Rattle.h264_verify.specs.Order.{closing_at}
 use Rattle.h264_verify.specs.Order.{whole_at}
-use Rattle.h264_verify.specs.Units.{unit_call, is_slice, slice_unit, other_content}
+use Rattle.h264_verify.specs.Units.{unit_call, slice_unit, other_content}
+use Rattle.h264_units.specs.UnitHeader.{is_slice}
 use Rattle.h264_verify.specs.Order.{content, content_steps, data_course, frames_at, content_course}
 use Rattle.h264_verify.specs.Verdict.{IsLegal}
 use Rattle.h264_verify.proofs.AgreeingUnits.{decoded-last}

@@ -38,8 +38,9 @@ use Rattle.h264_verify.specs.History.{History, ReadUnit, with_pair, maps_with, m
 use Rattle.h264_verify.specs.Keeping.{ended_pictures}
 use Rattle.h264_verify.specs.Pictures.{CodedSlice, CodedPicture, with_sets, slice_in, goes_on, joined_to, joined_by, begins_after, open_of, runs_of}
 use Rattle.h264_verify.specs.Steps.{Runs}
-use Rattle.h264_verify.specs.UnitHeader.{header_of, nal_unit_type}
-use Rattle.h264_verify.specs.Units.{terms_of, is_slice, other_content}
+use Rattle.h264_units.specs.UnitHeader.{header_of, nal_unit_type}
+use Rattle.h264_verify.specs.Units.{terms_of, other_content}
+use Rattle.h264_units.specs.UnitHeader.{is_slice}
 use Rattle.h264_verify.specs.Order.{content, data_course}
 use Rattle.h264_verify.specs.Verdict.{IsLegal, AreLegal}
 use Rattle.h264_verify.proofs.Legal.{given, has-met, rest-ends, rest-reads}

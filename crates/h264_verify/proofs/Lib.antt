@@ -63,4 +63,4 @@ pub mod Coursing
 pub mod Stopping
 pub mod Ending
 pub mod Targets
-pub mod UnitNumbers
+pub mod Accounts

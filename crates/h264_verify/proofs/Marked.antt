@@ -19,7 +19,7 @@ use Rattle.h264_header.specs.Header.{header, idr_pic_id}
 use Rattle.h264_header.specs.Marking.{dec_ref_pic_marking, idr_marking}
 use Rattle.h264_header.specs.Picture.{is_reference}
 use Rattle.h264_sps.proofs.Gives.{Gives, gives-following, gives-met, gives-derived}
-use Rattle.h264_verify.specs.UnitHeader.{nal_unit_type, nal_ref_idc, is_never_reference, fits_kind}
+use Rattle.h264_units.specs.UnitHeader.{nal_unit_type, nal_ref_idc, is_never_reference, fits_kind}
 use Rattle.h264_verify.specs.Units.{slice_unit_of}
 use Rattle.h264_verify.specs.Sound.{IsMarked}
 use Rattle.h264_verify.specs.Held.{is_idr_marking, is_own}

@@ -22,7 +22,7 @@ use Rattle.h264_header.specs.Header.{header as header_syntax}
 use Rattle.h264_sets.specs.Sets.{Maps}
 use Rattle.h264_verify.specs.Content as contents
 use Rattle.h264_verify.specs.Outcome.{IsNamed, gives}
-use Rattle.h264_verify.specs.UnitHeader.{header_of, nal_unit_type}
+use Rattle.h264_units.specs.UnitHeader.{header_of, nal_unit_type}
 use Rattle.h264_verify.specs.History.{History, maps_of}
 use Rattle.h264_verify.specs.Pictures.{CodedPicture, runs_of, begins_at}
 use Rattle.h264_plane.specs.declared.frame.Frame.{Frame}
@@ -30,7 +30,8 @@ use Rattle.h264_verify.specs.declared.decoder.Decoder.{Decoder}
 use Rattle.h264_verify.specs.declared.decoder.Format.{Format}
 use Rattle.h264_verify.specs.Keeping.{KeepsFrames, WhereMade, format_of, format_in}
 use Rattle.h264_verify.specs.declared.state.Terms.{Terms}
-use Rattle.h264_verify.specs.Units.{is_slice, slice_unit, slice_unit_of}
+use Rattle.h264_units.specs.UnitHeader.{is_slice}
+use Rattle.h264_verify.specs.Units.{slice_unit, slice_unit_of}
 use Rattle.h264_verify.specs.UnitOutcome.{joined, joined_by, joined_other}
 use Rattle.h264_verify.specs.Memory.{reads_slices, is_kind_read, bytes_of, HasAnotherFormat, BeginsAnotherFormat}
 use Rattle.h264_verify.proofs.Joining.{units-other, passed-other}

@@ -34,7 +34,7 @@ use Rattle.h264_header.specs.declared.header.SliceUnit.{SliceUnit}
 use Rattle.h264_header.specs.Header.{header}
 use Rattle.h264_base.specs.declared.rule.Rule.TheVariants.{FirstMb}
 use Rattle.h264_verify.specs.Demands.{judged}
-use Rattle.h264_verify.specs.UnitHeader.{header_of}
+use Rattle.h264_units.specs.UnitHeader.{header_of}
 use Rattle.h264_verify.specs.Keeping.{coded_before}
 use Rattle.h264_verify.specs.Units.{slice_unit, slice_unit_of}
 use Rattle.h264_verify.proofs.Slicing.{ok-true}

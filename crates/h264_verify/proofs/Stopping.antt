@@ -15,14 +15,15 @@ use Rattle.h264_sps.specs.declared.sps.Sps.{Sps}
 use Rattle.h264_pps.specs.declared.Pps.{Pps}
 use Rattle.h264_header.specs.declared.header.Header.{Header}
 use Rattle.h264_plane.specs.declared.frame.Frame.{Frame}
-use Rattle.h264_verify.specs.declared.state.Summary.{Summary}
+use Rattle.h264_base.specs.declared.summary.Summary.{Summary}
 use Rattle.h264_verify.specs.Telling.{Told, Said, Decodes, Shows, calls_of, HasFrame, AreDecoded, AreOf}
 use Rattle.h264_verify.specs.Demands.{Demand}
 use Rattle.h264_verify.specs.Outcome.{Outcome}
 use Rattle.h264_verify.specs.Steps.{Step, Needs, Tells, needs, AreMet, IsFirstStop, told}
-use Rattle.h264_verify.specs.UnitHeader.{header_of, nal_unit_type}
+use Rattle.h264_units.specs.UnitHeader.{header_of, nal_unit_type}
 use Rattle.h264_verify.specs.History.{History, ReadUnit, maps_of}
-use Rattle.h264_verify.specs.Pictures.{CodedPicture, ends_picture, with_sets, sets_at, goes_on, joined_to, runs_of, begins_at}
+use Rattle.h264_verify.specs.Pictures.{CodedPicture, with_sets, sets_at, goes_on, joined_to, runs_of, begins_at}
+use Rattle.h264_units.specs.UnitHeader.{ends_picture}
 use Rattle.h264_verify.specs.Order.{closing_at, closing_demands}
 use Rattle.h264_verify.specs.Order.{whole_picture, whole_steps, whole_at}
 use Rattle.h264_verify.specs.Buffering.{end_frames, closing_frames, last_frames}

@@ -16,7 +16,7 @@ use Rattle.h264_rbsp.specs.Emulation.{IsFault, IsFirstFault, emulation_checked}
 use Rattle.h264_rbsp.specs.Rbsp.{body_of}
 use Rattle.h264_rbsp.proofs.Told.{is-checked, none-checked, some-checked}
 use Rattle.h264_verify.specs.declared.state.State.{State}
-use Rattle.h264_verify.specs.declared.state.Summary.{Summary}
+use Rattle.h264_base.specs.declared.summary.Summary.{Summary}
 use Rattle.h264_verify.specs.Content.{Content}
 use Rattle.h264_verify.specs.Outcome.{Outcome, ◌>>=◌, with_calls, answers, Plays}
 use Rattle.h264_verify.specs.Judging.{unless, tail_outcome, units_outcome, Comes, judging}

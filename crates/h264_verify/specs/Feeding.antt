@@ -7,7 +7,7 @@ use Rattle.h264_plane.specs.declared.frame.Frame.{Frame}
 use Rattle.h264_units.specs.Stream.{IsUndecided}
 use Rattle.h264_units.specs.Splitting.{Splitting, at_start}
 use Rattle.h264_verify.specs.declared.state.State.{State}
-use Rattle.h264_verify.specs.declared.state.Summary.{Summary}
+use Rattle.h264_base.specs.declared.summary.Summary.{Summary}
 use Rattle.h264_verify.specs.Telling.{Told, Tells, FrameSpan, took_with, with_frames, Agree, AreOf}
 use Rattle.h264_verify.specs.Outcome.{Outcome, with_calls}
 use Rattle.h264_verify.specs.Judging.{Comes, judging}

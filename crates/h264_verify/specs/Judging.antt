@@ -5,7 +5,7 @@ use Rattle.h264_base.specs.declared.stop.Stop.{Stop}
 use Rattle.h264_units.specs.Stream.{NalUnit, Tail, Splits, tail_stop}
 use Rattle.h264_verify.specs.Outcome.{Outcome, ◌>>=◌, answers}
 use Rattle.h264_verify.specs.History.{History}
-use Rattle.h264_verify.specs.declared.state.Summary.{Summary}
+use Rattle.h264_base.specs.declared.summary.Summary.{Summary}
 use Rattle.h264_verify.specs.Memory.{ChangesFormat}
 use Rattle.h264_verify.specs.UnitOutcome.{unit_outcome, end_outcome}
 

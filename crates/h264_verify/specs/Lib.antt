@@ -6,8 +6,6 @@ pub mod UnitOutcome
 pub mod Turning
 pub mod Outcome
 pub mod Demands
-pub mod UnitHeader
-pub mod UnitTypes
 pub mod Content
 pub mod Steps
 pub mod History
@@ -33,3 +31,4 @@ pub mod Verdict
 pub mod Giving
 pub mod Feeding
 pub mod Family
+pub mod Account

@@ -11,11 +11,12 @@ use Rattle.h264_pps.specs.declared.Pps.{Pps}
 use Rattle.h264_header.specs.declared.header.Header.{Header}
 use Rattle.h264_header.specs.Layout.{sets_of}
 use Rattle.h264_header.specs.Header.{header as header_syntax}
-use Rattle.h264_verify.specs.UnitHeader.{header_of, nal_unit_type}
+use Rattle.h264_units.specs.UnitHeader.{header_of, nal_unit_type}
 use Rattle.h264_verify.specs.History.{History, maps_of}
 use Rattle.h264_verify.specs.Pictures.{CodedPicture, sets_at, begins_at, runs_of}
 use Rattle.h264_verify.specs.Keeping.{format_of}
-use Rattle.h264_verify.specs.Units.{is_slice, slice_unit}
+use Rattle.h264_units.specs.UnitHeader.{is_slice}
+use Rattle.h264_verify.specs.Units.{slice_unit}
 
 -- in Units slices are passed over
 abbrev pub reads_slices : Mode → Bool

@@ -24,14 +24,15 @@ use Rattle.h264_verify.specs.Data.{slice_data_at}
 use Rattle.h264_verify.specs.Demands.{Demand}
 use Rattle.h264_verify.specs.History.{History, maps_of}
 use Rattle.h264_verify.specs.Lists.{list_of}
-use Rattle.h264_verify.specs.Pictures.{CodedPicture, last_slice, bit_after, picture_size, ends_picture, goes_on, runs_of, CodedSlice, sets_at}
+use Rattle.h264_verify.specs.Pictures.{CodedPicture, last_slice, bit_after, picture_size, goes_on, runs_of, CodedSlice, sets_at}
+use Rattle.h264_units.specs.UnitHeader.{ends_picture}
 use Rattle.h264_verify.specs.Pictures.{with_sets, joined_to, begins_at, prev_ref_frame_num_of, held_after, held_in, counted, coded_of, end_of_picture}
 use Rattle.h264_verify.specs.Slices.{newest_idr_of, newest_marking, is_idr_due, idr_demand, set_demand, first_mb_demands, type_demand}
 use Rattle.h264_verify.specs.Slices.{same_type_demand, idr_num_demand, gap_demand, new_num_demand, id_demand, count_demand, qp_demand, list_demand}
 use Rattle.h264_verify.specs.Slices.{marking_demand, newest_slices, first_bit, slice_call}
 use Rattle.h264_verify.specs.Steps.{Step, Needs, needs, Course, Takes, Reads, Ends}
 use Rattle.h264_verify.specs.Telling.{Said}
-use Rattle.h264_verify.specs.UnitHeader.{header_of, nal_unit_type, nal_ref_idc, forbidden_zero_bit, is_partition, fits_kind}
+use Rattle.h264_units.specs.UnitHeader.{header_of, nal_unit_type, nal_ref_idc, forbidden_zero_bit, is_partition, fits_kind}
 use Rattle.h264_verify.specs.Units.{unit_call, other_content, picture_demand}
 use Rattle.h264_verify.specs.declared.state.Terms.{Terms}
 use Rattle.h264_base.specs.declared.mode.Mode.TheVariants as modes

@@ -1,5 +1,5 @@
 -- The pictures so far, and the reference frames that they leave (7.4.1.2.4, 7.4.3, 8.2.5). To be read beside the standard.
-use Rattle.std.specs.Prelude.{ℕ, ◌*◌, nat_le, ◌&&◌, not, Bool, true, false, Option, Some, None, Result, Ok, Err, List, [], ◌∷◌, map, length, if◌then◌else◌}
+use Rattle.std.specs.Prelude.{ℕ, ◌*◌, ◌&&◌, not, Bool, true, false, Option, Some, None, Result, Ok, Err, List, [], ◌∷◌, map, length, if◌then◌else◌}
 use Rattle.std.specs.Option.{option_map}
 use Rattle.std.specs.Result.{result_unwrap_or}
 use Rattle.h264_base.specs.declared.rule.Rule.TheVariants.{MarkCommand}
@@ -16,17 +16,14 @@ use Rattle.h264_marking.specs.Gaps.{last_or, unused_short_term_frame_nums, enter
 use Rattle.h264_marking.specs.Held.{no_references}
 use Rattle.h264_marking.specs.Ended.{numbering_of, resets, ended}
 use Rattle.h264_units.specs.Stream.{NalUnit, past}
+use Rattle.h264_units.specs.UnitHeader.{ends_picture}
 use Rattle.h264_sets.specs.Sets.{Maps}
 use Rattle.h264_near.specs.Coded.{CodedMacroblock}
 use Rattle.h264_verify.specs.Content.{Content}
 use Rattle.h264_verify.specs.Content as contents
 use Rattle.h264_verify.specs.Demands.{Demand}
-use Rattle.h264_verify.specs.UnitHeader.{header_of, nal_unit_type}
+use Rattle.h264_units.specs.UnitHeader.{header_of, nal_unit_type}
 use Rattle.h264_verify.specs.History.{History, maps_of}
-
--- units of types 6 to 11 end the picture before them (7.4.1.2.3)
-abbrev pub ends_picture : ℕ → Bool
-ends_picture kind = nat_le 6 kind && nat_le kind 11
 
 -- A slice: the unit in which it stands, its header, the macroblocks of its picture up to its end, and the parameter sets that it
 -- names.

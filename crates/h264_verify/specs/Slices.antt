@@ -27,7 +27,7 @@ use Rattle.h264_verify.specs.Content.{Content}
 use Rattle.h264_verify.specs.Content as contents
 use Rattle.h264_verify.specs.Demands.{Demand}
 use Rattle.h264_verify.specs.Buffering.{newest_count, frame_count}
-use Rattle.h264_verify.specs.UnitHeader.{header_of, nal_unit_type}
+use Rattle.h264_units.specs.UnitHeader.{header_of, nal_unit_type}
 use Rattle.h264_verify.specs.History.{History}
 use Rattle.h264_verify.specs.Pictures.{CodedSlice, CodedPicture}
 use Rattle.h264_verify.specs.Pictures.{bit_of, is_met, counted}

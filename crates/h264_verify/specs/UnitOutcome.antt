@@ -12,19 +12,20 @@ use Rattle.h264_sps.specs.Sps.{sps}
 use Rattle.h264_pps.specs.Pps.{pps}
 use Rattle.h264_header.specs.Layout.{sets_of}
 use Rattle.h264_header.specs.Header.{header}
-use Rattle.h264_verify.specs.declared.state.Summary.{Summary}
+use Rattle.h264_base.specs.declared.summary.Summary.{Summary}
 use Rattle.h264_verify.specs.declared.state.Terms.{Terms}
 use Rattle.h264_verify.specs.Content.{Content}
 use Rattle.h264_verify.specs.Content as contents
 use Rattle.h264_verify.specs.Demands.{judged}
 use Rattle.h264_verify.specs.Outcome.{Outcome, ◌>>=◌, answers, gives, tells, structure_outcome}
 use Rattle.h264_verify.specs.Steps.{needs}
-use Rattle.h264_verify.specs.UnitHeader.{header_of, nal_unit_type}
+use Rattle.h264_units.specs.UnitHeader.{header_of, nal_unit_type}
 use Rattle.h264_verify.specs.Order.{header_demands}
 use Rattle.h264_verify.specs.History.{History, maps_of}
 use Rattle.h264_verify.specs.Order.{closing_at}
 use Rattle.h264_verify.specs.Order.{whole_at}
-use Rattle.h264_verify.specs.Units.{unit_call, is_slice, slice_unit, summary_of}
+use Rattle.h264_verify.specs.Units.{unit_call, slice_unit, summary_of}
+use Rattle.h264_units.specs.UnitHeader.{is_slice}
 use Rattle.h264_verify.specs.Order.{content_steps, data_course, frames_at, unit_course, end_steps}
 use Rattle.h264_verify.specs.StepOutcome.{course_outcome, steps_outcome, structure_from}
 

@@ -1,5 +1,5 @@
 -- The course of a unit after those before it, and the rules of the end of the input (7.3.1, 7.4). To be read beside the standard.
-use Rattle.std.specs.Prelude.{ℕ, Bool, true, false, List, [], ◌∷◌, length, ◌==◌, ◌||◌, if◌then◌else◌}
+use Rattle.std.specs.Prelude.{ℕ, Bool, true, false, List, [], ◌∷◌, length, ◌==◌, if◌then◌else◌}
 use Rattle.h264_base.specs.declared.mode.Mode.{Mode}
 use Rattle.h264_base.specs.declared.mode.Mode.TheVariants as modes
 use Rattle.h264_base.specs.declared.mode.Target.{Target}
@@ -10,12 +10,12 @@ use Rattle.h264_units.specs.Stream.{NalUnit}
 use Rattle.h264_header.specs.declared.header.SliceUnit.{SliceUnit}
 use Rattle.h264_header.specs.Layout.{sets_of}
 use Rattle.h264_header.specs.Header.{header}
-use Rattle.h264_verify.specs.declared.state.Summary.{Summary}
+use Rattle.h264_base.specs.declared.summary.Summary.{Summary}
 use Rattle.h264_verify.specs.declared.state.Terms.{Terms}
 use Rattle.h264_verify.specs.Content.{Content}
 use Rattle.h264_verify.specs.Content as contents
 use Rattle.h264_verify.specs.Demands.{Demand}
-use Rattle.h264_verify.specs.UnitHeader.{header_of, nal_unit_type, nal_ref_idc}
+use Rattle.h264_units.specs.UnitHeader.{header_of, nal_unit_type, nal_ref_idc, is_slice}
 use Rattle.h264_verify.specs.History.{History, maps_of}
 use Rattle.h264_verify.specs.Pictures.{CodedPicture, runs_of}
 use Rattle.h264_verify.specs.Buffering.{frames_written}
@@ -23,10 +23,6 @@ use Rattle.h264_verify.specs.Buffering.{frames_written}
 -- what the sink is told of a unit: the byte where it begins, its type, nal_ref_idc, and its length in bytes
 abbrev pub unit_call : ℕ → ℕ → ℕ → Call
 unit_call from header length = OfUnit from (nal_unit_type header) (nal_ref_idc header) length
-
--- nal_unit_type 1 and 5: slices of other pictures, and of IDR pictures
-abbrev pub is_slice : ℕ → Bool
-is_slice kind = kind == 1 || kind == 5
 
 -- what a unit's first byte says of the slice in it
 abbrev pub slice_unit_of : ℕ → SliceUnit

@@ -13,7 +13,7 @@ use Rattle.h264_verify.specs.Telling.{Told, Tells, with_frames, calls_of, AreDec
 use Rattle.h264_units.specs.Stream.{NalUnit, Tail, Zeros, Splits, tail_stop}
 use Rattle.h264_rbsp.specs.Emulation.{IsFault, IsFirstFault}
 use Rattle.h264_rbsp.specs.Rbsp.{body_of}
-use Rattle.h264_verify.specs.declared.state.Summary.{Summary}
+use Rattle.h264_base.specs.declared.summary.Summary.{Summary}
 use Rattle.h264_verify.specs.Steps.{AreMet, IsFirstStop, Runs}
 use Rattle.h264_verify.specs.History.{History, ReadUnit}
 use Rattle.h264_verify.specs.Pictures.{runs_of}

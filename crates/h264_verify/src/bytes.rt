@@ -2,13 +2,12 @@
 #![tactic(auto)]
 
 ghost use Rattle.std.specs.Prelude.{◌≡◌, true, IfOk, IfErr};
-ghost use Rattle.h264_verify.specs.UnitTypes.{type_number};
+ghost use Rattle.h264_units.specs.UnitTypes.{type_number};
 ghost use Rattle.h264_verify.specs.Memory.{reads_slices, is_kind_read, is_read, bytes_of};
 
-use crate::nal_unit_type::NalUnitType;
 use h264_base::{Mode, Stop};
 use h264_rbsp::Rbsp;
-use h264_units::NalUnit;
+use h264_units::{NalUnit, NalUnitType};
 use std::alloc::Global;
 
 /// Whether slices are read.

@@ -19,9 +19,9 @@ ghost use Rattle.h264_verify.specs.Buffering.{closing_frames};
 
 use crate::decoder::Decoder;
 use crate::rules::check;
-use crate::sink::FrameSink;
 use crate::slices::Slices;
 use h264_base::{Rule, Stop};
+use h264_dpb::FrameSink;
 use h264_marking::mark_end;
 
 /// The end of the slice data of the picture that may go on, where they are read and it ends here: all its macroblocks are coded.

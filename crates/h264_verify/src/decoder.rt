@@ -5,10 +5,9 @@ ghost use Rattle.std.specs.Prelude.{◌≡◌};
 ghost use Rattle.h264_base.specs.Call.{HasRoom, IsQuiet, span};
 ghost use Rattle.h264_verify.specs.Keeping.{format_of};
 
-use crate::sink::FrameSink;
 use h264_base::{Elements, Stop};
 use h264_bits::Bits;
-use h264_dpb::{Ended, Output};
+use h264_dpb::{Ended, FrameSink, Output};
 use h264_header::Header;
 use h264_marking::Held;
 use h264_picture::{PLACES, Work, buffer_size, slice_samples};

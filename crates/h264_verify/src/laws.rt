@@ -7,7 +7,7 @@ ghost use Rattle.h264_base.specs.declared.mode.Target.{Target};
 ghost use Rattle.h264_base.specs.declared.mode.Target.TheVariants.{Baseline, MainIP};
 ghost use Rattle.h264_base.specs.declared.stop.Stop.{Stop};
 ghost use Rattle.h264_verify.specs.Telling.{Told, Decodes};
-ghost use Rattle.h264_verify.specs.declared.state.Summary.{Summary};
+ghost use Rattle.h264_base.specs.declared.summary.Summary.{Summary};
 ghost use Rattle.h264_verify.specs.declared.state.Terms.{Terms};
 ghost use Rattle.h264_verify.specs.Units.{terms_of};
 ghost use Rattle.h264_verify.specs.Pictures.{CodedPicture, goes_on, held_in, runs_of};

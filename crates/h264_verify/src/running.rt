@@ -12,11 +12,10 @@ ghost use Rattle.h264_verify.specs.Feeding.{FedOn, JudgesWith};
 ghost use Rattle.h264_verify.specs.Giving.{Gives, source_span};
 ghost use Rattle.h264_verify.specs.Verdict.{Judged};
 
-use crate::Summary;
 use crate::session::Session;
-use crate::sink::FrameSink;
 use crate::source::Source;
-use h264_base::{Mode, Stop, Target};
+use h264_base::{Mode, Stop, Summary, Target};
+use h264_dpb::FrameSink;
 use std::alloc::Global;
 
 /// How many bytes are asked of a source at a time.

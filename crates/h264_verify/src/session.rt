@@ -21,10 +21,10 @@ ghost use Rattle.h264_base.specs.declared.mode.Mode.TheVariants as modes;
 ghost use Rattle.h264_verify.specs.Buffering.{taken_after};
 
 use crate::bytes::read_bytes;
-use crate::sink::FrameSink;
 use crate::unit::{judge_end, judge_unit};
-use crate::{State, Summary, Terms};
-use h264_base::{Mode, Stop, Target};
+use crate::{State, Terms};
+use h264_base::{Mode, Stop, Summary, Target};
+use h264_dpb::FrameSink;
 use h264_rbsp::Rbsp;
 use h264_units::{NalUnit, Splitter};
 use std::alloc::Global;

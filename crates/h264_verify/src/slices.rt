@@ -21,8 +21,9 @@ ghost use Rattle.h264_verify.specs.Keeping.{HoldsEnd, format_in};
 ghost use Rattle.h264_verify.specs.Keeping.{HoldsOpen, IsLeft, first_by, later_by, slice_rules, told_rules, KeepsPictures, Entered, is_typed, slice_at};
 ghost use Rattle.h264_verify.specs.StepOutcome.{steps_outcome};
 ghost use Rattle.h264_verify.specs.Pictures.{CodedSlice, CodedPicture, open_of, joined_to, runs_of, goes_on, bit_after};
-ghost use Rattle.h264_verify.specs.Pictures.{prev_ref_frame_num_after, begins_at, begins_after, ends_picture};
-ghost use Rattle.h264_verify.specs.UnitTypes.{type_number};
+ghost use Rattle.h264_verify.specs.Pictures.{prev_ref_frame_num_after, begins_at, begins_after};
+ghost use Rattle.h264_units.specs.UnitHeader.{ends_picture};
+ghost use Rattle.h264_units.specs.UnitTypes.{type_number};
 ghost use Rattle.h264_poc.specs.OfSlice.{picture_of};
 ghost use Rattle.h264_marking.specs.Ended.{numbering_of, resets};
 ghost use Rattle.h264_header.specs.Header.{slice_type_of};
@@ -33,22 +34,20 @@ ghost use Rattle.h264_verify.specs.Lists.{list_of};
 use crate::decoder::Decoder;
 use crate::frame_num::{check_gap, check_idr_num};
 use crate::head::{SliceHead, SlicePlace};
-use crate::nal_unit_type::NalUnitType;
 use crate::picture::{OpenPicture, begin, go_on};
 use crate::rules::{
     build_list, check_id, check_marking, check_qp, check_same_type, check_type, idr_id,
 };
-use crate::sink::FrameSink;
 use arrayvec::ArrayVec;
 use h264_base::{Failed, Stop};
-use h264_dpb::{Ended, ended_of};
+use h264_dpb::{Ended, FrameSink, ended_of};
 use h264_header::Header;
 use h264_lists::RefSlot;
 use h264_marking::{Held, Numbering, numbering_of};
 use h264_picture::buffer_size;
 use h264_poc::{Count, Counts, picture_of};
 use h264_sps::sps::Sps;
-use h264_units::NalUnit;
+use h264_units::{NalUnit, NalUnitType};
 
 /// What is kept of the slices so far.
 #[derive(Drop)]

@@ -11,17 +11,6 @@ use h264_base::{Mode, Stop, Target};
 use h264_sets::Sets;
 use std::alloc::Global;
 
-/// What a whole stream has, where it is legal.
-#[derive(Clone, Copy, Debug, PartialEq, Eq)]
-pub struct Summary {
-    /// The units.
-    pub units: u64,
-    /// The pictures; 0 where slices are passed over.
-    pub pictures: u64,
-    /// The frames that were written; 0 where none are made.
-    pub frames: u64,
-}
-
 /// What a stream is judged by.
 #[derive(Clone, Copy)]
 pub struct Terms {

@@ -1,5 +1,5 @@
 use Rattle.std.proofs.Common.{sym, ◌∙◌, subst}
-use Rattle.h264_report.specs.Given.{IsGiven}
+use Rattle.h264_stream.specs.Given.{IsGiven}
 use Rattle.h264_c.proofs.h264v_finish.Goals as goal
 
 pub returns : goal.returns

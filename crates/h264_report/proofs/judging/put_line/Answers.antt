@@ -1,5 +1,5 @@
 use Rattle.std.proofs.Common.{◌∷◌, [], ◌∙◌}
-use Rattle.h264_report.proofs.Known.{sends-more, sends-keeps, sends-is, front-is, some-all, some-front, some-longer, some-after, ok-of, err-of}
+use Rattle.h264_lines.proofs.Known.{sends-more, sends-keeps, sends-is, front-is, some-all, some-front, some-longer, some-after, ok-of, err-of}
 use Rattle.h264_report.proofs.judging.put_line.Goals as goal
 
 pub returns-then-is_err-clause-text : goal.returns-then-is_err-clause-text

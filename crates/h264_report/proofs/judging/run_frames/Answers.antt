@@ -1,8 +1,9 @@
 use Rattle.std.proofs.Common.{ap, ◌∙◌}
 use Rattle.h264_plane.specs.Frames.{no_frame}
-use Rattle.h264_report.specs.Told.{bytes_of}
-use Rattle.h264_report.specs.Written.{told_of}
-use Rattle.h264_report.proofs.Accounts.{accounts, writes, write-failed, none-failed, read-told, still-told, none-frames}
+use Rattle.h264_lines.specs.Told.{bytes_of}
+use Rattle.h264_lines.specs.Answer.{told_of}
+use Rattle.h264_verify.proofs.Accounts.{accounts}
+use Rattle.h264_report.proofs.Accounts.{writes, write-failed, none-failed, read-told, still-told, none-frames}
 use Rattle.h264_report.proofs.judging.run_frames.Goals as goal
 
 pub returns-clause-same_reference : goal.returns-clause-same_reference

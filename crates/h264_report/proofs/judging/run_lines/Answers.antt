@@ -1,9 +1,10 @@
 use Rattle.std.proofs.Common.{ap, sym, ◌∙◌}
 use Rattle.h264_plane.specs.Frames.{no_frame}
-use Rattle.h264_report.specs.Objects.{opening_of}
-use Rattle.h264_report.specs.Told.{lines_of}
-use Rattle.h264_report.specs.Written.{told_of}
-use Rattle.h264_report.proofs.Accounts.{accounts, writes, write-failed, none-failed, read-told, still-told, of-listing, none-lines}
+use Rattle.h264_lines.specs.Objects.{opening_of}
+use Rattle.h264_lines.specs.Told.{lines_of}
+use Rattle.h264_lines.specs.Answer.{told_of}
+use Rattle.h264_verify.proofs.Accounts.{accounts}
+use Rattle.h264_report.proofs.Accounts.{writes, write-failed, none-failed, read-told, still-told, of-listing, none-lines}
 use Rattle.h264_report.proofs.judging.run_lines.Goals as goal
 
 pub returns-clause-same_reference : goal.returns-clause-same_reference

@@ -1,6 +1,6 @@
-use Rattle.h264_report.specs.Chosen.{no_choice}
-use Rattle.h264_report.specs.Objects.{bare}
-use Rattle.h264_report.specs.declared.listing.Listing.TheVariants.{Nothing}
+use Rattle.h264_lines.specs.Chosen.{no_choice}
+use Rattle.h264_lines.specs.Objects.{bare}
+use Rattle.h264_lines.specs.declared.listing.Listing.TheVariants.{Nothing}
 use Rattle.h264_report.proofs.judging.write_frames.Given as goal
 
 abbrev pub ghosts-run_frames : goal.ghosts-run_frames

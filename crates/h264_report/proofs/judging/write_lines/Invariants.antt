@@ -1,5 +1,5 @@
-use Rattle.h264_report.specs.Chosen.{no_choice}
-use Rattle.h264_report.specs.Objects.{bare}
+use Rattle.h264_lines.specs.Chosen.{no_choice}
+use Rattle.h264_lines.specs.Objects.{bare}
 use Rattle.h264_report.proofs.judging.write_lines.Given as goal
 
 abbrev pub ghosts-run_lines : goal.ghosts-run_lines

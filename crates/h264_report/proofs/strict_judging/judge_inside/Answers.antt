@@ -1,5 +1,5 @@
 use Rattle.std.proofs.Common.{Bool, [], ap, subst, ◌∙◌}
-use Rattle.h264_report.specs.StrictUnits.{TellsOfBytes}
+use Rattle.h264_strict.specs.StrictUnits.{TellsOfBytes}
 use Rattle.h264_report.proofs.strict_judging.judge_inside.Goals as goal
 
 pub returns-clause-same_reference : goal.returns-clause-same_reference

@@ -10,10 +10,11 @@ use Rattle.h264_verify.specs.Telling.{frame_span}
 use Rattle.h264_verify.specs.Outcome.{Outcome}
 use Rattle.h264_verify.specs.History.{History}
 use Rattle.h264_verify.specs.Content as contents
-use Rattle.h264_verify.specs.UnitHeader.{header_of, nal_unit_type}
-use Rattle.h264_verify.specs.UnitTypes.{type_number}
-use Rattle.h264_verify.specs.declared.nal_unit_type.NalUnitType.TheVariants as types
-use Rattle.h264_verify.specs.Pictures.{ends_picture, goes_on, runs_of}
+use Rattle.h264_units.specs.UnitHeader.{header_of, nal_unit_type}
+use Rattle.h264_units.specs.UnitTypes.{type_number}
+use Rattle.h264_units.specs.declared.nal_unit_type.NalUnitType.TheVariants as types
+use Rattle.h264_units.specs.UnitHeader.{ends_picture}
+use Rattle.h264_verify.specs.Pictures.{goes_on, runs_of}
 use Rattle.h264_verify.specs.Keeping.{ended_pictures, ended_in}
 use Rattle.h264_verify.proofs.Playing.{gives-plays}
 use Rattle.h264_verify.specs.declared.state.State.{State}
@@ -24,14 +25,14 @@ use Rattle.h264_verify.proofs.Made.{some-made, none-made}
 use Rattle.h264_verify.specs.KeepingUnits.{KeepsWithin, KeepsSome}
 use Rattle.h264_verify.specs.Turning.{Joins}
 use Rattle.h264_base.specs.Body.{Body}
-use Rattle.h264_verify.specs.Units.{is_slice}
+use Rattle.h264_units.specs.UnitHeader.{is_slice}
 use Rattle.h264_verify.specs.Memory.{reads_slices, bytes_of}
 use Rattle.h264_verify.specs.UnitOutcome.{sps_outcome, pps_outcome, joined, joined_by}
 use Rattle.h264_verify.proofs.Joining.{joins-on, passed-joins, slice-other, whole-other}
 use Rattle.h264_verify.proofs.Memory.{bytes-by, unread, read-bytes, passed-by, read-slice}
 use Rattle.h264_verify.proofs.unit.join.Goals as goal
 use Rattle.h264_verify.proofs.Growing.{slice-goes as slice-goes-on}
-use Rattle.h264_verify.proofs.UnitNumbers.{is-not}
+use Rattle.h264_units.proofs.UnitNumbers.{is-not}
 
 joined-seven : (terms : Terms) (kind : ℕ) (before : History) (unit : NalUnit) → kind ≡ 7 →
     joined_by terms kind before unit ≡ joined terms.mode before unit (sps_outcome terms.target unit)

@@ -13,7 +13,7 @@ use Rattle.h264_plane.specs.declared.frame.Frame.{Frame}
 use Rattle.h264_verify.specs.Telling.{took_with}
 use Rattle.h264_verify.specs.Outcome.{Plays, structure_outcome}
 use Rattle.h264_verify.specs.Content as contents
-use Rattle.h264_verify.specs.UnitTypes.{type_number}
+use Rattle.h264_units.specs.UnitTypes.{type_number}
 use Rattle.h264_verify.specs.UnitOutcome.{pps_outcome}
 use Rattle.h264_verify.proofs.Playing.{gives-plays, plays-gives, meets-plays}
 use Rattle.h264_verify.proofs.Memory.{answers-memory, error-as}

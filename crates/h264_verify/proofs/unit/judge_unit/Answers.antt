@@ -14,9 +14,10 @@ use Rattle.h264_verify.specs.Framing.{EndsFrames, closing}
 use Rattle.h264_verify.specs.Turning.{Joins, Turns}
 use Rattle.std.proofs.lemmas.Result.{err_from_is_err_and}
 use Rattle.h264_verify.specs.Outcome.{answers, tells, Plays, IsNamed}
-use Rattle.h264_verify.specs.UnitHeader.{header_of, nal_unit_type}
+use Rattle.h264_units.specs.UnitHeader.{header_of, nal_unit_type}
 use Rattle.h264_verify.specs.Order.{header_demands}
-use Rattle.h264_verify.specs.Pictures.{goes_on, runs_of, ends_picture}
+use Rattle.h264_verify.specs.Pictures.{goes_on, runs_of}
+use Rattle.h264_units.specs.UnitHeader.{ends_picture}
 use Rattle.h264_verify.specs.Keeping.{ended_pictures, ended_in, close_steps}
 use Rattle.h264_verify.specs.Units.{unit_call}
 use Rattle.h264_verify.specs.StepOutcome.{steps_outcome}

@@ -1,0 +1,10 @@
+pub mod Known
+pub mod Counted
+pub mod PlaneRows
+pub mod Kept
+pub mod Calls
+pub mod Runs
+pub mod Fits
+pub mod Sinks
+pub mod Framed
+pub mod Reaching

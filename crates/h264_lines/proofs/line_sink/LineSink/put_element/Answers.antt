@@ -1,0 +1,24 @@
+use Rattle.std.proofs.Common.{◌≡◌, ℤ, List, ℕ, OnOk, string_bytes, subst, w64, ◌+◌, ap, arith}
+use Rattle.std.proofs.lemmas.Int.{to_z-of_z}
+use Rattle.h264_base.specs.Call.{OfElement}
+use Rattle.h264_lines.specs.Objects.{opening_of, element_in}
+use Rattle.h264_lines.specs.Told.{line_of, counted}
+use Rattle.h264_lines.proofs.Sinks.{take-line, unsent-line, on-ok, err-map}
+use Rattle.h264_lines.proofs.line_sink.LineSink.put_element.Goals as goal
+
+pub returns-clause-ok : goal.returns-clause-ok
+returns-clause-ok g c start before h =
+    let call = OfElement c.args.name c.args.bit c.args.value in
+    let text : ℤ → List ℕ = λ z. element_in (opening_of c.args.self.now.form) c.args.name c.args.bit z in
+    let same : c.put_line.new.self.frames ≡ c.args.self.now.frames + counted c.args.self.now.listing call =
+    let e = c.put_line.ensures.frames in let d = ap (λ l. counted l call) c.requires.listing in omega (arith, e, d) in
+    rw (c.put_line.ensures.form, c.put_line.ensures.listing)
+    (on-ok c.put_line.result (λ b s. take-line call (ap (λ l. line_of (opening_of c.args.self.now.form) l c.args.self.now.frames call) c.requires.listing)
+    c.requires.whole same h s b) c.put_line.ensures.blamed
+    (c.put_line.ensures.ok _ (subst (λ z. OnOk c.put_element-made.result (string_bytes c.put_element-made.new.text ≡ text z))
+    (to_z-of_z w64 c.args.value c.ranges.value) c.put_element-made.ensures)))
+
+pub returns-clause-refused : goal.returns-clause-refused
+returns-clause-refused g c start before h =
+    err-map c.put_line.result (λ u. unsent-line (ap opening_of c.put_line.ensures.form) c.put_line.ensures.listing c.put_line.ensures.frames u.0
+    (ap g.W.Device.has_failed u.1) (ap g.W.Device.contents u.1) h) c.put_line.ensures.unsent

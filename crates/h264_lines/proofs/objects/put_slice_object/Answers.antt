@@ -1,0 +1,6 @@
+use Rattle.std.proofs.Common.{w32}
+use Rattle.std.proofs.lemmas.Int.{to_z-of_z}
+use Rattle.h264_lines.proofs.objects.put_slice_object.Goals as goal
+
+pub returns : goal.returns
+returns c = rw (to_z-of_z w32 c.args.count c.ranges.count, c.clear.ensures.bytes, c.type_text-kind.ensures) at c.in_ok-write.ensures.bytes

@@ -1,0 +1,10 @@
+pub mod Lines
+pub mod Objects
+pub mod Sent
+pub mod Rows
+pub mod Frames
+pub mod Told
+pub mod Trail
+pub mod Y4m
+pub mod Chosen
+pub mod Answer

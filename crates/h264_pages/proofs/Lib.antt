@@ -1,0 +1,4 @@
+pub mod Entries
+pub mod Choosing
+pub mod Surveying
+pub mod Growing

@@ -1,0 +1,78 @@
+-- Texts that are made piece by piece, and the fields of a verdict's object. To be read beside docs/OUTPUT.md.
+use Rattle.std.specs.Prelude.{◌≡◌, ℕ, Bool, false, List, [], ◌++◌, codes, string_bytes, Result, Ok, Err}
+use Rattle.std.specs.Fmt.{decimal}
+use Rattle.h264_base.specs.declared.stop.Stop.{Stop}
+use Rattle.h264_base.specs.declared.stop.Stop.TheVariants.{No, Outside, Memory, Read, Write}
+use Rattle.h264_base.specs.Rule.{label_of, clause_of}
+use Rattle.h264_base.specs.Feature.{text_of}
+use Rattle.h264_pages.specs.Json.{escaped}
+use Rattle.h264_lines.specs.Answer.{answer_status}
+use Rattle.h264_pages.specs.declared.pages.page.Page.{Page}
+use Rattle.h264_base.specs.declared.summary.Summary.{Summary}
+
+-- what stands on a page
+abbrev pub text_on : Page → List ℕ
+text_on page = string_bytes page.text
+
+-- memory was wanting for a part of it
+abbrev pub is_cut : Page → Bool
+is_cut page = page.is_short
+
+-- This text was added to a page, unless memory was wanting.
+abbrev pub Adds : Page → Page → List ℕ → Type 0
+Adds old new text = is_cut new ≡ false → (is_cut old ≡ false) × (text_on new ≡ text_on old ++ text)
+
+-- This text was added to it, and maybe more after it.
+abbrev pub AddsFirst : Page → Page → List ℕ → Type 0
+AddsFirst old new text = is_cut new ≡ false → (is_cut old ≡ false) × ((more : List ℕ) × (text_on new ≡ text_on old ++ (text ++ more)))
+
+-- Some text was added to it, or none.
+abbrev pub Grows : Page → Page → Type 0
+Grows old new = is_cut new ≡ false → (is_cut old ≡ false) × ((text : List ℕ) × (text_on new ≡ text_on old ++ text))
+
+-- ---- fields of JSON
+
+-- "TEXT", escaped
+abbrev pub quoted : List ℕ → List ℕ
+quoted text = codes "\"" ++ (escaped text ++ codes "\"")
+
+-- ,"NAME":
+abbrev pub named : List ℕ → List ℕ
+named name = codes "," ++ (quoted name ++ codes ":")
+
+-- ,"NAME":N
+abbrev pub number_field : List ℕ → ℕ → List ℕ
+number_field name value = named name ++ decimal value
+
+-- ,"NAME":"TEXT"
+abbrev pub text_field : List ℕ → List ℕ → List ℕ
+text_field name value = named name ++ quoted value
+
+-- ---- the object of a verdict
+
+-- its word
+abbrev pub word_text : Result Summary Stop → List ℕ
+word_text (Ok summary) = codes "yes"
+word_text (Err (No bit rule)) = codes "no"
+word_text (Err (Outside bit feature)) = codes "outside"
+word_text (Err Memory) = codes "memory"
+word_text (Err Read) = codes "read failed"
+word_text (Err Write) = codes "write failed"
+
+-- of a yes the counts, of a no the rule with its clause, of an outside the feature
+abbrev pub found_fields : Result Summary Stop → List ℕ
+found_fields (Ok summary) =
+    number_field (codes "units") summary.units ++ (number_field (codes "pictures") summary.pictures ++ number_field (codes "frames") summary.frames)
+found_fields (Err (No bit rule)) = text_field (codes "rule") (label_of rule) ++ text_field (codes "clause") (clause_of rule)
+found_fields (Err (Outside bit feature)) = text_field (codes "feature") (text_of feature)
+found_fields (Err Memory) = []
+found_fields (Err Read) = []
+found_fields (Err Write) = []
+
+-- the fields of an answer
+abbrev pub answer_fields : Result Summary Stop → List ℕ
+answer_fields answer = text_field (codes "verdict") (word_text answer) ++ (number_field (codes "status") (answer_status answer) ++ found_fields answer)
+
+-- the kind of the object, and the fields of an answer
+abbrev pub verdict_fields : Result Summary Stop → List ℕ
+verdict_fields answer = text_field (codes "kind") (codes "verdict") ++ answer_fields answer

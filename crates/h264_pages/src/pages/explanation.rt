@@ -1,0 +1,134 @@
+//! The lines that explain a no or an outside.
+#![tactic(auto)]
+
+use crate::pages::allowed::put_allowed;
+use crate::pages::finding::{Answer, Finding, Guide, Reason};
+use crate::pages::page::Page;
+use crate::survey::Survey;
+use h264_base::Stop;
+use h264_lines::trail::Element;
+use std::alloc::Global;
+
+/// Adds a number with its name before it, where there is one.
+fn put_named(page: &mut Page, name: &str, value: Option<u64>) {
+    if let Some(value) = value {
+        page.put(name);
+        page.number(value);
+    }
+}
+
+/// Adds the lines of the place: bit and byte, picture and slice, macroblock.
+fn put_place(page: &mut Page, survey: &Survey, finding: &Finding) {
+    page.put("explain bit ");
+    page.number(finding.bit);
+    page.put(" byte ");
+    page.number(finding.byte());
+    if let Some(unit) = survey.unit {
+        page.put(" unit ");
+        page.number(unit.byte);
+        page.put(" type ");
+        page.number(u64::from(unit.nal_unit_type.number()));
+    }
+    page.put("\n");
+    if let Some(picture) = finding.picture {
+        page.put("explain picture ");
+        page.number(picture);
+        put_named(page, " frame ", finding.frame_num);
+        put_named(page, " slice ", finding.slice);
+        page.put("\n");
+    }
+    if let Some(macroblock) = finding.macroblock {
+        page.put("explain macroblock ");
+        page.number(macroblock.address);
+        page.put(" column ");
+        page.number(macroblock.column);
+        page.put(" row ");
+        page.number(macroblock.row);
+        page.put("\n");
+    }
+}
+
+/// Adds a line with an element, its bit and its value.
+fn put_element(page: &mut Page, word: &str, element: Element) {
+    page.put(word);
+    page.put(element.name.text());
+    page.put(" bit ");
+    page.number(element.bit);
+    page.put(" value ");
+    page.signed(element.value);
+    page.put("\n");
+}
+
+/// Adds the line of what was found: the element at the bit; else the one that was read last.
+fn put_found(page: &mut Page, finding: &Finding) {
+    if let Some(element) = finding.element {
+        put_element(page, "explain found ", element);
+    } else if let Some(element) = finding.last {
+        put_element(page, "explain after ", element);
+    }
+}
+
+/// Adds the line of what is allowed, where there is something to say.
+fn put_allowed_line(
+    alloc: Global,
+    page: &mut Page,
+    answer: Answer,
+    survey: &Survey,
+    finding: &Finding,
+) {
+    if let Err(Stop::No { rule, .. }) = answer {
+        let mut allowed = Page::new(alloc);
+        put_allowed(&mut allowed, rule, survey, finding);
+        if allowed.as_str() != "" {
+            page.put("explain allowed ");
+            page.put(allowed.as_str());
+            page.put("\n");
+        }
+    }
+}
+
+/// Adds the line of the reason, where there is one.
+fn put_reason(page: &mut Page, reason: Option<Reason>) {
+    match reason {
+        Some(Reason::Container(container)) => {
+            page.put("explain reason container ");
+            page.put(container.name());
+            page.put("\n");
+        }
+        Some(Reason::Hevc) => page.put("explain reason hevc\n"),
+        Some(Reason::OtherProfile(name)) => {
+            page.put("explain reason other-profile ");
+            page.put(name);
+            page.put("\n");
+        }
+        None => {}
+    }
+}
+
+/// Adds the lines that explain an answer: none for a yes, and for an answer of memory or a device.
+pub fn put_explanation(
+    alloc: Global,
+    page: &mut Page,
+    answer: Answer,
+    survey: &Survey,
+    finding: Option<Finding>,
+    guide: Option<Guide<'_>>,
+) {
+    let Some(finding) = finding else {
+        return;
+    };
+    put_place(page, survey, &finding);
+    put_found(page, &finding);
+    put_allowed_line(alloc, page, answer, survey, &finding);
+    if let Some(guide) = guide {
+        page.put("explain rule ");
+        page.put(guide.breaks);
+        page.put("\nexplain cause ");
+        page.put(guide.cause);
+        page.put("\n");
+    }
+    put_reason(page, finding.reason);
+    if finding.ends_in_unit {
+        page.put("explain end the input ends in this unit\n");
+    }
+}

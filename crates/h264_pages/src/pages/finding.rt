@@ -1,0 +1,193 @@
+//! Where a verdict stands, and what was found there.
+#![tactic(auto)]
+
+use crate::pages::container::{Container, Start};
+use crate::pages::profile::profile_of;
+use crate::survey::Survey;
+use h264_base::{ElementName, Rule, Stop, Summary};
+use h264_lines::trail::Element;
+
+/// What a judgement answered.
+pub type Answer = Result<Summary, Stop>;
+
+/// What is said to a reader of the rule or feature that stopped a judgement.
+#[derive(Clone, Copy)]
+pub struct Guide<'a> {
+    /// What breaks the rule, or what is not judged.
+    pub breaks: &'a str,
+    /// What usually causes it, or what to do.
+    pub cause: &'a str,
+}
+
+/// A macroblock by its address, and its place in macroblocks from the upper left.
+#[derive(Clone, Copy)]
+pub struct Macroblock {
+    pub address: u64,
+    pub column: u64,
+    pub row: u64,
+}
+
+/// Why an input is no stream for this program, beside the rule that it breaks.
+#[derive(Clone, Copy, PartialEq, Eq)]
+pub enum Reason {
+    /// It is a file that holds streams.
+    Container(Container),
+    /// It is a byte stream of H.265.
+    Hevc,
+    /// It is of another profile, by this name.
+    OtherProfile(&'static str),
+}
+
+/// Where a no or an outside stands.
+#[derive(Clone, Copy)]
+pub struct Finding {
+    /// The bit of the input that the verdict names.
+    pub bit: u64,
+    /// The number of the picture in decoding order, from 0.
+    pub picture: Option<u64>,
+    pub frame_num: Option<u64>,
+    /// The number of the slice in its picture, from 0.
+    pub slice: Option<u64>,
+    pub macroblock: Option<Macroblock>,
+    /// The element that begins at the bit.
+    pub element: Option<Element>,
+    /// The element that was read last.
+    pub last: Option<Element>,
+    /// Whether the input ends in the unit.
+    pub ends_in_unit: bool,
+    pub reason: Option<Reason>,
+}
+
+/// The bits of a byte.
+const BITS_A_BYTE: u64 = 8;
+
+impl Reason {
+    /// Its name in the field `reason`.
+    pub fn name(self) -> &'static str {
+        match self {
+            Reason::Container(_) => "container",
+            Reason::Hevc => "hevc",
+            Reason::OtherProfile(_) => "other-profile",
+        }
+    }
+
+    /// Why an input with these first bytes and this survey is no stream for this program, if it broke this rule.
+    fn of(rule: Rule, survey: &Survey, start: &Start) -> Option<Reason> {
+        if let Some(container) = start.container() {
+            return Some(Reason::Container(container));
+        }
+        if start.is_hevc() {
+            return Some(Reason::Hevc);
+        }
+        if rule == Rule::Profile {
+            if let Some(set) = survey.sequence() {
+                return Some(Reason::OtherProfile(profile_of(&set)));
+            }
+        }
+        None
+    }
+}
+
+/// The rule that an answer names.
+fn rule_of(answer: Answer) -> Option<Rule> {
+    match answer {
+        Err(Stop::No { rule, .. }) => Some(rule),
+        _ => None,
+    }
+}
+
+/// The bit that an answer names.
+fn bit_of(answer: Answer) -> Option<u64> {
+    match answer {
+        Err(Stop::No { bit, .. }) => Some(bit),
+        Err(Stop::Outside { bit, .. }) => Some(bit),
+        _ => None,
+    }
+}
+
+/// The macroblock of an address in a frame of this width in macroblocks.
+fn macroblock_of(address: u64, width: u64) -> Macroblock {
+    if width == 0 {
+        return Macroblock {
+            address,
+            column: 0,
+            row: 0,
+        };
+    }
+    Macroblock {
+        address,
+        column: address % width,
+        row: address / width,
+    }
+}
+
+/// The macroblock that was begun last in the slice that is read.
+fn macroblock_read(survey: &Survey) -> Option<Macroblock> {
+    let address = survey.macroblock()?;
+    let set = survey.sequence()?;
+    Some(macroblock_of(address, set.width))
+}
+
+/// The number of the picture that is read. A first_mb_in_slice of 0 that is refused begins none.
+fn picture_read(survey: &Survey, rule: Option<Rule>) -> Option<u64> {
+    let begun = survey.picture_count();
+    if rule == Some(Rule::Incomplete) {
+        return begun.checked_sub(1);
+    }
+    let slice = survey.slice?;
+    let refused = rule == Some(Rule::FirstMb) && slice.first_mb_in_slice == 0;
+    begun.checked_sub(if refused { 2 } else { 1 })
+}
+
+/// The frame_num of the slice that is read.
+fn frame_num_read(survey: &Survey) -> Option<u64> {
+    let slice = survey.slice?;
+    slice.frame_num
+}
+
+/// The number of the slice that is read.
+fn slice_read(survey: &Survey) -> Option<u64> {
+    if survey.slice.is_none() {
+        return None;
+    }
+    match survey.pictures.list.last() {
+        Some(picture) => Some(picture.slices.saturating_sub(1)),
+        None => Some(0),
+    }
+}
+
+impl Finding {
+    /// Where an answer stands, if it is a no or an outside. `ended` says whether the source had ended when the unit was judged.
+    pub fn of(answer: Answer, survey: &Survey, start: &Start, ended: bool) -> Option<Finding> {
+        let bit = bit_of(answer)?;
+        let rule = rule_of(answer);
+        let reason = match rule {
+            Some(rule) => Reason::of(rule, survey, start),
+            None => None,
+        };
+        Some(Finding {
+            bit,
+            picture: picture_read(survey, rule),
+            frame_num: frame_num_read(survey),
+            slice: slice_read(survey),
+            macroblock: macroblock_read(survey),
+            element: survey.element_at(bit),
+            last: survey.last_element(),
+            ends_in_unit: ended && survey.unit.is_some(),
+            reason,
+        })
+    }
+
+    /// The byte of the input with that bit.
+    pub fn byte(&self) -> u64 {
+        self.bit / BITS_A_BYTE
+    }
+
+    /// The name of the element at the bit.
+    pub fn element_name(&self) -> Option<ElementName> {
+        match self.element {
+            Some(element) => Some(element.name),
+            None => None,
+        }
+    }
+}

@@ -1,0 +1,194 @@
+//! The fields of JSON of a verdict.
+#![tactic(auto)]
+
+ghost use Rattle.std.specs.Prelude.{◌≡◌, ◌++◌, codes};
+ghost use Rattle.h264_pages.specs.Pages.{word_text, found_fields, answer_fields, Adds, AddsFirst, Grows};
+ghost use Rattle.h264_pages.specs.Pages as pages;
+
+use crate::pages::allowed::put_allowed;
+use crate::pages::finding::{Answer, Finding, Guide, Reason};
+use crate::pages::page::Page;
+use crate::survey::Survey;
+use h264_base::{Stop, Summary};
+use h264_lines::answer::answer_status;
+use h264_lines::trail::Element;
+use std::alloc::Global;
+
+/// The word of an answer in the field `verdict`.
+fn word_of(answer: Answer) -> &'static str
+    ensures { result.now ≡ word_text answer }
+{
+    match answer {
+        Ok(_) => "yes",
+        Err(Stop::No { .. }) => "no",
+        Err(Stop::Outside { .. }) => "outside",
+        Err(Stop::Memory) => "memory",
+        Err(Stop::Read) => "read failed",
+        Err(Stop::Write) => "write failed",
+    }
+}
+
+/// Adds the counts of a yes.
+fn put_summary(page: &mut Page, summary: Summary)
+    ensures { Adds page.old page.new (pages.number_field (codes "units") summary.units ++ (pages.number_field (codes "pictures") summary.pictures
+        ++ pages.number_field (codes "frames") summary.frames)) }
+{
+    page.number_field("units", summary.units);
+    page.number_field("pictures", summary.pictures);
+    page.number_field("frames", summary.frames);
+}
+
+/// Adds of a yes the counts, of a no the rule with its clause, of an outside the feature.
+fn put_found(page: &mut Page, answer: Answer)
+    ensures { Adds page.old page.new (found_fields answer) }
+{
+    match answer {
+        Ok(summary) => put_summary(page, summary),
+        Err(Stop::No { rule, .. }) => {
+            page.text_field("rule", rule.label());
+            page.text_field("clause", rule.clause());
+        }
+        Err(Stop::Outside { feature, .. }) => page.text_field("feature", feature.text()),
+        Err(_) => {}
+    }
+}
+
+/// Adds the fields of an answer: its word and exit status; of a yes the counts, of a no the rule, of an outside the feature.
+pub fn put_answer_fields(page: &mut Page, answer: Answer)
+    ensures { Adds page.old page.new (answer_fields answer) }
+{
+    page.text_field("verdict", word_of(answer));
+    page.number_field("status", u64::from(answer_status(answer)));
+    put_found(page, answer);
+}
+
+/// Adds the fields of an element.
+fn put_element(page: &mut Page, element: Element)
+    ensures { Grows page.old page.new }
+{
+    page.text_field("element", element.name.text());
+    page.signed_field("value", element.value);
+}
+
+/// Adds the fields of the reason.
+fn put_reason(page: &mut Page, reason: Reason)
+    ensures { Grows page.old page.new }
+{
+    page.text_field("reason", reason.name());
+    match reason {
+        Reason::Container(container) => page.text_field("container", container.name()),
+        Reason::OtherProfile(name) => page.text_field("profile", name),
+        Reason::Hevc => {}
+    }
+}
+
+/// Adds the fields of a bit and of the unit that it is in.
+fn put_bit(page: &mut Page, survey: &Survey, finding: &Finding)
+    ensures { Grows page.old page.new }
+{
+    page.number_field("bit", finding.bit);
+    page.number_field("byte", finding.byte());
+    if let Some(unit) = survey.unit {
+        page.number_field("unit", unit.byte);
+        page.number_field("nal_unit_type", u64::from(unit.nal_unit_type.number()));
+    }
+}
+
+/// Adds the fields of a picture, a slice and a macroblock.
+fn put_picture(page: &mut Page, finding: &Finding)
+    ensures { Grows page.old page.new }
+{
+    page.maybe_field("picture", finding.picture);
+    page.maybe_field("frame_num", finding.frame_num);
+    page.maybe_field("slice", finding.slice);
+    if let Some(macroblock) = finding.macroblock {
+        page.number_field("macroblock", macroblock.address);
+        page.number_field("column", macroblock.column);
+        page.number_field("row", macroblock.row);
+    }
+}
+
+/// Adds the fields of the element that breaks a rule, or of the last one before.
+fn put_element_found(page: &mut Page, finding: &Finding)
+    ensures { Grows page.old page.new }
+{
+    if let Some(element) = finding.element {
+        put_element(page, element);
+    } else if let Some(element) = finding.last {
+        page.text_field("after", element.name.text());
+    }
+}
+
+/// Adds the fields of the place and of what was found there.
+fn put_finding(page: &mut Page, survey: &Survey, finding: &Finding)
+    ensures { Grows page.old page.new }
+{
+    put_bit(page, survey, finding);
+    put_picture(page, finding);
+    put_element_found(page, finding);
+    page.bool_field("ends_in_unit", finding.ends_in_unit);
+    if let Some(reason) = finding.reason {
+        put_reason(page, reason);
+    }
+}
+
+/// Adds the field of what is allowed, where there is something to say.
+fn put_allowed_field(
+    alloc: Global,
+    page: &mut Page,
+    answer: Answer,
+    survey: &Survey,
+    finding: &Finding,
+)
+    ensures { Grows page.old page.new }
+{
+    if let Err(Stop::No { rule, .. }) = answer {
+        let mut allowed = Page::new(alloc);
+        put_allowed(&mut allowed, rule, survey, finding);
+        if allowed.as_str() != "" {
+            page.text_field("allowed", allowed.as_str());
+        }
+    }
+}
+
+/// Adds the fields of where a verdict stands, what was found there, and what is allowed.
+fn put_place(
+    alloc: Global,
+    page: &mut Page,
+    answer: Answer,
+    survey: &Survey,
+    finding: Option<Finding>,
+)
+    ensures { Grows page.old page.new }
+{
+    if let Some(finding) = finding {
+        put_finding(page, survey, &finding);
+        put_allowed_field(alloc, page, answer, survey, &finding);
+    }
+}
+
+/// Adds the fields of what is said of the rule or feature.
+fn put_guide(page: &mut Page, guide: Guide<'_>)
+    ensures { Grows page.old page.new }
+{
+    page.text_field("breaks", guide.breaks);
+    page.text_field("cause", guide.cause);
+}
+
+/// Adds the fields of a verdict: the answer, where it stands and what was found there, and what is said of it to a reader.
+pub fn put_verdict_fields(
+    alloc: Global,
+    page: &mut Page,
+    answer: Answer,
+    survey: &Survey,
+    finding: Option<Finding>,
+    guide: Option<Guide<'_>>,
+)
+    ensures { AddsFirst page.old page.new (answer_fields answer) }
+{
+    put_answer_fields(page, answer);
+    put_place(alloc, page, answer, survey, finding);
+    if let Some(guide) = guide {
+        put_guide(page, guide);
+    }
+}

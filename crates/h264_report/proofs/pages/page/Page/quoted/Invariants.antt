@@ -1,7 +1,0 @@
-use Rattle.std.proofs.Common.{flat_map, ◌++◌, codes}
-use Rattle.h264_report.specs.Pages.{Adds}
-use Rattle.h264_report.specs.Json.{escaped_character}
-use Rattle.h264_report.proofs.pages.page.Page.quoted.Given as goal
-
-abbrev pub invariant-loop-c : goal.invariant-loop-c
-invariant-loop-c l = Adds l.fn.self l.self (codes "\"" ++ flat_map escaped_character l.yielded)

@@ -1,6 +1,0 @@
-use Rattle.std.proofs.Common.{take}
-use Rattle.h264_report.specs.Entries.{HaveOtherLabels}
-use Rattle.h264_report.proofs.rules.find_labelled.Given as goal
-
-abbrev pub invariant-loop-entry : goal.invariant-loop-entry
-invariant-loop-entry l = HaveOtherLabels l.label (take l.entry-index l.entries)

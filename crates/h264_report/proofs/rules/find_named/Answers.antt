@@ -1,8 +1,0 @@
-use Rattle.std.proofs.Common.{sym, ◌∙◌}
-use Rattle.std.specs.Cmp.Lexicographic.{other_text}
-use Rattle.h264_report.proofs.Entries.{one_more_name}
-use Rattle.h264_report.proofs.rules.find_named.Goals as goal
-
-pub loop-entry-preserved : goal.loop-entry-preserved
-loop-entry-preserved c = one_more_name _ _ c.loop-entry.entry-index _ c.loop-entry.invariant
-    (λ h. other_text _ _ (sym (sym c.eq.ensures ∙ c.if-eq.false)) (c.text.ensures ∙ h))

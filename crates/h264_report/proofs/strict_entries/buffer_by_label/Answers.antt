@@ -1,5 +1,0 @@
-use Rattle.h264_report.proofs.Entries.{buffer-none}
-use Rattle.h264_report.proofs.strict_entries.buffer_by_label.Goals as goal
-
-pub returns-clause-none : goal.returns-clause-none
-returns-clause-none c = buffer-none _ c.find_further.result c.args.label.now c.find_further.ensures.none

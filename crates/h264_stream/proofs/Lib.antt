@@ -1,0 +1,4 @@
+pub mod Queued
+pub mod Decoded
+pub mod Givens
+pub mod Accounting

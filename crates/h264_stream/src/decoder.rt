@@ -1,0 +1,199 @@
+//! A stream that is decoded as it comes, with its frames in a queue.
+#![tactic(auto)]
+
+ghost use Rattle.std.specs.Prelude.{◌≡◌, ℕ, ◌+◌, ◌-◌, ◌^◌, ◌⊎◌, List, [], ◌∷◌, ◌++◌, Result, IfOk, IfErr, OnOk, OnErr, IfSome, IfNone, Some, Ok, Err};
+ghost use Rattle.h264_base.specs.declared.stop.Stop.{Stop};
+ghost use Rattle.h264_verify.specs.Units.{terms_of};
+ghost use Rattle.h264_base.specs.declared.summary.Summary.{Summary};
+ghost use Rattle.h264_verify.specs.declared.state.Terms.{Terms};
+ghost use Rattle.h264_stream.specs.Queue.{told_of_frames};
+ghost use Rattle.h264_stream.specs.Decoding.{IsDecoding, HasDecoded, HasGrown};
+
+use crate::filling::{Before, Filling};
+use crate::queue::{FrameQueue, ShownFrame};
+use h264_base::{Mode, Stop, Target};
+use h264_lines::answer::told_answer;
+use h264_verify::{Session, Summary};
+use std::alloc::Global;
+use std::marker::Brand;
+use std::mem;
+
+/// Judges the next piece of a stream, and puts its frames into a queue: the queue, and the answer where one is known.
+fn feed<K: Before>(
+    session: &mut Session,
+    piece: &[u8],
+    queue: FrameQueue,
+) -> (FrameQueue, Option<Result<Summary, Stop>>)
+    requires handed_out { queue.handed_out ≡ K.handed_out }
+    requires waiting { told_of_frames queue.waiting.items ≡ K.waiting }
+    ensures goes { (terms : Terms) (bytes : List ℕ) → IsDecoding terms session.old bytes queue.handed_out queue.waiting.items →
+        IfNone result.1 (IsDecoding terms session.new (bytes ++ piece.now) result.0.handed_out result.0.waiting.items) }
+    ensures answers { (terms : Terms) (bytes : List ℕ) → IsDecoding terms session.old bytes queue.handed_out queue.waiting.items →
+        IfSome result.1 (λ answer. (later : List ℕ) →
+        HasDecoded terms ((bytes ++ piece.now) ++ later) answer result.0.handed_out result.0.waiting.items) }
+    ensures grows { (terms : Terms) (bytes : List ℕ) → IsDecoding terms session.old bytes queue.handed_out queue.waiting.items →
+        HasGrown queue.handed_out queue.waiting.items result.0.handed_out result.0.waiting.items }
+{
+    let mut sink: Filling<K> = Filling::new(queue);
+    let fed = session.feed(piece, &mut sink);
+    let filled = sink.into_queue();
+    match fed {
+        Ok(()) => (filled, None),
+        Err(stop) => (filled, Some(told_answer(Err(stop), false))),
+    }
+}
+
+/// Judges the end of a stream, and puts its last frames into a queue: the queue, and the answer.
+fn conclude<K: Before>(session: Session, queue: FrameQueue) -> (FrameQueue, Result<Summary, Stop>)
+    requires handed_out { queue.handed_out ≡ K.handed_out }
+    requires waiting { told_of_frames queue.waiting.items ≡ K.waiting }
+    ensures answers { (terms : Terms) (bytes : List ℕ) → IsDecoding terms session bytes queue.handed_out queue.waiting.items →
+        HasDecoded terms bytes result.1 result.0.handed_out result.0.waiting.items }
+    ensures grows { (terms : Terms) (bytes : List ℕ) → IsDecoding terms session bytes queue.handed_out queue.waiting.items →
+        HasGrown queue.handed_out queue.waiting.items result.0.handed_out result.0.waiting.items }
+{
+    let mut sink: Filling<K> = Filling::new(queue);
+    let answer = told_answer(session.finish(&mut sink), false);
+    (sink.into_queue(), answer)
+}
+
+/// Judges the next piece of a stream, and puts its frames into a queue: the answer where one is known.
+fn feed_queue(
+    session: &mut Session,
+    piece: &[u8],
+    queue: &mut FrameQueue,
+) -> Option<Result<Summary, Stop>>
+    ensures goes { (terms : Terms) (bytes : List ℕ) → IsDecoding terms session.old bytes queue.old.handed_out queue.old.waiting.items →
+        IfNone result (IsDecoding terms session.new (bytes ++ piece.now) queue.new.handed_out queue.new.waiting.items) }
+    ensures answers { (terms : Terms) (bytes : List ℕ) → IsDecoding terms session.old bytes queue.old.handed_out queue.old.waiting.items →
+        IfSome result (λ answer. (later : List ℕ) →
+        HasDecoded terms ((bytes ++ piece.now) ++ later) answer queue.new.handed_out queue.new.waiting.items) }
+    ensures grows { (terms : Terms) (bytes : List ℕ) → IsDecoding terms session.old bytes queue.old.handed_out queue.old.waiting.items →
+        HasGrown queue.old.handed_out queue.old.waiting.items queue.new.handed_out queue.new.waiting.items }
+{
+    let (filled, answer) = feed::<Brand>(session, piece, queue.take_all());
+    *queue = filled;
+    answer
+}
+
+/// Judges the end of a stream, and puts its last frames into a queue: the answer.
+fn conclude_queue(session: Session, queue: &mut FrameQueue) -> Result<Summary, Stop>
+    ensures answers { (terms : Terms) (bytes : List ℕ) → IsDecoding terms session bytes queue.old.handed_out queue.old.waiting.items →
+        HasDecoded terms bytes result queue.new.handed_out queue.new.waiting.items }
+    ensures grows { (terms : Terms) (bytes : List ℕ) → IsDecoding terms session bytes queue.old.handed_out queue.old.waiting.items →
+        HasGrown queue.old.handed_out queue.old.waiting.items queue.new.handed_out queue.new.waiting.items }
+{
+    let (filled, answer) = conclude::<Brand>(session, queue.take_all());
+    *queue = filled;
+    answer
+}
+
+/// How far a decoder is.
+#[derive(Drop)]
+pub enum Standing {
+    /// The stream is judged so far.
+    Running(Session),
+    /// The answer is known.
+    Fallen(Result<Summary, Stop>),
+}
+
+/// A stream that is decoded as it comes, and its frames, which wait until they are taken.
+///
+/// Each frame is copied once, when it is due, into the memory of one that was given back where there is one. The answer is the verdict of the bytes
+/// that were given; or Memory, where memory was refused to the session or to a frame. It is never Read or Write. Once it is known each call answers it
+/// again, and changes nothing.
+#[derive(Drop)]
+pub struct Decoder {
+    standing: Standing,
+    queue: FrameQueue,
+}
+
+impl Decoder {
+    ghost use Rattle.std.specs.Prelude.{◌≤◌, vec_len, vec_capacity};
+    ghost use Rattle.h264_stream.specs.Given.{IsGiven, HasAnswered};
+    ghost use Rattle.h264_stream.specs.declared.decoder.Standing.TheVariants.{Fallen};
+
+    /// A decoder before the first byte, of a stream that is judged so far and for this target. Memory: it was refused.
+    pub fn new(alloc: Global, mode: Mode, target: Target) -> Result<Decoder, Stop>
+        ensures given { IfOk result (λ d. IsGiven (terms_of mode target) d []) }
+        ensures handed_out { IfOk result (λ d. d.queue.handed_out ≡ 0) }
+        ensures err { IfErr result (λ e. e ≡ Stop.Memory) }
+    {
+        let session = Session::new(alloc, mode, target)?;
+        Ok(Decoder {
+            standing: Standing::Running(session),
+            queue: FrameQueue::new(alloc),
+        })
+    }
+
+    /// Decodes the next bytes. None: the stream goes on. Else the answer, however it goes on.
+    pub fn send(&mut self, piece: &[u8]) -> Option<Result<Summary, Stop>>
+        ensures given { (terms : Terms) (bytes : List ℕ) → IsGiven terms self.old bytes →
+            IfNone result (IsGiven terms self.new (bytes ++ piece.now)) }
+        ensures answered { (terms : Terms) (bytes : List ℕ) → IsGiven terms self.old bytes →
+            IfSome result (λ answer. (later : List ℕ) → HasAnswered terms self.new ((bytes ++ piece.now) ++ later) answer) }
+        // No frame is handed out, and what waited comes first.
+        ensures grows { (terms : Terms) (bytes : List ℕ) → IsGiven terms self.old bytes →
+            HasGrown self.old.queue.handed_out self.old.queue.waiting.items self.new.queue.handed_out self.new.queue.waiting.items }
+        ensures again { (answer : Result Summary Stop) → self.old.standing ≡ Fallen answer → (result ≡ Some answer) × (self.new ≡ self.old) }
+    {
+        let answer = match &mut self.standing {
+            Standing::Fallen(answer) => return Some(*answer),
+            Standing::Running(session) => match feed_queue(session, piece, &mut self.queue) {
+                None => return None,
+                Some(answer) => answer,
+            },
+        };
+        self.standing = Standing::Fallen(answer);
+        Some(answer)
+    }
+
+    /// Decodes the end of the stream: the answer to all that was given.
+    pub fn finish(&mut self) -> Result<Summary, Stop>
+        ensures answered { (terms : Terms) (bytes : List ℕ) → IsGiven terms self.old bytes → HasAnswered terms self.new bytes result }
+        ensures grows { (terms : Terms) (bytes : List ℕ) → IsGiven terms self.old bytes →
+            HasGrown self.old.queue.handed_out self.old.queue.waiting.items self.new.queue.handed_out self.new.queue.waiting.items }
+        ensures again { (answer : Result Summary Stop) → self.old.standing ≡ Fallen answer → (result ≡ answer) × (self.new ≡ self.old) }
+    {
+        let open = mem::replace(&mut self.standing, Standing::Fallen(Err(Stop::Memory)));
+        match open {
+            Standing::Fallen(answer) => {
+                self.standing = Standing::Fallen(answer);
+                return answer;
+            }
+            Standing::Running(session) => {
+                let answer = conclude_queue(session, &mut self.queue);
+                self.standing = Standing::Fallen(answer);
+                return answer;
+            }
+        }
+    }
+
+    /// The next frame in the order of output. None where none waits, or where 2^64 - 1 were taken.
+    pub fn take_frame(&mut self) -> Option<ShownFrame>
+        ensures first { IfSome result (λ frame. self.old.queue.waiting.items ≡ frame ∷ self.new.queue.waiting.items) }
+        ensures counted { IfSome result (λ frame. self.new.queue.handed_out ≡ self.old.queue.handed_out + 1) }
+        ensures none { IfNone result ((self.old.queue.waiting.items ≡ []) ⊎ (self.old.queue.handed_out ≡ 2 ^ 64 - 1)) }
+        ensures kept { IfNone result ((self.new.queue.waiting.items ≡ self.old.queue.waiting.items)
+            × (self.new.queue.handed_out ≡ self.old.queue.handed_out)) }
+        ensures given { (terms : Terms) (bytes : List ℕ) → IsGiven terms self.old bytes → IsGiven terms self.new bytes }
+        ensures answered { (terms : Terms) (bytes : List ℕ) (answer : Result Summary Stop) → HasAnswered terms self.old bytes answer →
+            HasAnswered terms self.new bytes answer }
+    {
+        self.queue.take_frame()
+    }
+
+    /// Takes a frame back that was taken. A later frame is made in its memory. Where memory is refused to the list of what is kept, it is freed.
+    pub fn give_back(&mut self, frame: ShownFrame)
+        ensures waiting { self.new.queue.waiting.items ≡ self.old.queue.waiting.items }
+        ensures handed_out { self.new.queue.handed_out ≡ self.old.queue.handed_out }
+        // Its vector is kept, as the last one; or the list of those that are kept was full, and stays.
+        ensures spare { (self.new.queue.spare.items ≡ self.old.queue.spare.items ++ frame.samples ∷ [])
+            ⊎ ((vec_capacity self.old.queue.spare ≤ vec_len self.old.queue.spare) × (self.new.queue.spare.items ≡ self.old.queue.spare.items)) }
+        ensures given { (terms : Terms) (bytes : List ℕ) → IsGiven terms self.old bytes → IsGiven terms self.new bytes }
+        ensures answered { (terms : Terms) (bytes : List ℕ) (answer : Result Summary Stop) → HasAnswered terms self.old bytes answer →
+            HasAnswered terms self.new bytes answer }
+    {
+        self.queue.give_back(frame);
+    }
+}

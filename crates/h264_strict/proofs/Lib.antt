@@ -1,0 +1,14 @@
+pub mod SeiParts
+pub mod SeiReading
+pub mod SeiListed
+pub mod SeiClosing
+pub mod SeiDelays
+pub mod SeiTold
+pub mod Broken
+pub mod Factors
+pub mod Reading
+pub mod Units
+pub mod Contents
+pub mod BufferWaits
+pub mod BufferNotes
+pub mod StrictEntries
