@@ -3,52 +3,19 @@
 //! `main` hands the arguments, the files and the standard streams to `program`, and the status to the system.
 #![tactic(auto)]
 
-#[cfg(test)]
-mod check_tests;
-mod command;
-mod command_line;
-mod decoding;
-#[cfg(test)]
-mod device_tests;
-mod explaining;
-mod files;
-#[cfg(test)]
-mod frame_tests;
-#[cfg(test)]
-mod header_tests;
-mod job;
-mod listing;
-mod more;
-#[cfg(test)]
-mod more_tests;
-mod options;
-mod outcome;
-#[cfg(test)]
-mod pieces_tests;
-mod program;
 mod progress;
-mod refusal;
-mod reporting;
-#[cfg(test)]
-mod set_tests;
-mod strictly;
-#[cfg(test)]
-mod target_tests;
-mod telling;
-#[cfg(test)]
-mod tests;
-mod words;
 
-use files::{Maker, OpenedFiles, Opener};
-use h264_report::{WriteDevice, put_memory};
-use program::program;
+use h264_command::files::{Maker, OpenedFiles, Opener};
+use h264_command::program::program;
+use h264_command::words::{Words, words_of};
+use h264_lines::WriteDevice;
+use h264_report::put_memory;
 use progress::Progress;
 use std::alloc::Global;
 use std::fs::File;
 use std::io::BufWriter;
 use std::process::ExitCode;
 use std::{fs, io};
-use words::{Words, words_of};
 
 /// The files of the system.
 #[derive(Clone, Copy)]

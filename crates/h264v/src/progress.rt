@@ -1,7 +1,7 @@
 //! How far a judgement has come, told on standard error.
 #![tactic(auto)]
 
-use h264_report::survey::Meter;
+use h264_pages::survey::Meter;
 use std::io::Write;
 use std::time::{Duration, Instant};
 

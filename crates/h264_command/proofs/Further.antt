@@ -1,0 +1,148 @@
+-- The further rules of a file, and what is told of them.
+use Rattle.std.proofs.Common.{◌≡◌, ℕ, ◌+◌, ◌<◌, Bool, true, false, ◌⊎◌, inl, inr, ⊎_elim, List, [], length, take, get_or, Option, Some, None, Result, Ok, Err}
+use Rattle.std.proofs.Common.{OnOk, sym, ap, ◌∙◌, subst, arith}
+use Rattle.std.specs.List.{All}
+use Rattle.std.proofs.lemmas.List.{take_more}
+use Rattle.std.proofs.lemmas.List.Elements.{All-push}
+use Rattle.std.specs.Io.KnownBytes.{Keeps}
+use Rattle.h264_base.specs.Call.{Call, span}
+use Rattle.h264_base.specs.declared.mode.Mode.{Mode}
+use Rattle.h264_base.specs.declared.mode.Target.{Target}
+use Rattle.h264_base.specs.declared.stop.Stop.{Stop}
+use Rattle.h264_base.specs.declared.stop.Stop.TheVariants.{No, Outside, Memory, Read, Write}
+use Rattle.h264_plane.specs.Frames.{no_frame}
+use Rattle.h264_verify.proofs.Accounts.{accounts}
+use Rattle.h264_strict.specs.Strict.{TookStrict}
+use Rattle.h264_strict.specs.StrictUnits.{TellsOfBytes}
+use Rattle.h264_lines.specs.Answer.{told_of}
+use Rattle.h264_strict.specs.declared.strict_rule.StrictRule.{StrictRule}
+use Rattle.h264_strict.specs.declared.strict_rule.StrictRule.TheVariants as rules
+use Rattle.h264_strict.specs.declared.strict_rule.TheConstants.{EVERY_STRICT_RULE}
+use Rattle.h264_verify.specs.Giving.{AreFirst}
+use Rattle.h264_verify.specs.Units.{terms_of}
+use Rattle.h264_verify.specs.Verdict.{Judged as JudgedOf}
+use Rattle.h264_base.specs.declared.summary.Summary.{Summary}
+use Rattle.h264_verify.specs.declared.state.Terms.{Terms}
+use Rattle.h264_command.specs.Further.{AreJudged, BreakOne, IsFound, IsNoVerdict, IsToldOf, TellsBroken, Judged, Unjudged}
+use Rattle.h264_command.specs.declared.job.Done.{Done}
+use Rattle.h264_command.specs.declared.strictly.FurtherRules.{FurtherRules}
+
+-- what holds of every rule by its place holds of each
+pub each : (P : StrictRule → Type 0) → All P EVERY_STRICT_RULE → (rule : StrictRule) → P rule
+each P all rules.ReservedBits = all 0 rules.ReservedBits (omega arith)
+each P all rules.AspectRatio = all 1 rules.AspectRatio (omega arith)
+each P all rules.VideoFormat = all 2 rules.VideoFormat (omega arith)
+each P all rules.ColourPrimaries = all 3 rules.ColourPrimaries (omega arith)
+each P all rules.TransferCharacteristics = all 4 rules.TransferCharacteristics (omega arith)
+each P all rules.MatrixCoefficients = all 5 rules.MatrixCoefficients (omega arith)
+each P all rules.ChromaLocation = all 6 rules.ChromaLocation (omega arith)
+each P all rules.Timing = all 7 rules.Timing (omega arith)
+each P all rules.Restriction = all 8 rules.Restriction (omega arith)
+each P all rules.OperationsExclude = all 9 rules.OperationsExclude (omega arith)
+each P all rules.IdrCount = all 10 rules.IdrCount (omega arith)
+each P all rules.SetRefIdc = all 11 rules.SetRefIdc (omega arith)
+each P all rules.DelimiterFirst = all 12 rules.DelimiterFirst (omega arith)
+each P all rules.FillerFirst = all 13 rules.FillerFirst (omega arith)
+each P all rules.AfterEndOfStream = all 14 rules.AfterEndOfStream (omega arith)
+each P all rules.Level1b = all 15 rules.Level1b (omega arith)
+each P all rules.ReservedConstraint = all 16 rules.ReservedConstraint (omega arith)
+each P all rules.DirectInference = all 17 rules.DirectInference (omega arith)
+each P all rules.LowDelay = all 18 rules.LowDelay (omega arith)
+each P all rules.UnitLength = all 19 rules.UnitLength (omega arith)
+each P all rules.EndFirst = all 20 rules.EndFirst (omega arith)
+each P all rules.LongTermReference = all 21 rules.LongTermReference (omega arith)
+each P all rules.Weights = all 22 rules.Weights (omega arith)
+each P all rules.FrameNumRepeated = all 23 rules.FrameNumRepeated (omega arith)
+each P all rules.CountRepeated = all 24 rules.CountRepeated (omega arith)
+each P all rules.Reorder = all 25 rules.Reorder (omega arith)
+each P all rules.VectorCount = all 26 rules.VectorCount (omega arith)
+each P all rules.FrameRate = all 27 rules.FrameRate (omega arith)
+each P all rules.ScheduleOrder = all 28 rules.ScheduleOrder (omega arith)
+each P all rules.ScheduleLimits = all 29 rules.ScheduleLimits (omega arith)
+each P all rules.CommonFactor = all 30 rules.CommonFactor (omega arith)
+each P all rules.PictureBytes = all 31 rules.PictureBytes (omega arith)
+each P all rules.SeiSizes = all 32 rules.SeiSizes (omega arith)
+each P all rules.DelimiterBits = all 33 rules.DelimiterBits (omega arith)
+each P all rules.FillerBytes = all 34 rules.FillerBytes (omega arith)
+each P all rules.ZeroByte = all 35 rules.ZeroByte (omega arith)
+each P all rules.DelimiterType = all 36 rules.DelimiterType (omega arith)
+each P all rules.SeiContent = all 37 rules.SeiContent (omega arith)
+each P all rules.BufferUnderflow = all 38 rules.BufferUnderflow (omega arith)
+each P all rules.InitialDelay = all 39 rules.InitialDelay (omega arith)
+each P all rules.BufferOverflow = all 40 rules.BufferOverflow (omega arith)
+each P all rules.MinCompression = all 41 rules.MinCompression (omega arith)
+each P all rules.RemovalRate = all 42 rules.RemovalRate (omega arith)
+
+-- what holds of the first of some rules, with one more
+pub one-rule-more : (P : StrictRule → Type 0) (rules : List StrictRule) (i : ℕ) (d : StrictRule) → i < length rules → All P (take i rules) →
+    P (get_or rules i d) → All P (take (i + 1) rules)
+one-rule-more P rules i d inside all one = subst (All P) (sym (take_more rules i d inside)) (All-push P (take i rules) (get_or rules i d) all one)
+
+-- a judgement with the further rules
+pub judged : {S : Type 0} {took : S → List Call → Type 0} {failures : S → ℕ} {s s' : S} (mode whole : Mode) (target : Target) (left : Option (List ℕ))
+    (answer : Result Summary Stop) (further : FurtherRules) →
+    mode ≡ whole → (bytes : List ℕ) (ended : Bool) → AreFirst left bytes ended → OnOk answer (ended ≡ true) →
+    JudgedOf (terms_of mode target) (span took failures s s') bytes (λ k. no_frame) [] answer → took s [] →
+    ((calls : List Call) → took s' calls → TookStrict further.strict calls) →
+    TellsOfBytes further.units.extent ended further.units.found further.units.lack bytes → AreJudged (terms_of whole target) left answer further
+judged mode whole target left answer further is bytes ended first all j none strict units =
+    let a = accounts j none in
+    subst (λ m. AreJudged (terms_of m target) left answer further) is
+    (record { bytes = bytes; ended = ended; first = first; all = all; account = a.0; calls = strict _ a.1; units = units })
+
+-- what is told of an answer, where a device has failed or not
+pub told-as : (failed : Bool) (raw said : Result Summary Stop) → said ≡ told_of failed raw → IsToldOf raw said
+told-as true raw said is = inr (inr (inr is))
+told-as false (Ok summary) said is = inl is
+told-as false (Err (No bit rule)) said is = inl is
+told-as false (Err (Outside bit feature)) said is = inl is
+told-as false (Err Memory) said is = inl is
+told-as false (Err Read) said is = inl is
+told-as false (Err Write) said is = inr (inl is)
+
+-- what is told in the end, where there may have been no memory for it
+pub told-answer : (failed : Bool) (raw said told : Result Summary Stop) → said ≡ told_of failed raw → (told ≡ said) ⊎ (told ≡ Err Memory) → IsToldOf raw told
+told-answer failed raw said told is answer = ⊎_elim (λ e. subst (IsToldOf raw) (sym e) (told-as failed raw said is)) (λ short. inr (inl short)) answer
+
+pub no-verdict : (failed : Bool) (said : Result Summary Stop) → said ≡ told_of failed (Err Memory) → IsNoVerdict said
+no-verdict true said is = inr (inr is)
+no-verdict false said is = inl is
+
+-- what is told of the further rules of a file that was judged
+pub broken-told : (found : Option FurtherRules) (is_asked : Bool) (terms : Terms) (left : Option (List ℕ)) (failed : Bool) (raw said : Result Summary Stop)
+    (done : Done) → IsFound is_asked terms left raw found →
+    said ≡ told_of failed raw → (done.ending.answer ≡ said) ⊎ (done.ending.answer ≡ Err Memory) → (done.is_broken ≡ true → BreakOne found) →
+    (done.is_broken ≡ false → BreakOne found → ⊥) →
+    TellsBroken is_asked terms left done
+broken-told found is_asked terms left failed raw said done h told is broken unbroken =
+    Judged raw found (told-answer failed raw said done.ending.answer told is) h broken unbroken
+
+known-kept : (held left : Option (List ℕ)) → Keeps held left → (known : List ℕ) → held ≡ Some known → left ≡ Some known
+known-kept None left k known e = absurd (let d = e in cc)
+known-kept (Some bytes) None k known e = absurd k
+known-kept (Some bytes) (Some others) k known e = ap Some k ∙ e
+
+found-kept : (is_asked : Bool) (terms : Terms) (held left : Option (List ℕ)) (answer : Result Summary Stop) (found : Option FurtherRules) → Keeps held left →
+    IsFound is_asked terms left answer found → IsFound is_asked terms held answer found
+found-kept false terms held left answer found k h = h
+found-kept true terms held left answer found k h =
+    let j = h.2 in (
+      h.0,
+      h.1,
+      record {
+        bytes = j.bytes;
+        ended = j.ended;
+        first = λ known e. j.first known (known-kept held left k known e);
+        all = j.all;
+        account = j.account;
+        calls = j.calls;
+        units = j.units;
+      },
+    )
+
+-- what is told of an open file is told of what the file of its name holds
+pub broken-kept : (is_asked : Bool) (terms : Terms) (held left : Option (List ℕ)) (done : Done) → Keeps held left → TellsBroken is_asked terms left done →
+    TellsBroken is_asked terms held done
+broken-kept is_asked terms held left done k (Judged answer found said h told untold) =
+    Judged answer found said (found-kept is_asked terms held left answer found k h) told untold
+broken-kept is_asked terms held left done k (Unjudged none unbroken) = Unjudged none unbroken

@@ -1,0 +1,14 @@
+use Rattle.std.proofs.Common.{ap, ◌∙◌, codes}
+use Rattle.std.proofs.lemmas.Result.{IfOk-weaker}
+use Rattle.clap.specs.Words.{App}
+use Rattle.h264_command.specs.Words.{with_flag}
+use Rattle.h264_command.proofs.command_line.with_flags.Goals as goal
+
+pub returns-clause-app : goal.returns-clause-app
+returns-clause-app c =
+    let one = c.in_ok-first.ensures.app in
+    let two = c.in_ok-second.ensures.app ∙ ap (λ (a : App). with_flag a (codes "json")) one in
+    let three = c.in_ok-third.ensures.app ∙ ap (λ (a : App). with_flag a (codes "quiet")) two in
+    let four = c.in_ok-fourth.ensures.app ∙ ap (λ (a : App). with_flag a (codes "progress")) three in
+    let five = c.in_ok-fifth.ensures.app ∙ ap (λ (a : App). with_flag a (codes "y4m")) four in
+    IfOk-weaker c.with_flag-6.result _ _ (λ r h. h ∙ ap (λ (a : App). with_flag a (codes "strict")) five) c.with_flag-6.ensures.app

@@ -1,0 +1,14 @@
+use Rattle.h264_lines.specs.Chosen.{no_choice}
+use Rattle.h264_lines.specs.Objects.{bare}
+use Rattle.h264_lines.specs.declared.listing.Listing.TheVariants as listings
+use Rattle.h264_command.proofs.decoding.decode_framed.Given as goal
+
+abbrev pub ghosts-decode_y4m : goal.ghosts-decode_y4m
+ghosts-decode_y4m g a = record {
+  name = a.pen.out.ghost_name;
+  start = g.W.Device.contents a.pen.out.now;
+  was_failed = g.W.Device.has_failed a.pen.out.now;
+  opening = bare;
+  listing = listings.Nothing;
+  choice = no_choice;
+}

@@ -1,0 +1,200 @@
+//! The command line.
+#![tactic(auto)]
+
+ghost use Rattle.std.specs.Prelude.{◌≡◌, ◌-◌, ◌<◌, ◌^◌, ◌⊎◌, true, false, List, Some, Err, codes, map, string_bytes};
+ghost use Rattle.h264_base.specs.Call.{HasRoom};
+ghost use Rattle.clap.specs.Words.{Text, subcommand_of, takes, kind_of};
+ghost use Rattle.clap.specs.declared.error.kind.ErrorKind.TheVariants as kinds;
+ghost use Rattle.h264_base.specs.declared.mode.Mode.TheVariants as modes;
+ghost use Rattle.h264_verify.specs.Units.{terms_of};
+ghost use Rattle.h264_lines.specs.Sent.{Sends, Takes, wrote};
+ghost use Rattle.h264_report.specs.Written.{OfBytes, last_line};
+ghost use Rattle.h264_command.specs.Commands.{Performs, SaysAlone, TellsFailures, IsExcused, Faults, Comes, ComesTo, failed_read, files_read, span_of};
+ghost use Rattle.h264_command.specs.Files.{HasFailedToRead, HasReadAll};
+ghost use Rattle.h264_command.specs.declared.command_line.Wanted.{Wanted as WantedView};
+ghost use Rattle.h264_command.specs.declared.outcome.Outcome.TheVariants as outcomes;
+ghost use Rattle.h264_command.specs.Words.{program, asks, name_of, value_in, is_judging, IsTarget};
+ghost use Rattle.h264_command.specs.Options.{IsPlain};
+
+use crate::command_line::{Request, Task, asked};
+use crate::files::Files;
+use crate::outcome::Outcome;
+use clap::Error;
+use clap::error::ErrorKind;
+use h264_base::{Mode, Stop, Target};
+use h264_lines::{Device, Listing, put_text};
+use h264_report::{Ending, check, decode, list, put_answer, put_memory};
+use h264_verify::{Source, Terms};
+use std::alloc::Global;
+
+/// What is said where a word is no text.
+const NOT_TEXT: &str =
+    "h264v: a word is not UTF-8; a file with such a name is judged from standard input: h264v check - <FILE\n";
+
+/// What is said where the words name no task.
+const NO_TASK: &str = "h264v: no command is given; h264v --help lists them\n";
+
+/// The exit status of a fault of the words.
+pub const FAULT: u8 = 64;
+
+/// What a stream is judged by.
+fn terms(mode: Mode, target: Target) -> Terms
+    ensures { result ≡ terms_of mode target }
+{
+    Terms { mode, target }
+}
+
+/// Does a task with a file that can be opened, for this target.
+fn perform<R: Source, W: Device, E: Device>(
+    alloc: Global,
+    task: Task,
+    target: Target,
+    source: &mut R,
+    out: &mut W,
+    err: &mut E,
+) -> Ending
+    requires room { HasRoom R.failures source.old }
+    requires judging { is_judging task ≡ true }
+    ensures excused { IsExcused (HasFailedToRead (R.failures source.old) (R.failures source.new) (R.was_read source.old) (R.was_read source.new))
+        (HasReadAll (R.failures source.old) (R.failures source.new)) result
+        (span_of W.contents W.has_failed W.holds_back out.old out.new) (span_of E.contents E.has_failed E.holds_back err.old err.new) }
+    ensures performs { OfBytes (R.left source.old) (λ bytes. Performs task target bytes result (wrote (W.contents out.old) (W.contents out.new))
+        (wrote (E.contents err.old) (E.contents err.new))) }
+{
+    let units = terms(Mode::Units, target);
+    let headers = terms(Mode::Headers, target);
+    let whole = terms(Mode::Full, target);
+    match task {
+        Task::Check => check(alloc, target, source, out),
+        Task::Units => list(alloc, units, Listing::Units, source, out),
+        Task::Headers => list(alloc, headers, Listing::Slices, source, out),
+        Task::Frames => list(alloc, whole, Listing::Frames, source, out),
+        Task::Decode => decode(alloc, target, source, out, err),
+        Task::Elements => list(alloc, whole, Listing::Elements, source, out),
+        Task::Info => unreachable!(),
+        Task::Report => unreachable!(),
+        Task::Explain => unreachable!(),
+    }
+}
+
+/// Says on a device that a file can't be read.
+fn put_unread<D: Device>(alloc: Global, device: &mut D) -> Ending
+    ensures answer { result.answer ≡ Err Stop.Read }
+    ensures says { Takes result.written (D.contents device.old) (D.contents device.new) (last_line modes.Full (Err Stop.Read)) }
+    ensures handed_over { result.written ≡ true → D.holds_back device.new ≡ false }
+    ensures quiet { result.written ≡ true → D.has_failed device.new ≡ D.has_failed device.old }
+    ensures unwritten { result.written ≡ false → D.has_failed device.new ≡ true }
+{
+    put_answer(alloc, Mode::Full, Err(Stop::Read), device)
+}
+
+/// Says that a file can't be opened.
+fn no_file<W: Device, E: Device>(alloc: Global, task: Task, out: &mut W, err: &mut E) -> Ending
+    requires { is_judging task ≡ true }
+    ensures answer { result.answer ≡ Err Stop.Read }
+    ensures failures { TellsFailures (failed_read result.written) (span_of W.contents W.has_failed W.holds_back out.old out.new)
+        (span_of E.contents E.has_failed E.holds_back err.old err.new) }
+    ensures says { SaysAlone task (failed_read result.written) (wrote (W.contents out.old) (W.contents out.new))
+        (wrote (E.contents err.old) (E.contents err.new)) }
+{
+    match task {
+        Task::Decode => put_unread(alloc, err),
+        Task::Check => put_unread(alloc, out),
+        Task::Units => put_unread(alloc, out),
+        Task::Headers => put_unread(alloc, out),
+        Task::Frames => put_unread(alloc, out),
+        Task::Elements => put_unread(alloc, out),
+        Task::Info => unreachable!(),
+        Task::Report => unreachable!(),
+        Task::Explain => unreachable!(),
+    }
+}
+
+/// Says why words are refused: the exit status of a fault of the words.
+fn refused<E: Device>(err: &mut E, text: &str) -> u8
+    ensures status { result ≡ 64 }
+    ensures handed_over { (E.holds_back err.new ≡ false) ⊎ (E.has_failed err.new ≡ true) }
+    ensures told { E.has_failed err.new ≡ false → Sends (E.contents err.old) (E.contents err.new) text.now }
+{
+    let _ = put_text(err, text);
+    FAULT
+}
+
+/// Says that a word is no text, where no file has a name that can be opened: the exit status of a fault of the words.
+pub fn not_text<E: Device>(err: &mut E) -> u8
+    ensures status { result ≡ 64 }
+    ensures handed_over { (E.holds_back err.new ≡ false) ⊎ (E.has_failed err.new ≡ true) }
+    ensures told { E.has_failed err.new ≡ false → Sends (E.contents err.old) (E.contents err.new) (codes
+        "h264v: a word is not UTF-8; a file with such a name is judged from standard input: h264v check - <FILE\n") }
+{
+    refused(err, NOT_TEXT)
+}
+
+/// Says why the words ask for nothing: the exit status of a fault of the words. Where memory was wanting for that, it is said on `out`.
+fn fault<W: Device, E: Device>(alloc: Global, error: &Error, out: &mut W, err: &mut E) -> u8
+    ensures { (words : List Text) → (takes program words ≡ true → kind_of error.now ≡ kinds.OutOfMemory) →
+        Faults words result (span_of W.contents W.has_failed W.holds_back out.old out.new) (span_of E.contents E.has_failed E.holds_back err.old err.new) }
+{
+    if error.kind() == ErrorKind::OutOfMemory {
+        return put_memory(out).status();
+    }
+    match format!(in alloc; "{error}") {
+        Ok(text) => refused(err, text.as_str()),
+        Err(_) => put_memory(out).status(),
+    }
+}
+
+/// Does what is asked of a file that stands for itself, for this target.
+fn serve<F: Files, W: Device, E: Device>(
+    alloc: Global,
+    request: Request<'_>,
+    target: Target,
+    files: &mut F,
+    out: &mut W,
+    err: &mut E,
+) -> u8
+    requires room { HasRoom F.failures files.old }
+    requires judging { is_judging request.task ≡ true }
+    ensures { (words : List Text) → asks program words ≡ Some (name_of request.entry.task, Some request.entry.file.now) →
+        IsPlain (subcommand_of program words) request.entry.file.now →
+        IsTarget (value_in (subcommand_of program words) (codes "target")) target → Comes words (files_read (λ name. F.holds files.old name)
+        (HasFailedToRead (F.failures files.old) (F.failures files.new) (F.was_read files.old) (F.was_read files.new))
+        (HasReadAll (F.failures files.old) (F.failures files.new))) result (span_of W.contents W.has_failed W.holds_back out.old out.new)
+        (span_of E.contents E.has_failed E.holds_back err.old err.new) }
+{
+    match files.open(request.file) {
+        Ok(()) => perform(alloc, request.task, target, files, out, err).status(),
+        Err(_) => no_file(alloc, request.task, out, err).status(),
+    }
+}
+
+/// Does what the words ask, the program's name first among them, where they ask for a judgement of one FILE and have no option but `--target`, and gives
+/// the exit status: 0 yes, 1 no, 2 outside, 3 memory, 4 a device failed, 64 a fault of the words, whose text goes to `err`. Else nothing is written, and
+/// what they ask is handed on.
+pub fn command<'a, F: Files, W: Device, E: Device>(
+    alloc: Global,
+    words: &'a [String],
+    files: &mut F,
+    out: &mut W,
+    err: &mut E,
+) -> Outcome<'a>
+    requires { HasRoom F.failures files.old }
+    ensures comes { ComesTo (map (λ w. string_bytes w) words.now) (files_read (λ name. F.holds files.old name)
+        (HasFailedToRead (F.failures files.old) (F.failures files.new) (F.was_read files.old) (F.was_read files.new))
+        (HasReadAll (F.failures files.old) (F.failures files.new))) result
+        (span_of W.contents W.has_failed W.holds_back out.old out.new) (span_of E.contents E.has_failed E.holds_back err.old err.new) }
+    // No file is opened where what they ask is handed on.
+    ensures kept { (wanted : WantedView) → result ≡ outcomes.More wanted → files.new ≡ files.old }
+{
+    match asked(alloc, words) {
+        Err(error) => Outcome::Fault(fault(alloc, &error, out, err)),
+        Ok(None) => Outcome::Fault(refused(err, NO_TASK)),
+        Ok(Some(wanted)) => match wanted.plain_target() {
+            Some(target) => {
+                let request = wanted.request;
+                Outcome::Done(request.file, serve(alloc, request, target, files, out, err))
+            }
+            None => Outcome::More(wanted),
+        },
+    }
+}

@@ -1,0 +1,292 @@
+//! Files as sources of streams.
+#![tactic(auto)]
+
+ghost use Rattle.std.specs.Prelude.{◌≡◌, ℕ, ◌+◌, ◌-◌, ◌<◌, ◌^◌, true, false, nat_lt, List, Option, None, Some, Ok, IfOk, IfErr, OnOk, OnErr};
+ghost use Rattle.h264_base.specs.Call.{HasRoom, IsQuiet};
+ghost use Rattle.std.specs.IoError.{error_kind, kind_in, os_error_kinds};
+ghost use Rattle.std.specs.Io.KnownBytes.{Keeps};
+ghost use Rattle.h264_command.specs.Files.{left_of, one_more, was_read_by};
+
+use h264_base::Failed;
+use h264_pages::pages::Start;
+use h264_verify::Source;
+use std::io;
+use std::io::{ErrorKind, Read, Write};
+
+/// Opens what a name stands for.
+pub trait Opener {
+    /// What is read.
+    type File: Read + Drop;
+
+    /// What a file of this name holds, where it is known.
+    ghost holds: { Self → List ℕ → Option (List ℕ) } = { λ _ _. None };
+
+    /// The file of this name, to be read from its start.
+    fn open(&mut self, name: &str) -> io::Result<Self::File>
+        ensures opened { IfOk result (λ file. Keeps (holds self.old name.now) (Self.File.Read.remaining file)) }
+        // What is known of the others stays so.
+        ensures others { (other : List ℕ) → holds self.new other ≡ holds self.old other };
+}
+
+/// Makes files to write to.
+pub trait Maker {
+    /// What is written to.
+    type Output: Write + Drop;
+
+    /// Whether what an output is given goes to the file of this name.
+    ghost goes_to: { Self.Output → List ℕ → Type 0 } = { λ _ _. Unit {0} };
+
+    /// A new file of this name, or the emptied one.
+    fn make(&mut self, name: &str) -> io::Result<Self::Output>
+        ensures named { IfOk result (λ output. goes_to output name.now) };
+
+    /// Whether two names stand for one file.
+    fn is_same(&self, name: &str, other: &str) -> bool;
+}
+
+/// Files, of which the one that was opened last is read.
+pub trait Files: Source {
+    /// What a file of this name holds, where it is known.
+    ghost holds: { Self → List ℕ → Option (List ℕ) };
+
+    /// Opens the file of this name, to be read from its start.
+    ///
+    /// Failed: it can't be opened.
+    fn open(&mut self, name: &str) -> Result<(), Failed>
+        requires { HasRoom Self.failures self.old }
+        ensures opened { OnOk result (Keeps (holds self.old name.now) (Self.left self.new)) }
+        ensures reads { OnOk result ((n : ℕ) → Self.was_read self.old n → Self.was_read self.new n) }
+        ensures kept { OnOk result (IsQuiet Self.failures self.old self.new) }
+        ensures failed { OnErr result (Self.failures self.new ≡ Self.failures self.old + 1) };
+}
+
+/// What was seen of the file that was opened last.
+#[derive(Clone, Copy)]
+pub struct Seen {
+    /// Its first bytes.
+    pub start: Start,
+    /// Whether its end was read.
+    pub ended: bool,
+}
+
+impl Seen {
+    /// Nothing was seen.
+    pub fn new() -> Seen {
+        Seen {
+            start: Start::new(),
+            ended: false,
+        }
+    }
+
+    /// Notes a read, which put so many bytes at the front of a piece.
+    fn note(&mut self, piece: &[u8], read: Option<usize>) {
+        let Some(count) = read else {
+            return;
+        };
+        if count == 0 {
+            self.ended = true;
+        } else if count <= piece.len() {
+            self.start.note(&piece[..count]);
+        }
+    }
+}
+
+/// How often a file is read at most.
+const MOST_READS: u64 = (1 << 41) - 1;
+
+/// The file that was opened last. Its counts are private: one rises only where a read is tried, and where a file is opened.
+#[derive(Drop)]
+pub struct OpenFile<F: Read + Drop> {
+    reader: Option<F>,
+    /// How often it was read.
+    reads: u64,
+    /// How often it could not be opened or read, or was read too often.
+    failures: u64,
+    pub seen: Seen,
+    /// The system's cause of the last failure.
+    pub cause: Option<io::Error>,
+}
+
+impl<F: Read + Drop> OpenFile<F> {
+    /// No file.
+    fn none() -> OpenFile<F>
+        ensures reads { result.reads ≡ 0 }
+        ensures no_failure { result.failures ≡ 0 }
+    {
+        OpenFile {
+            reader: None,
+            reads: 0,
+            failures: 0,
+            seen: Seen::new(),
+            cause: None,
+        }
+    }
+
+    /// Counts a failure.
+    fn fail<T>(&mut self) -> Result<T, Failed>
+        requires { self.old.failures < 2 ^ 64 - 1 }
+        ensures err { OnOk result ⊥ }
+        ensures others { self.new ≡ record self.old { failures = self.old.failures + 1 } }
+    {
+        self.failures += 1;
+        Err(Failed)
+    }
+}
+
+/// The files of an opener.
+#[derive(Drop)]
+pub struct OpenedFiles<O: Opener + Drop> {
+    opener: O,
+    pub file: OpenFile<O::File>,
+    /// How many of those that are closed could not be opened or read, or were read too often.
+    unread: u64,
+}
+
+impl<O: Opener + Drop> OpenedFiles<O> {
+    /// Files of which none is open.
+    pub fn new(opener: O) -> OpenedFiles<O>
+        ensures opener { result.opener ≡ opener }
+        ensures reads { result.file.reads ≡ 0 }
+        ensures no_failure { result.file.failures ≡ 0 }
+        ensures unread { result.unread ≡ 0 }
+    {
+        OpenedFiles {
+            opener,
+            file: OpenFile::none(),
+            unread: 0,
+        }
+    }
+
+    /// Closes the open file, and counts it where it could not be opened or read.
+    pub fn close(&mut self)
+        ensures opener { self.new.opener ≡ self.old.opener }
+        ensures reads { self.new.file.reads ≡ 0 }
+        ensures no_failure { self.new.file.failures ≡ 0 }
+        ensures unread { self.new.unread ≡ one_more (nat_lt 0 self.old.file.failures) self.old.unread }
+    {
+        if self.file.failures > 0 {
+            self.unread = self.unread.saturating_add(1);
+        }
+        self.file = OpenFile::none();
+    }
+
+    /// Closes the open file, and forgets the count of those that are closed.
+    pub fn restart(&mut self)
+        ensures opener { self.new.opener ≡ self.old.opener }
+        ensures reads { self.new.file.reads ≡ 0 }
+        ensures no_failure { self.new.file.failures ≡ 0 }
+        ensures unread { self.new.unread ≡ 0 }
+    {
+        self.file = OpenFile::none();
+        self.unread = 0;
+    }
+}
+
+impl<O: Opener + Maker + Drop> OpenedFiles<O> {
+    /// A new file of this name to write to, or the emptied one.
+    pub fn make(&mut self, name: &str) -> io::Result<O::Output>
+        ensures named { IfOk result (λ output. O.goes_to output name.now) }
+        ensures file { self.new.file ≡ self.old.file }
+        ensures unread { self.new.unread ≡ self.old.unread }
+    {
+        self.opener.make(name)
+    }
+
+    /// Whether two names stand for one file.
+    pub fn is_same(&self, name: &str, other: &str) -> bool {
+        self.opener.is_same(name, other)
+    }
+}
+
+/// Whether a read that gave this error was interrupted: whether the error is of the kind of EINTR, error 4 of the system.
+fn is_interruption(error: &io::Error) -> bool
+    ensures yes { result ≡ true → error_kind error.now ≡ kind_in os_error_kinds 4 }
+    ensures no { result ≡ false → error_kind error.now ≡ kind_in os_error_kinds 4 → ⊥ }
+{
+    matches!(error.kind(), ErrorKind::Interrupted)
+}
+
+/// What came of a read: so many bytes; or None where it was interrupted, which is no failure.
+///
+/// Failed: it failed by any other cause, which is kept.
+fn outcome(read: io::Result<usize>, cause: &mut Option<io::Error>) -> Result<Option<usize>, Failed>
+    ensures bytes { IfOk read (λ n. result ≡ Ok (Some n)) }
+    ensures interrupted { IfErr read (λ e. error_kind e ≡ kind_in os_error_kinds 4 → result ≡ Ok None) }
+    ensures failed { IfErr read (λ e. (error_kind e ≡ kind_in os_error_kinds 4 → ⊥) → OnOk result ⊥) }
+{
+    match read {
+        Ok(n) => Ok(Some(n)),
+        Err(error) => {
+            if is_interruption(&error) {
+                Ok(None)
+            } else {
+                *cause = Some(error);
+                Err(Failed)
+            }
+        }
+    }
+}
+
+impl<F: Read + Drop> Source for OpenFile<F> {
+    ghost left = { λ s. left_of F.remaining s.reader };
+
+    ghost was_read = { λ s n. was_read_by s.reads s.failures n };
+
+    ghost failures = { λ s. s.failures };
+
+    fn read(&mut self, piece: &mut [u8]) -> Result<Option<usize>, Failed> {
+        if self.reads >= MOST_READS {
+            return self.fail();
+        }
+        self.reads += 1;
+        let Some(reader) = &mut self.reader else {
+            return self.fail();
+        };
+        match outcome(reader.read(piece), &mut self.cause) {
+            Ok(bytes) => {
+                self.seen.note(piece, bytes);
+                Ok(bytes)
+            }
+            Err(Failed) => self.fail(),
+        }
+    }
+}
+
+impl<O: Opener + Drop> Source for OpenedFiles<O> {
+    ghost left = { λ s. left_of O.File.Read.remaining s.file.reader };
+
+    ghost was_read = { λ s n. was_read_by s.file.reads s.file.failures n };
+
+    ghost failures = { λ s. s.file.failures };
+
+    fn read(&mut self, piece: &mut [u8]) -> Result<Option<usize>, Failed> {
+        self.file.read(piece)
+    }
+}
+
+impl<O: Opener + Drop> Files for OpenedFiles<O> {
+    ghost holds = { λ s name. O.holds s.opener name };
+
+    fn open(&mut self, name: &str) -> Result<(), Failed>
+        requires { self.old.file.failures < 2 ^ 64 - 1 }
+        ensures opened { OnOk result (Keeps (O.holds self.old.opener name.now) (left_of O.File.Read.remaining self.new.file.reader)) }
+        ensures reads { OnOk result ((n : ℕ) → was_read_by self.old.file.reads self.old.file.failures n →
+            was_read_by self.new.file.reads self.new.file.failures n) }
+        ensures kept { OnOk result (self.new.file.failures ≡ self.old.file.failures) }
+        ensures failed { OnErr result (self.new.file.failures ≡ self.old.file.failures + 1) }
+        ensures holds { (other : List ℕ) → O.holds self.new.opener other ≡ O.holds self.old.opener other }
+        ensures unread { self.new.unread ≡ self.old.unread }
+    {
+        match self.opener.open(name) {
+            Ok(reader) => {
+                self.file.reader = Some(reader);
+                self.file.seen = Seen::new();
+                Ok(())
+            }
+            Err(error) => {
+                self.file.cause = Some(error);
+                self.file.fail()
+            }
+        }
+    }
+}

@@ -1,0 +1,26 @@
+//! The command line, over any words, files and streams: what the words ask for, what is done of it, and what is written.
+//!
+//! `program` reads the words, does what they ask for, and gives the exit status. `command` does it for a command without options, and `more` for all
+//! others. Files are opened by an `Opener` and made by a `Maker`, and the streams are devices, so that `h264v` hands in the system's, and tests their own.
+//!
+//! Promised: what the words ask for is clap's meaning of them; what is written and the status are those of `specs/Commands.antt` and `specs/More.antt`.
+#![tactic(auto)]
+
+mod command;
+mod command_line;
+mod decoding;
+mod explaining;
+pub mod files;
+mod job;
+mod listing;
+mod more;
+mod options;
+mod outcome;
+pub mod program;
+mod refusal;
+mod reporting;
+mod strictly;
+mod telling;
+pub mod words;
+
+pub use command::not_text;

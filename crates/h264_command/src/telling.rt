@@ -1,0 +1,249 @@
+//! How the answer on a file is told: lines, or an object of JSON.
+#![tactic(auto)]
+
+ghost use Rattle.std.specs.Prelude.{◌≡◌, ◌⊎◌, ◌++◌, ℕ, List, true, false, Err};
+ghost use Rattle.h264_base.specs.declared.mode.Mode.{Mode};
+ghost use Rattle.h264_base.specs.declared.stop.Stop.TheVariants.{Memory, Read, Write};
+ghost use Rattle.h264_lines.specs.Lines.{verdict_text};
+ghost use Rattle.h264_pages.specs.Pages.{text_on, is_cut, Adds};
+ghost use Rattle.h264_lines.specs.Sent.{Takes};
+ghost use Rattle.h264_report.specs.Written.{last_line};
+ghost use Rattle.h264_command.specs.Further.{BreakOne, IsNoVerdict};
+ghost use Rattle.h264_command.specs.Texts.{head_of, opening_in, verdict_object, EndsWith, TellsAnswer};
+ghost use Rattle.h264_command.specs.Words as words;
+
+use crate::command_line::Task;
+use crate::explaining::guide_of;
+use crate::job::{Done, Found, Job, mode_of};
+use crate::strictly::{put_strict_lines, put_strict_objects};
+use h264_base::Stop;
+use h264_lines::head::Head;
+use h264_lines::{Device, put_text, verdict_line};
+use h264_pages::pages::{
+    Answer, Finding, Page, put_answer_fields, put_explanation, put_verdict_fields,
+};
+use h264_report::{Ending, put_line};
+
+/// Where the answer of a judgement stands.
+pub fn finding_of(found: &Found) -> Option<Finding> {
+    Finding::of(
+        found.answer,
+        &found.survey,
+        &found.seen.start,
+        found.seen.ended,
+    )
+}
+
+/// Adds the lines before the last: what explains the answer, where that is asked, and what the further rules found.
+fn put_earlier_lines(job: &Job<'_>, page: &mut Page, found: &Found) {
+    if job.options.explain {
+        put_explanation(
+            job.alloc,
+            page,
+            found.answer,
+            &found.survey,
+            finding_of(found),
+            guide_of(found.answer),
+        );
+    }
+    if let Some(strict) = &found.strict {
+        put_strict_lines(page, strict);
+    }
+}
+
+/// Adds the last line: the answer.
+fn put_last_line(job: &Job<'_>, page: &mut Page, found: &Found)
+    ensures { Adds page.old page.new (job.now.prefix.now ++ last_line (words.mode_of job.now.task) found.now.answer) }
+{
+    match verdict_line(job.alloc, mode_of(job.task), found.answer) {
+        Ok(line) => {
+            page.put(job.prefix);
+            page.put(line.as_str());
+            page.put("\n");
+        }
+        Err(_) => page.give_up(),
+    }
+}
+
+/// Adds the object of the answer.
+fn put_verdict_object(job: &Job<'_>, page: &mut Page, found: &Found)
+    ensures { is_cut page.new ≡ false → (is_cut page.old ≡ false) × ((more : List ℕ)
+        × (text_on page.new ≡ text_on page.old ++ verdict_object (head_of job.now.file.now) found.now.answer more)) }
+{
+    page.open_object(job.file, "verdict");
+    put_verdict_fields(
+        job.alloc,
+        page,
+        found.answer,
+        &found.survey,
+        finding_of(found),
+        guide_of(found.answer),
+    );
+    page.close_object();
+}
+
+/// The last line of an answer of memory or of a device.
+fn unjudged_line(stop: Stop) -> &'static str
+    ensures { (mode : Mode) → IsNoVerdict (Err stop) → result.now ≡ verdict_text mode (Err stop) }
+{
+    match stop {
+        Stop::Read => "read failed",
+        Stop::Write => "write failed",
+        _ => "memory",
+    }
+}
+
+/// What is said of an answer for which there was no memory: that a device failed, where the answer is that; else that memory was wanting.
+fn short_of(answer: Answer) -> Stop
+    ensures stop { (Err result ≡ answer) ⊎ (result ≡ Memory) }
+    ensures no_verdict { IsNoVerdict (Err result) }
+    ensures read { answer ≡ Err Read → result ≡ Read }
+    ensures write { answer ≡ Err Write → result ≡ Write }
+{
+    match answer {
+        Err(Stop::Read) => Stop::Read,
+        Err(Stop::Write) => Stop::Write,
+        _ => Stop::Memory,
+    }
+}
+
+/// Adds the text that says which sizes follow one another.
+fn put_change(page: &mut Page, first: Head, other: Head) {
+    page.put("size changes from ");
+    page.number(first.width as u64);
+    page.put("x");
+    page.number(first.height as u64);
+    page.put(" to ");
+    page.number(other.width as u64);
+    page.put("x");
+    page.number(other.height as u64);
+    page.put(", and YUV4MPEG2 has no second header");
+}
+
+/// Adds the object that says which sizes follow one another.
+fn put_change_object(job: &Job<'_>, page: &mut Page, first: Head, other: Head) {
+    let mut text = Page::new(job.alloc);
+    put_change(&mut text, first, other);
+    if text.is_short() {
+        page.give_up();
+    }
+    page.open_object(job.file, "change");
+    page.text_field("text", text.as_str());
+    page.close_object();
+}
+
+/// Adds what is written before the answer: the last elements, what explains the answer, and what the further rules found.
+fn put_earlier(job: &Job<'_>, page: &mut Page, found: &Found) {
+    if !job.options.json || job.task == Task::Info {
+        page.put(found.before.as_str());
+    }
+    if !job.options.json {
+        if let Some((first, other)) = found.change {
+            put_change(page, first, other);
+            page.put("\n");
+        }
+        put_earlier_lines(job, page, found);
+        return;
+    }
+    if let Some((first, other)) = found.change {
+        put_change_object(job, page, first, other);
+    }
+    if let Some(strict) = &found.strict {
+        put_strict_objects(page, job.file, strict);
+    }
+}
+
+/// Adds what is written at the end of a judgement: last of all the answer, as a line or as an object.
+fn put_end(job: &Job<'_>, page: &mut Page, found: &Found)
+    ensures { is_cut page.new ≡ false →
+        EndsWith job.now.task (opening_in job.now.options.json job.now.file.now job.now.prefix.now) found.now.answer (text_on page.new) }
+{
+    let mut earlier = Page::new(job.alloc);
+    put_earlier(job, &mut earlier, found);
+    if earlier.is_short() {
+        page.give_up();
+        return;
+    }
+    page.put_lines(job.prefix, earlier.as_str());
+    if job.options.json {
+        put_verdict_object(job, page, found);
+    } else {
+        put_last_line(job, page, found);
+    }
+}
+
+/// Writes the end of a judgement: lines, or an object of JSON; nothing where quiet is asked.
+pub fn put_found<W: Device>(job: &Job<'_>, out: &mut W, found: &Found) -> Done
+    ensures answer { (result.ending.answer ≡ found.now.answer) ⊎ (result.ending.answer ≡ Err Memory) }
+    ensures read { found.now.answer ≡ Err Read → result.ending.answer ≡ Err Read }
+    ensures write { found.now.answer ≡ Err Write → result.ending.answer ≡ Err Write }
+    ensures text { (end : List ℕ) × Takes result.ending.written (W.contents out.old) (W.contents out.new) end
+        × TellsAnswer job.now.task job.now.options (opening_in job.now.options.json job.now.file.now job.now.prefix.now) result.ending.answer end }
+    ensures handed_over { result.ending.written ≡ true → W.holds_back out.new ≡ false }
+    ensures quiet { result.ending.written ≡ true → W.has_failed out.new ≡ W.has_failed out.old }
+    ensures failed { result.ending.written ≡ false → W.has_failed out.new ≡ true }
+    ensures broken { result.is_broken ≡ true → BreakOne found.now.strict }
+    ensures unbroken { result.is_broken ≡ false → BreakOne found.now.strict → ⊥ }
+{
+    let is_broken = found.is_broken();
+    let mut lines = Page::new(job.alloc);
+    if !job.options.quiet {
+        put_end(job, &mut lines, found);
+    }
+    if lines.is_short() {
+        let stop = short_of(found.answer);
+        let ending = Ending {
+            answer: Err(stop),
+            written: put_line(job.prefix, unjudged_line(stop), out),
+        };
+        return Done { ending, is_broken };
+    }
+    let ending = Ending {
+        answer: found.answer,
+        written: put_text(out, lines.as_str()),
+    };
+    Done { ending, is_broken }
+}
+
+/// Writes that there is no verdict, by an answer of memory or of a device: an object or a line, or nothing where quiet is asked. Whether that was possible.
+fn put_stop<W: Device>(job: &Job<'_>, out: &mut W, stop: Stop) -> bool
+    ensures text { (end : List ℕ) × Takes result (W.contents out.old) (W.contents out.new) end × (IsNoVerdict (Err stop) →
+        TellsAnswer job.now.task job.now.options (opening_in job.now.options.json job.now.file.now job.now.prefix.now) (Err stop) end) }
+    ensures handed_over { result ≡ true → W.holds_back out.new ≡ false }
+    ensures quiet { result ≡ true → W.has_failed out.new ≡ W.has_failed out.old }
+    ensures failed { result ≡ false → W.has_failed out.new ≡ true }
+{
+    if job.options.quiet {
+        return put_text(out, "");
+    }
+    if job.options.json {
+        let mut page = Page::new(job.alloc);
+        page.open_object(job.file, "verdict");
+        put_answer_fields(&mut page, Err(stop));
+        page.close_object();
+        if !page.is_short() {
+            return put_text(out, page.as_str());
+        }
+    }
+    put_line(job.prefix, unjudged_line(stop), out)
+}
+
+/// Writes that a file was not judged, by an answer of memory or of a device.
+pub fn put_unjudged<W: Device>(job: &Job<'_>, out: &mut W, stop: Stop) -> Done
+    ensures answer { result.ending.answer ≡ Err stop }
+    ensures text { (end : List ℕ) × Takes result.ending.written (W.contents out.old) (W.contents out.new) end × (IsNoVerdict (Err stop) →
+        TellsAnswer job.now.task job.now.options (opening_in job.now.options.json job.now.file.now job.now.prefix.now) (Err stop) end) }
+    ensures handed_over { result.ending.written ≡ true → W.holds_back out.new ≡ false }
+    ensures quiet { result.ending.written ≡ true → W.has_failed out.new ≡ W.has_failed out.old }
+    ensures failed { result.ending.written ≡ false → W.has_failed out.new ≡ true }
+    ensures broken { result.is_broken ≡ false }
+{
+    let ending = Ending {
+        answer: Err(stop),
+        written: put_stop(job, out, stop),
+    };
+    Done {
+        ending,
+        is_broken: false,
+    }
+}

@@ -1,4 +1,0 @@
-use Rattle.h264v.proofs.explaining.strict_lines.Goals as goal
-
-pub returns : goal.returns
-returns c = rw (c.label-label.ensures, c.clause-clause.ensures) at c.format.ensures.ok

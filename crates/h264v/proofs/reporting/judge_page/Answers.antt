@@ -1,5 +1,0 @@
-use Rattle.std.proofs.Common.{refl}
-use Rattle.h264v.proofs.reporting.judge_page.Goals as goal
-
-pub returns-then-job-clause-further : goal.returns-then-job-clause-further
-returns-then-job-clause-further g c = rw c.if-job.true (c.judge_further-judged.result.further, refl, c.judge_further-judged.ensures.further)
