@@ -17,7 +17,7 @@ _h264v() {
     ;;
   esac
   case $before/$word in
-  --target/*) COMPREPLY=($(compgen -W 'baseline main-ip' -- "$word")) ;;
+  --target/* | -t/*) COMPREPLY=($(compgen -W 'baseline main-ip' -- "$word")) ;;
   */-*) COMPREPLY=($(compgen -W "$options" -- "$word")) ;;
   *) COMPREPLY=($(compgen -f -- "$word")) ;;
   esac

@@ -12,7 +12,7 @@ complete -c h264v -n 'not __fish_use_subcommand' -l explain -d 'say where a no i
 complete -c h264v -n 'not __fish_use_subcommand' -l json -d 'one JSON object a line'
 complete -c h264v -n 'not __fish_use_subcommand' -l quiet -d 'print nothing'
 complete -c h264v -n 'not __fish_use_subcommand' -l progress -d 'tell how far it is'
-complete -c h264v -n 'not __fish_use_subcommand' -l target -x -a 'baseline main-ip'
+complete -c h264v -n 'not __fish_use_subcommand' -s t -l target -x -a 'baseline main-ip'
 complete -c h264v -n '__fish_seen_subcommand_from check report' -l strict -d 'judge further rules'
 complete -c h264v -n '__fish_seen_subcommand_from decode' -l y4m -d 'write YUV4MPEG2'
 complete -c h264v -n '__fish_seen_subcommand_from decode report' -s o -l output -r -d 'write to a file'
