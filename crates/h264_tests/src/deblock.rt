@@ -1,6 +1,6 @@
-use crate::macroblocks::{INTRA, motion};
+use crate::macroblocks::INTRA;
 use h264_deblock::{Coded, CodedSkip, Deblocking, SliceFilter, filter_coded, filter_skipped};
-use h264_near::{Near, Skipped};
+use h264_near::{Motion, Near, Skipped, Vector};
 use h264_plane::{Component, Frame};
 use std::alloc::{AllocError, Global};
 
@@ -11,36 +11,41 @@ const ALL_EDGES: SliceFilter = SliceFilter {
     chroma_qp_index_offset: 0,
 };
 
-/// The first frame of a stream that public decoders agree on, before the filter: luma is 128 in the left macroblock and 131 in the right one.
-fn two_macroblocks(alloc: Global) -> Result<Frame, AllocError> {
+/// A skipped macroblock of the first slice.
+const SKIPPED: Skipped = Skipped {
+    slice: 0,
+    qp: 26,
+    motion: Motion {
+        ref_idx: 0,
+        picture: 7,
+        vector: Vector { x: 0, y: 0 },
+    },
+};
+
+/// The first frame of a stream that public decoders agree on, whose luma is 128 in the left macroblock and 131 in the right one, with the right one filtered,
+/// as a coded or as a skipped one.
+fn filtered(alloc: Global, near: &Near, is_coded: bool) -> Result<Frame, AllocError> {
     let mut frame = Frame::new(alloc, 32, 16)?;
     frame.put_block::<16, 16>(Component::Y, 0, 0, &[128; 256]);
     frame.put_block::<16, 16>(Component::Y, 16, 0, &[131; 256]);
     frame.put_block::<8, 8>(Component::Cb, 0, 0, &[100; 64]);
     frame.put_block::<8, 8>(Component::Cb, 8, 0, &[103; 64]);
-    Ok(frame)
-}
-
-/// That frame with its right macroblock filtered, as one that is coded or as one that is skipped.
-fn filtered(alloc: Global, near: &Near, is_coded: bool) -> Result<Frame, AllocError> {
-    let mut frame = two_macroblocks(alloc)?;
-    let (own, filter) = (&INTRA, &ALL_EDGES);
     if is_coded {
         let coded = Coded {
             near,
-            own,
+            own: &INTRA,
             partition: None,
-            filter,
+            filter: &ALL_EDGES,
         };
         filter_coded(&mut frame, &coded, 1, 0);
-        return Ok(frame);
+    } else {
+        let coded = CodedSkip {
+            near,
+            own: &SKIPPED,
+            filter: &ALL_EDGES,
+        };
+        filter_skipped(&mut frame, &coded, 1, 0);
     }
-    let own = &Skipped {
-        slice: 0,
-        qp: 26,
-        motion: motion(0, 7, 0, 0),
-    };
-    filter_skipped(&mut frame, &CodedSkip { near, own, filter }, 1, 0);
     Ok(frame)
 }
 
