@@ -27,7 +27,7 @@ say() { printf 'install.sh: %s\n' "$*" >&2; }
 
 if [ "$task" = uninstall ]; then
   for file in bin/h264v share/man/man1/h264v.1 share/bash-completion/completions/h264v share/zsh/site-functions/_h264v \
-    share/fish/vendor_completions.d/h264v.fish lib/libh264v.a lib/libh264v.so.1 lib/libh264v.so lib/pkgconfig/h264v.pc include/h264v.h; do
+    share/fish/vendor_completions.d/h264v.fish lib/libh264v.a lib/libh264v.so.0 lib/libh264v.so.1 lib/libh264v.so lib/pkgconfig/h264v.pc include/h264v.h; do
     rm -f "$prefix/$file"
   done
   say "removed h264v and its library from $prefix"
@@ -70,7 +70,7 @@ install_program() {
 
 install_library() {
   sh "$top/tools/c_library.sh" "$1" "$kit/c/liblibc_c.a" "$prefix"
-  say "installed $prefix/lib/libh264v.a and .so.1, built for $cpu, with every proof passed"
+  say "installed $prefix/lib/libh264v.a and .so.0, built for $cpu, with every proof passed"
 }
 
 say "builds in $build for $cpu, on $jobs processors"

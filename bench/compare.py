@@ -6,7 +6,8 @@
 FOLDER is one that bench/corpus.sh made, or any with .264 files. `decode` stands beside small programs over libavcodec, with its assembly and without, and over
 OpenH264 (decoders/), so that no start of a command line tool is in a time. All write planar YUV to nothing. They take turns; the least of N counts, 5 where N
 is left out, as user and system time of the process. Compare figures of one line only.
-A second table has `units`, `headers` and `check` beside md5sum. A file of which `check` does not say yes stands there alone: bench/slices.py makes such streams.
+A second table has `check`, which makes no frames, beside the same programs and `decode`. A third has `units`, `headers` and `check` beside md5sum. A file of
+which `check` does not say yes stands in the third alone: bench/slices.py makes such streams.
 With --instructions it counts by callgrind instead: instructions a macroblock of `decode` and of libavcodec, over the pictures after the second up to the
 twelfth, so that no start is in them.
 Prints tables for docs/SPEED.md. Needs cc; a decoder whose headers are missing is left out. --instructions needs valgrind and ffmpeg, which cuts the streams.
@@ -111,6 +112,18 @@ def times_of_pictures(program, ways, files, turns):
         row(file, f"{best['decode']:.3f}", f"{each:.0f}", memory.pop("decode"), *ratios, *memory.values())
 
 
+def times_of_verdicts(program, ways, files, turns):
+    """The table of `check` beside `decode` and the other decoders."""
+    ways = {name: way for name, way in ways.items() if name != "its C code"}
+    head("stream", "seconds", "MB of stream a second", "macroblocks a second", "of `decode`", *(f"of {name}" for name in ways))
+    for file in files:
+        commands = {"check": [program, "check", file], "decode": [program, "decode", file], **{name: way(file) for name, way in ways.items()}}
+        best = least(commands, turns)
+        took = best.pop("check")
+        ratios = [f"{took / best[name]:.2f}" for name in best]
+        row(file, f"{took:.3f}", f"{file.stat().st_size / took / 1e6:.1f}", f"{macroblocks(program, file) / took:,.0f}", *ratios)
+
+
 def times_of_bytes(program, legal, files, turns):
     """The table of the other commands beside md5sum."""
     head("stream", "bytes", "seconds of md5sum", "units", "headers", "check")
@@ -165,6 +178,8 @@ def main():
             return
         if legal:
             times_of_pictures(asked.program, ways, legal, asked.turns)
+            print()
+            times_of_verdicts(asked.program, ways, legal, asked.turns)
             print()
         times_of_bytes(asked.program, legal, files, asked.turns)
 

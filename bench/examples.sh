@@ -1,10 +1,12 @@
 #!/bin/sh
 # Runs every example of docs/EXAMPLES.md and compares the last line that the program prints, or with --strict the first one that begins with `strict: bit`.
+# Then it runs every line of every document that begins with `$` (tools/documents.py). The status is 1 where something differs.
 #
 #   bench/examples.sh [PROGRAM]      PROGRAM is h264v on the path where it is left out
 set -u
-program=${1:-h264v}
-page=$(dirname "$0")/../docs/EXAMPLES.md
+program=$(command -v "${1:-h264v}") || { echo "examples.sh: ${1:-h264v} is not on the path" >&2; exit 64; }
+top=$(dirname "$0")/..
+page=$top/docs/EXAMPLES.md
 stream=$(mktemp); trap 'rm -f "$stream"' EXIT
 same=0; different=0
 while IFS='|' read -r _ label _ run line _; do
@@ -19,4 +21,5 @@ while IFS='|' read -r _ label _ run line _; do
   if [ "$got" = "$want" ]; then same=$((same + 1)); else different=$((different + 1)); echo "$label: want $want, got $got"; fi
 done <"$page"
 echo "$same agree, $different differ"
+"$top/tools/documents.py" --run "$program" || different=1
 [ $different = 0 ]

@@ -3,7 +3,7 @@
 
     bench/library.py PROGRAM LIBRARY FOLDER|FILE.. [--turns N]
 
-PROGRAM is h264v, LIBRARY the shared object (libh264v.so.1) built for the same processor. The library (decoders/receive.c) gets one unit a piece, pieces of
+PROGRAM is h264v, LIBRARY the shared object (libh264v.so.0) built for the same processor. The library (decoders/receive.c) gets one unit a piece, pieces of
 4 KiB and of 64 KiB. Each frame is received; it is read too, or left unread. The program runs `decode` with its output to nothing, and into a pipe that this script reads. libavcodec
 (decoders/avcodec.c) gets pieces of 64 KiB, and each frame is read. All take turns. The least of N turns counts, 5 where N is left out, as user and system time of the process.
 Compare figures of one line only.
@@ -94,9 +94,9 @@ def main():
     program, library, *streams = words
     sums = {}
     with tempfile.TemporaryDirectory(prefix="h264v-bench.") as folder:
-        os.symlink(os.path.abspath(library), os.path.join(folder, "libh264v.so.1"))
+        os.symlink(os.path.abspath(library), os.path.join(folder, "libh264v.so.0"))
         include = os.path.join(HERE, "..", "include")
-        receive = built("receive", folder, "-I", include, os.path.join(folder, "libh264v.so.1"), f"-Wl,-rpath,{folder}")
+        receive = built("receive", folder, "-I", include, os.path.join(folder, "libh264v.so.0"), f"-Wl,-rpath,{folder}")
         avcodec = built("avcodec", folder, "-lavcodec", "-lavutil")
         if not receive:
             sys.exit("library.py: decoders/receive.c can't be built")

@@ -26,11 +26,19 @@
 extern "C" {
 #endif
 
+/* The version of this header, as a number that grows with each version and as a text. */
+#define H264V_VERSION_MAJOR 0
+#define H264V_VERSION_MINOR 1
+#define H264V_VERSION_PATCH 0
+#define H264V_VERSION (H264V_VERSION_MAJOR << 16 | H264V_VERSION_MINOR << 8 | H264V_VERSION_PATCH)
+#define H264V_VERSION_TEXT "0.1.0"
+
 /* How far a stream is judged. */
 enum {
     H264V_UNITS = 0,   /* the byte stream, its units, and the parameter sets */
     H264V_HEADERS = 1, /* these, and slice headers */
-    H264V_FULL = 2     /* these, and slice data, of which the frames are made; the other two give no frames */
+    H264V_FULL = 2,    /* these, and slice data, of which the frames are made; the others give no frames */
+    H264V_VERDICT = 3  /* these, and slice data, as H264V_FULL, without making frames */
 };
 
 /* The decoder that a stream has to suit. */
@@ -68,7 +76,7 @@ typedef struct {
     uint64_t bit;      /* NO and OUTSIDE: where it stands, in bits of the input from 0, the highest bit of a byte first */
     uint64_t units;    /* YES: the units of the stream */
     uint64_t pictures; /* YES: the coded pictures; 0 with H264V_UNITS */
-    uint64_t frames;   /* YES: the frames; 0 without H264V_FULL */
+    uint64_t frames;   /* YES: the frames; 0 with H264V_UNITS and H264V_HEADERS */
     uint32_t kind;     /* H264V_YES and so on */
     char label[24];    /* NO: the rule's name; OUTSIDE: the feature's name. ASCII, with a 0 at its end */
     char clause[8];    /* NO: the clause of the standard that has the rule. ASCII, with a 0 at its end */
@@ -76,7 +84,7 @@ typedef struct {
 
 /* A frame that is lent: read it, and neither write nor free it. The samples stand one after another, a byte a sample: the
  * rows of Y, width * height, then those of Cb, then those of Cr, each width / 2 * height / 2. Width and height are even, and
- * cropping is done. */
+ * cropping is done. No bytes stand between rows: the stride of Y is width, that of Cb and of Cr is width / 2. */
 typedef struct {
     const uint8_t *samples; /* they stay until the next h264v_receive or h264v_close of this decoder */
     size_t size;            /* how many samples there are in all */
@@ -85,12 +93,45 @@ typedef struct {
     int32_t count;          /* the picture order count */
 } h264v_frame;
 
+/* What h264v_stream answers. */
+enum {
+    H264V_NOT_TOLD = 0, /* no slice was read; the information was not written */
+    H264V_TOLD = 1      /* it was written */
+};
+
+/* What the sequence parameter set says that the last slice uses. Sizes are in luma samples. */
+typedef struct {
+    uint64_t rate_frames;   /* the frame rate is rate_frames / rate_seconds; both are 0 where the set has no timing */
+    uint64_t rate_seconds;
+    uint32_t profile_idc;   /* 66, 77 or 88 */
+    uint32_t level_idc;     /* ten times the level; level 1b is 9, or 11 where is_level_1b is 1 */
+    uint32_t is_level_1b;   /* constraint_set3_flag */
+    uint32_t width;         /* what is shown, as in h264v_frame */
+    uint32_t height;
+    uint32_t coded_width;   /* before cropping */
+    uint32_t coded_height;
+    uint32_t crop_left;     /* what cropping cuts off each side */
+    uint32_t crop_right;
+    uint32_t crop_top;
+    uint32_t crop_bottom;
+    uint32_t sar_width;     /* the sample aspect ratio is sar_width : sar_height; both are 0 where it is not specified */
+    uint32_t sar_height;
+    uint32_t is_fixed_rate; /* fixed_frame_rate_flag */
+} h264v_info;
+
 /* A decoder. Its inside is hidden. */
 typedef struct h264v h264v;
+
+/* The version of the library that runs, as H264V_VERSION numbers it. */
+uint32_t h264v_version(void);
 
 /* Makes a decoder for one stream, and writes it to *decoder. The caller owns it until h264v_close.
  * Answers H264V_OPENED; H264V_MEMORY where memory was refused; H264V_MISUSE where the mode or the target is not known. */
 int32_t h264v_open(uint32_t mode, uint32_t target, h264v **decoder);
+
+/* As h264v_open, for a decoder that notes what h264v_explain needs to say where a verdict stands. It takes up to 30 % more time,
+ * 100 kB, and 80 bytes for each picture. */
+int32_t h264v_open_explaining(uint32_t mode, uint32_t target, h264v **decoder);
 
 /* Decodes the next `size` bytes of the stream. They are read before it returns, and not kept.
  * Answers H264V_GOES_ON, or H264V_FELL: then the verdict is in *verdict, no frame comes after those that wait, and each
@@ -105,10 +146,21 @@ int32_t h264v_receive(h264v *decoder, h264v_frame *frame);
  * further bytes are read. Frames may then wait. */
 void h264v_finish(h264v *decoder, h264v_verdict *verdict);
 
+/* Writes the verdict as one object of JSON into the `size` bytes at `buffer`, in UTF-8 with a 0 at its end. docs/OUTPUT.md names
+ * its fields: those of kind `verdict`, without `file`. The place, what was found there and what is allowed are among them where
+ * the decoder was opened by h264v_open_explaining.
+ * Answers the length of the object without the 0. Where that is not below `size` nothing was written, so call it again with more
+ * room. Answers 0 where the verdict does not stand yet, or memory was refused. */
+size_t h264v_explain(h264v *decoder, char *buffer, size_t size);
+
+/* Writes to *info what the sequence parameter set says that the last slice uses. Answers H264V_TOLD, or H264V_NOT_TOLD. With
+ * H264V_UNITS no slice is read. */
+int32_t h264v_stream(h264v *decoder, h264v_info *info);
+
 /* Lets go of a decoder, of the frame that it lent and of those that wait. It is not to be used again. */
 void h264v_close(h264v *decoder);
 
-/* Judges a whole stream of `size` bytes, and writes the verdict. No frames are kept. */
+/* Judges a whole stream of `size` bytes, and writes the verdict. No frames are made: H264V_FULL judges as H264V_VERDICT. */
 void h264v_check(const uint8_t *bytes, size_t size, uint32_t mode, uint32_t target, h264v_verdict *verdict);
 
 #ifdef __cplusplus

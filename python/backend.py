@@ -2,9 +2,12 @@
 import base64
 import hashlib
 import os
+import re
 import zipfile
 
-NAME, VERSION = "h264v", "0.1.0"
+NAME = "h264v"
+with open(os.path.join(NAME, "__init__.py"), encoding="utf-8") as module:
+    VERSION = re.search(r'^__version__ = "(.*)"$', module.read(), re.M)[1]
 INFO = f"{NAME}-{VERSION}.dist-info"
 METADATA = f"Metadata-Version: 2.1\nName: {NAME}\nVersion: {VERSION}\nSummary: A proved verifier and decoder of H.264 byte streams\nRequires-Python: >=3.8\n"
 WHEEL = "Wheel-Version: 1.0\nGenerator: backend\nRoot-Is-Purelib: true\nTag: py3-none-any\n"

@@ -7,7 +7,7 @@
 set -eu
 prefix=${1:-$HOME/.local}
 here=$(cd "$(dirname "$0")" && pwd)
-export H264V_LIBRARY="${H264V_LIBRARY:-$prefix/lib/libh264v.so.1}"
+export H264V_LIBRARY="${H264V_LIBRARY:-$prefix/lib/libh264v.so.0}"
 export H264V_PROGRAM="${H264V_PROGRAM:-$prefix/bin/h264v}"
 export PYTHONDONTWRITEBYTECODE=1
 exec python3 -m unittest discover -s "$here/tests" -v

@@ -3,7 +3,7 @@
 
     tools/compare_library.py PROGRAM LIBRARY PAGE SCREENSHOT FILE|FOLDER..
 
-PROGRAM is h264v, LIBRARY the shared object (libh264v.so.1), PAGE what web/build.sh wrote. The ways are C (examples/c/decode.c), Python (python/) and
+PROGRAM is h264v, LIBRARY the shared object (libh264v.so.0), PAGE what web/build.sh wrote. The ways are C (examples/c/decode.c), Python (python/) and
 the page in headless Chromium; SCREENSHOT shows it with the last stream. `-` for PAGE leaves the page out. A FOLDER stands for the .264 files in it.
 Each stream is judged for both targets. Says of each difference what it is, and at the end how many streams agree; status 1 where one differs.
 Needs cc, and chromium for the page. A plain build is compared as well as a proved one: which they are is the caller's to say.
@@ -87,9 +87,9 @@ class InC:
 
     def __init__(self, library, folder):
         self.path, self.output = os.path.join(folder, "decode"), os.path.join(folder, "frames.yuv")
-        os.symlink(os.path.abspath(library), os.path.join(folder, "libh264v.so.1"))
+        os.symlink(os.path.abspath(library), os.path.join(folder, "libh264v.so.0"))
         source = os.path.join(TOP, "examples", "c", "decode.c")
-        words = ["-std=c11", "-O2", "-I", os.path.join(TOP, "include"), source, os.path.join(folder, "libh264v.so.1"), f"-Wl,-rpath,{folder}"]
+        words = ["-std=c11", "-O2", "-I", os.path.join(TOP, "include"), source, os.path.join(folder, "libh264v.so.0"), f"-Wl,-rpath,{folder}"]
         subprocess.run(["cc", *words, "-o", self.path], check=True)
 
     def judge(self, name, target, wanted, samples):

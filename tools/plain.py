@@ -15,7 +15,7 @@ OPEN, CLOSE = "([{", ")]}"
 HERE = os.path.dirname(os.path.abspath(__file__))
 CARGO = """[package]
 name = "h264v-quick"
-version = "0.1.0"
+version = "@VERSION@"
 edition = "2024"
 [profile.release]
 opt-level = 3
@@ -181,7 +181,9 @@ def main():
     modules = "\n".join(f"mod h264_{name};" for name in CRATES)
     head = f"#![feature(portable_simd, alloc_error_hook)]\n#![allow(warnings)]\nmod rt;\n{modules}\n"
     write(f"{out}/src/main.rs", head + "\n".join(line for line in open(f"{HERE}/plain_main.rs") .read().split("\n") if not line.startswith("//!")))
-    write(f"{out}/Cargo.toml", CARGO)
+    with open(f"{top}/VERSION", encoding="utf-8") as file:
+        version = file.read().split()[0]
+    write(f"{out}/Cargo.toml", CARGO.replace("@VERSION@", version))
 
 
 main()

@@ -203,7 +203,7 @@ fn main() {
     };
     let [command, file] = &words[..] else { fault() };
     let (task, mode) = match command.as_str() {
-        "check" => (Task::Check, Mode::Full),
+        "check" => (Task::Check, Mode::Verdict),
         "units" => (Task::Units, Mode::Units),
         "headers" => (Task::Headers, Mode::Headers),
         "frames" => (Task::Frames, Mode::Full),

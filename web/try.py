@@ -70,6 +70,7 @@ def try_legal(page, program, name):
     expect(page.evaluate("get('sets').rows.length") > 1, "the sets are shown")
     expect(re.fullmatch(r"\d+ pictures, the largest of \d+ bytes", text(page, "scale")), "the plot has its scale: " + text(page, "scale"))
     expect(page.evaluate(RED % "plot")[0] == 0 and is_hidden(page, "failure"), "nothing is marked in red")
+    return line
 
 
 def try_frames(page):
@@ -83,6 +84,15 @@ def try_frames(page):
     page.evaluate("get('place').value = 0; get('place').oninput(); get('rate').value = 120; get('play').click()")
     page.evaluate("(async () => { while (playing) await new Promise((go) => setTimeout(go, 10)); })()")
     expect(page.evaluate("shown") == last and page.evaluate(SHOWS % last), f"playing goes from the first to frame {last}, and stops there")
+
+
+def try_alone(page, name, line):
+    """The verdict alone: the same line, and no frames."""
+    page.evaluate("get('alone').checked = true")
+    alone, frames = page.judge(name)
+    expect(alone == line and not frames and is_hidden(page, "frames"), f"the verdict alone is the same, without frames: {alone}")
+    expect(page.evaluate("get('sets').rows.length") > 1, "the sets are shown beside it")
+    page.evaluate("get('alone').checked = false")
 
 
 def explained(program, name):
@@ -127,8 +137,9 @@ def main():
         sys.exit(__doc__)
     program, path, screenshot, legal, broken = sys.argv[1:]
     with ShownPage(path) as page:
-        try_legal(page, program, os.path.abspath(legal))
+        line = try_legal(page, program, os.path.abspath(legal))
         try_frames(page)
+        try_alone(page, os.path.abspath(legal), line)
         try_broken(page, program, os.path.abspath(broken))
         page.screenshot(screenshot)
         try_silence(page)

@@ -8,11 +8,17 @@
 #include <stdlib.h>
 
 enum { SIDE = 16, SAMPLES = SIDE * SIDE * 3 / 2, GREY = 128, MARK = 0x5a, VECTOR_BIT = 256, BYTES_OF_VERDICT = 72, BYTES_OF_FRAME = 32 };
-enum { MORE = 40 };
+enum { MORE = 40, OBJECT = 2048, BYTES_OF_INFO = 72 };
 
 /* The sizes that other languages lay out by hand. */
 _Static_assert(sizeof(h264v_verdict) == BYTES_OF_VERDICT, "the size of a verdict");
 _Static_assert(sizeof(h264v_frame) == BYTES_OF_FRAME, "the size of a frame");
+_Static_assert(sizeof(h264v_info) == BYTES_OF_INFO, "the size of the information");
+
+/* Parameter sets and the slice of a picture of 32x16 of which 30x6 is shown, with samples of 4:3 and 60000/1001 ticks a second. */
+static const uint8_t CROPPED[] = {0, 0, 0, 1, 0x67, 0x42, 0xc0, 0x0a, 0xda, 0x2f, 0xa6, 0x4f, 0xfc, 0x00, 0x10, 0x00, 0x0c,
+                                  0x40, 0x00, 0x00, 0xfa, 0x40, 0x00, 0x3a, 0x98, 0x21, 0, 0, 0, 1, 0x68, 0xce, 0x38, 0x80,
+                                  0, 0, 0, 1, 0x65, 0x88, 0x84, 0x93, 0xc0};
 
 /* Whether every byte of a thing is the mark that was put there. */
 static int is_marked(const void *thing, size_t size)
@@ -48,9 +54,9 @@ static int is_vector_range(const h264v_verdict *v)
 static void opens(void)
 {
     h264v *decoder;
-    for (uint32_t mode = 0; mode < 4; mode++) {
+    for (uint32_t mode = 0; mode < 5; mode++) {
         for (uint32_t target = 0; target < 3; target++) {
-            int known = mode <= H264V_FULL && target <= H264V_MAIN_IP;
+            int known = mode <= H264V_VERDICT && target <= H264V_MAIN_IP;
             memset(&decoder, MARK, sizeof decoder);
             expect(h264v_open(mode, target, &decoder) == (known ? H264V_OPENED : H264V_MISUSE), "open answers by mode and target");
             expect(is_marked(&decoder, sizeof decoder) == !known, "open writes a decoder where there is one");
@@ -117,14 +123,14 @@ static void many_in_pieces(const stream *s, size_t piece)
 }
 
 /* Modes that give no frames. */
-static void no_frames(const stream *s, uint32_t mode, uint64_t pictures)
+static void no_frames(const stream *s, uint32_t mode, uint64_t pictures, uint64_t frames)
 {
     h264v *decoder = opened(mode, H264V_BASELINE);
     h264v_verdict verdict;
     h264v_frame frame;
     expect(h264v_send(decoder, s->bytes, s->size, &verdict) == H264V_GOES_ON, "a legal stream goes on in each mode");
     h264v_finish(decoder, &verdict);
-    expect(is_yes(&verdict, 3, pictures, 0), "the verdict without frames");
+    expect(is_yes(&verdict, 3, pictures, frames), "the verdict without frames");
     expect(h264v_receive(decoder, &frame) == H264V_NO_FRAME, "no frame without H264V_FULL");
     h264v_close(decoder);
 }
@@ -218,6 +224,107 @@ static void two_at_once(const stream *s)
     h264v_close(first); /* its frame is lent */
 }
 
+/* The version of the library is that of the header. */
+static void versions(void)
+{
+    char text[16];
+    snprintf(text, sizeof text, "%u.%u.%u", (unsigned)(h264v_version() >> 16), (unsigned)(h264v_version() >> 8 & 255), (unsigned)(h264v_version() & 255));
+    expect(h264v_version() == H264V_VERSION && strcmp(text, H264V_VERSION_TEXT) == 0, "the version is that of the header");
+}
+
+/* A decoder that explains its verdict, which has to be had. */
+static h264v *explaining(uint32_t mode)
+{
+    h264v *decoder;
+    if (h264v_open_explaining(mode, H264V_BASELINE, &decoder) == H264V_OPENED)
+        return decoder;
+    printf("not so: there is a decoder that explains\n");
+    exit(EXIT_FAILURE);
+}
+
+/* Whether an object of JSON has a text in it. */
+static int has(const char *object, const char *text)
+{
+    if (strstr(object, text))
+        return 1;
+    printf("%s\n", object);
+    return 0;
+}
+
+/* h264v_explain of a broken stream, in pieces of so many bytes, with room for the object and without. */
+static void explains(const stream *s, size_t piece)
+{
+    h264v *decoder = explaining(H264V_FULL);
+    h264v_verdict verdict;
+    char object[OBJECT], marked[OBJECT];
+    size_t length;
+    memset(object, MARK, sizeof object);
+    expect(h264v_explain(decoder, object, sizeof object) == 0 && is_marked(object, sizeof object), "nothing is explained before the verdict");
+    for (size_t at = 0; at < s->size; at += piece)
+        h264v_send(decoder, s->bytes + at, s->size - at < piece ? s->size - at : piece, &verdict);
+    h264v_finish(decoder, &verdict);
+    expect(is_vector_range(&verdict), "the verdict of a decoder that explains");
+    length = h264v_explain(decoder, object, sizeof object);
+    expect(length > 0 && length < sizeof object && strlen(object) == length, "an object with a 0 at its end");
+    expect(is_marked(object + length + 1, sizeof object - length - 1), "nothing is written after it");
+    expect(has(object, "{\"kind\":\"verdict\",\"verdict\":\"no\",\"status\":1,\"rule\":\"VectorRange\",\"clause\":\"A.3\","), "the verdict");
+    expect(has(object, ",\"bit\":256,\"byte\":32,\"unit\":29,\"nal_unit_type\":1,"), "its bit");
+    expect(has(object, "\"picture\":1,\"frame_num\":1,\"slice\":0,\"macroblock\":0,\"column\":0,\"row\":0,\"element\":\"mb_type\","), "the place");
+    expect(has(object, "\"ends_in_unit\":true,\"allowed\":\"vectors of -8192 to 8191 across and -256 to 255 down,"), "what is allowed");
+    expect(has(object, "\"cause\":\"") && object[length - 1] == '}', "the cause");
+    memset(marked, MARK, sizeof marked);
+    expect(h264v_explain(decoder, marked, length) == length && is_marked(marked, sizeof marked), "nothing is written where there is no room");
+    expect(h264v_explain(decoder, marked, length + 1) == length && strcmp(marked, object) == 0, "just enough room");
+    expect(is_marked(marked + length + 1, sizeof marked - length - 1), "nothing is written after that");
+    h264v_close(decoder);
+}
+
+/* h264v_explain of a decoder that does not note places, and of a legal stream. */
+static void explains_plainly(const stream *legal, const stream *bad)
+{
+    h264v *decoder = opened(H264V_FULL, H264V_BASELINE);
+    h264v_verdict verdict;
+    char object[OBJECT];
+    h264v_send(decoder, bad->bytes, bad->size, &verdict);
+    h264v_finish(decoder, &verdict);
+    expect(h264v_explain(decoder, object, sizeof object) > 0, "an object without a place");
+    expect(has(object, "\"clause\":\"A.3\",\"bit\":256,\"byte\":32,\"breaks\":\"") && !strstr(object, "macroblock\":"), "which has the bit");
+    h264v_close(decoder);
+    decoder = explaining(H264V_FULL);
+    h264v_send(decoder, legal->bytes, legal->size, &verdict);
+    h264v_finish(decoder, &verdict);
+    expect(h264v_explain(decoder, object, sizeof object) > 0, "an object of a yes");
+    expect(strcmp(object, "{\"kind\":\"verdict\",\"verdict\":\"yes\",\"status\":0,\"units\":3,\"pictures\":1,\"frames\":1}") == 0, "which has its counts");
+    h264v_close(decoder);
+    expect(h264v_open_explaining(H264V_FULL, 2, &decoder) == H264V_MISUSE, "a decoder that explains has a target that is known");
+}
+
+/* h264v_stream before a slice, and with cropping, an aspect ratio and a rate. */
+static void tells_streams(const stream *s)
+{
+    h264v *decoder = opened(H264V_HEADERS, H264V_BASELINE);
+    h264v_verdict verdict;
+    h264v_info info;
+    memset(&info, MARK, sizeof info);
+    expect(h264v_stream(decoder, &info) == H264V_NOT_TOLD && is_marked(&info, sizeof info), "nothing is told before a slice");
+    h264v_send(decoder, CROPPED, sizeof CROPPED, &verdict);
+    h264v_finish(decoder, &verdict);
+    expect(verdict.kind == H264V_YES, "the cropped stream is legal so far");
+    expect(h264v_stream(decoder, &info) == H264V_TOLD, "a stream is told");
+    expect(info.profile_idc == 66 && info.level_idc == 10 && info.is_level_1b == 0, "profile and level");
+    expect(info.coded_width == 32 && info.coded_height == 16 && info.width == 30 && info.height == 6, "the sizes");
+    expect(info.crop_left == 0 && info.crop_right == 2 && info.crop_top == 4 && info.crop_bottom == 6, "the cropping");
+    expect(info.sar_width == 4 && info.sar_height == 3, "the aspect ratio");
+    expect(info.rate_frames == 60000 && info.rate_seconds == 2002 && info.is_fixed_rate == 1, "the rate");
+    h264v_close(decoder);
+    decoder = opened(H264V_FULL, H264V_BASELINE);
+    h264v_send(decoder, s->bytes, s->size, &verdict);
+    h264v_finish(decoder, &verdict);
+    expect(h264v_stream(decoder, &info) == H264V_TOLD && info.width == SIDE && info.height == SIDE, "the size of the sample");
+    expect(info.sar_width == 0 && info.sar_height == 0 && info.rate_frames == 0 && info.rate_seconds == 0, "what it does not give is 0");
+    h264v_close(decoder);
+}
+
 int main(int argc, char **argv)
 {
     stream legal, bad, many;
@@ -228,13 +335,19 @@ int main(int argc, char **argv)
         legal_in_pieces(&legal, piece);
     for (size_t piece = 1; piece <= many.size; piece *= 8)
         many_in_pieces(&many, piece);
-    no_frames(&legal, H264V_UNITS, 0);
-    no_frames(&legal, H264V_HEADERS, 1);
+    no_frames(&legal, H264V_UNITS, 0, 0);
+    no_frames(&legal, H264V_HEADERS, 1, 0);
+    no_frames(&legal, H264V_VERDICT, 1, 1);
     broken(&bad);
     of_little();
     outside(&legal);
     checks(&legal, &bad);
     two_at_once(&legal);
+    versions();
+    explains(&bad, 1);
+    explains(&bad, bad.size);
+    explains_plainly(&legal, &bad);
+    tells_streams(&legal);
     free(legal.bytes);
     free(bad.bytes);
     free(many.bytes);

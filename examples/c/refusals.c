@@ -148,6 +148,38 @@ static long refused_checks(const stream *s)
     return number - 1;
 }
 
+/* A decoder that explains, with each allocation refused up to the verdict and its object; how many there were. */
+static long refused_explanations(const stream *s)
+{
+    enum { OBJECT = 2048 };
+    long number = 0, before = standing;
+    int was_refused = 1;
+    while (was_refused) {
+        h264v *decoder = NULL;
+        h264v_verdict verdict;
+        char object[OBJECT];
+        size_t length = 1;
+        until = ++number;
+        if (h264v_open_explaining(H264V_FULL, H264V_BASELINE, &decoder) == H264V_OPENED) {
+            h264v_send(decoder, s->bytes, s->size, &verdict);
+            h264v_finish(decoder, &verdict);
+            was_refused = until == 0;
+            expect(!was_refused || verdict.kind == H264V_MEMORY, "a decoder that explains says memory");
+            length = h264v_explain(decoder, object, sizeof object);
+            expect(was_refused || until > 0 || length == 0, "an object for which there is no memory is none");
+            was_refused = until == 0;
+            until = 0;
+            h264v_close(decoder);
+        } else {
+            was_refused = until == 0;
+            until = 0;
+            expect(was_refused && !decoder, "open_explaining says memory");
+        }
+        expect(standing == before, "a decoder that explains frees all");
+    }
+    return number - 1;
+}
+
 /* Decodes and checks a stream with each of its allocations refused, and prints how many there were. */
 static void refuse_each(const char *name, const stream *s)
 {
@@ -158,7 +190,8 @@ static void refuse_each(const char *name, const stream *s)
     h264v_close(decoder);
     while (refused(s, ++number, &whole, &all))
         untold += is_untold;
-    printf("%s: %ld allocations, each refused in turn, %ld of them untold; %ld of a check\n", name, number - 1, untold, refused_checks(s));
+    printf("%s: %ld allocations, each refused in turn, %ld of them untold; %ld of a check; %ld with an explanation\n", name, number - 1, untold,
+           refused_checks(s), refused_explanations(s));
 }
 
 int main(int argc, char **argv)

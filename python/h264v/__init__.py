@@ -3,9 +3,10 @@
     import h264v
 
     verdict = h264v.check(data)                     # a verdict on bytes
-    with open(name, "rb") as file, h264v.Decoder(file) as decoder:
+    print(h264v.explain(data)["cause"])             # the verdict with its place and its cause, as a dict
+    with h264v.Decoder("clip.264") as decoder:      # a path, bytes, an open file, or an iterable of bytes
         for frame in decoder:                       # frames in the order of output
-            use(frame.y, frame.cb, frame.cr)        # memoryviews of rows and columns
+            use(frame.y, frame.cb, frame.cr)        # memoryviews of rows and columns, which numpy takes without a copy
     decoder.verdict                                 # the verdict on what was read
 
 The library is looked for where H264V_LIBRARY says, then where the system's loader looks, then in ~/.local/lib.
@@ -13,10 +14,15 @@ The library is looked for where H264V_LIBRARY says, then where the system's load
 import ctypes
 import ctypes.util
 import enum
+import json
 import os
-from typing import NamedTuple
+from fractions import Fraction
+from typing import NamedTuple, Optional
 
-__all__ = ["Decoder", "Frame", "Kind", "Mode", "Target", "Verdict", "check"]
+__all__ = ["Decoder", "Frame", "Info", "Kind", "Mode", "Target", "Verdict", "check", "explain", "library_version"]
+
+#: The version of this module, which is that of the library that it was written for.
+__version__ = "0.1.0"
 
 #: How many bytes a decoder reads of a file at a time: few, so that few frames wait at once.
 PIECE = 1 << 12
@@ -28,6 +34,7 @@ class Mode(enum.IntEnum):
     UNITS = 0  #: the byte stream, its units, and the parameter sets
     HEADERS = 1  #: these, and slice headers
     FULL = 2  #: these, and slice data, of which the frames are made
+    VERDICT = 3  #: these, and slice data, without making frames
 
 
 class Target(enum.IntEnum):
@@ -75,6 +82,28 @@ class Frame(NamedTuple):
     cr: memoryview
 
 
+class Info(NamedTuple):
+    """What the sequence parameter set says that the last slice uses. Sizes are in luma samples."""
+
+    profile_idc: int
+    #: ten times the level; level 1b is 9, or 11 where is_level_1b is True
+    level_idc: int
+    is_level_1b: bool
+    #: what is shown
+    width: int
+    height: int
+    #: before cropping
+    coded_width: int
+    coded_height: int
+    #: what cropping cuts off: left, right, top, bottom
+    cropping: tuple
+    #: the sample aspect ratio as (width, height); None where it is not specified
+    aspect_ratio: Optional[tuple]
+    #: the frame rate; None where it is not given
+    frame_rate: Optional[Fraction]
+    is_fixed_rate: bool
+
+
 class _Verdict(ctypes.Structure):
     _fields_ = [
         *((name, ctypes.c_uint64) for name in ("bit", "units", "pictures", "frames")),
@@ -94,15 +123,29 @@ class _Frame(ctypes.Structure):
     ]
 
 
+class _Info(ctypes.Structure):
+    _fields_ = [
+        *((name, ctypes.c_uint64) for name in ("rate_frames", "rate_seconds")),
+        *(
+            (name, ctypes.c_uint32)
+            for name in (
+                "profile_idc level_idc is_level_1b width height coded_width coded_height crop_left crop_right crop_top crop_bottom "
+                "sar_width sar_height is_fixed_rate"
+            ).split()
+        ),
+    ]
+
+
 _MEMORY = 3
 _OPENED = 0
+_TOLD = 1
 _FRAME = 1
 _FELL = 1
 
 
 def _load():
-    home = os.path.expanduser("~/.local/lib/libh264v.so.1")
-    names = [os.environ.get("H264V_LIBRARY"), "libh264v.so.1", ctypes.util.find_library("h264v"), home]
+    home = os.path.expanduser("~/.local/lib/libh264v.so.0")
+    names = [os.environ.get("H264V_LIBRARY"), "libh264v.so.0", ctypes.util.find_library("h264v"), home]
     causes = []
     for name in filter(None, names):
         try:
@@ -114,21 +157,34 @@ def _load():
 
 def _declared(library):
     handle, size, number, bytes_at = ctypes.c_void_p, ctypes.c_size_t, ctypes.c_uint32, ctypes.c_void_p
-    verdict, frame = ctypes.POINTER(_Verdict), ctypes.POINTER(_Frame)
+    verdict, frame, info = ctypes.POINTER(_Verdict), ctypes.POINTER(_Frame), ctypes.POINTER(_Info)
     for name, answer, arguments in (
+        ("h264v_version", number, []),
         ("h264v_open", ctypes.c_int32, [number, number, ctypes.POINTER(handle)]),
+        ("h264v_open_explaining", ctypes.c_int32, [number, number, ctypes.POINTER(handle)]),
+        ("h264v_explain", size, [handle, ctypes.c_char_p, size]),
+        ("h264v_stream", ctypes.c_int32, [handle, info]),
         ("h264v_send", ctypes.c_int32, [handle, bytes_at, size, verdict]),
         ("h264v_receive", ctypes.c_int32, [handle, frame]),
         ("h264v_finish", None, [handle, verdict]),
         ("h264v_close", None, [handle]),
         ("h264v_check", None, [bytes_at, size, number, number, verdict]),
     ):
-        function = getattr(library, name)
+        try:
+            function = getattr(library, name)
+        except AttributeError:
+            raise ImportError(f"libh264v is older than this module: it has no {name}") from None
         function.restype, function.argtypes = answer, arguments
     return library
 
 
 _library = _declared(_load())
+
+
+def library_version():
+    """The version of the library, as `__version__` has that of the module."""
+    number = _library.h264v_version()
+    return f"{number >> 16}.{number >> 8 & 255}.{number & 255}"
 
 
 def _told(verdict):
@@ -162,8 +218,26 @@ def check(data, mode=Mode.FULL, target=Target.BASELINE):
     return _told(verdict)
 
 
+def explain(data, mode=Mode.FULL, target=Target.BASELINE):
+    """The verdict on a whole stream, a bytes-like object, as a dict: its place, what was found there, what is allowed and what usually causes it.
+
+    docs/OUTPUT.md names the fields: those of JSON of kind `verdict`, without `file`."""
+    with Decoder(data, mode, target, explain=True) as decoder:
+        for _ in decoder:
+            pass
+        return decoder.explain()
+
+
+def _file_pieces(path):
+    """The bytes of the file of a name, in pieces."""
+    with open(path, "rb") as file:
+        yield from iter(lambda: file.read(PIECE), b"")
+
+
 def _pieces(source):
-    """The bytes of a bytes-like object, of a file that is open for reading, or of an iterable of bytes, in pieces."""
+    """The bytes of a file by its path, of a bytes-like object, of a file that is open for reading, or of an iterable of bytes, in pieces."""
+    if isinstance(source, (str, os.PathLike)):
+        return _file_pieces(source)
     if isinstance(source, (bytes, bytearray, memoryview)):
         view = memoryview(source).cast("B")
         return (view[at : at + PIECE] for at in range(0, len(view), PIECE))
@@ -175,25 +249,28 @@ def _pieces(source):
 class Decoder:
     """An iterator over the frames of a stream, in the order of output.
 
-    The source is a bytes-like object, a file that is open for reading, or an iterable of bytes. It is read as frames are
-    asked for. Once the iterator is at its end, `verdict` is the verdict on what was read; before that it is None.
+    The source is a path (str or os.PathLike), a bytes-like object, a file that is open for reading, or an iterable of bytes. It is
+    read as frames are asked for. Once the iterator is at its end, `verdict` is the verdict on what was read; before that it is None.
 
-    Each frame has its own bytes. With lend=True it has the library's: they stay until the next frame is asked for or the
-    decoder is closed, and no longer, whoever still holds a view of them.
+    Each frame has its own bytes, of which `numpy.asarray(frame.y)` makes no further copy. With lend=True it has the library's: they
+    stay until the next frame is asked for or the decoder is closed, and no longer, whoever still holds a view of them.
 
-    Raises ValueError for a mode or a target that is none, TypeError for a source or a piece that is none, and MemoryError where memory
+    With explain=True `explain` says where a verdict stands and what was found there. That takes up to 30 % more time.
+
+    Raises OSError where a path cannot be opened or read, ValueError for a mode or a target that is none, TypeError for a source or a piece that is none, and MemoryError where memory
     is refused.
     """
 
     #: The library's decoder; None where there is none, or none any more.
     _handle = None
 
-    def __init__(self, source, mode=Mode.FULL, target=Target.BASELINE, lend=False):
+    def __init__(self, source, mode=Mode.FULL, target=Target.BASELINE, lend=False, explain=False):
         self.verdict = None
         self._pieces = _pieces(source)
         self._lend = lend
         handle = ctypes.c_void_p()
-        if _library.h264v_open(Mode(mode), Target(target), handle) != _OPENED:
+        make = _library.h264v_open_explaining if explain else _library.h264v_open
+        if make(Mode(mode), Target(target), handle) != _OPENED:
             raise MemoryError("libh264v: memory was refused")
         self._handle = handle
 
@@ -239,6 +316,36 @@ class Decoder:
             plane(luma, chroma, (height // 2, width // 2)),
             plane(luma + chroma, chroma, (height // 2, width // 2)),
         )
+
+    @property
+    def info(self):
+        """What the stream is (Info), once a slice was read; None before that, and once the decoder is closed."""
+        info = _Info()
+        if self._handle is None or _library.h264v_stream(self._handle, info) != _TOLD:
+            return None
+        return Info(
+            info.profile_idc,
+            info.level_idc,
+            bool(info.is_level_1b),
+            info.width,
+            info.height,
+            info.coded_width,
+            info.coded_height,
+            (info.crop_left, info.crop_right, info.crop_top, info.crop_bottom),
+            (info.sar_width, info.sar_height) if info.sar_height else None,
+            Fraction(info.rate_frames, info.rate_seconds) if info.rate_seconds else None,
+            bool(info.is_fixed_rate),
+        )
+
+    def explain(self):
+        """The verdict as a dict, as `h264v.explain` gives it. None where it does not stand yet, and once the decoder is closed."""
+        if self._handle is None or self.verdict is None:
+            return None
+        size = _library.h264v_explain(self._handle, b"", 0)
+        text = ctypes.create_string_buffer(size + 1)
+        if size == 0 or _library.h264v_explain(self._handle, text, size + 1) != size:
+            raise MemoryError("libh264v: memory was refused")
+        return json.loads(text.value.decode("utf-8"))
 
     def close(self):
         """Lets go of the decoder and of the frame that it lent. Further calls do nothing."""

@@ -5,6 +5,7 @@ import glob
 import hashlib
 import io
 import os
+import pathlib
 import subprocess
 import sys
 import unittest
@@ -43,6 +44,45 @@ class Check(unittest.TestCase):
             h264v.check(b"", 7)
 
 
+class Version(unittest.TestCase):
+    def test_the_library_has_the_version_of_the_module(self):
+        self.assertEqual(h264v.library_version(), h264v.__version__)
+
+
+class Explain(unittest.TestCase):
+    def test_a_broken_rule(self):
+        found = h264v.explain(read("vector_too_long.264"))
+        wanted = {"verdict": "no", "status": 1, "rule": "VectorRange", "clause": "A.3", "bit": 256, "picture": 1, "macroblock": 0, "element": "mb_type"}
+        self.assertEqual({key: found.get(key) for key in wanted}, wanted)
+        self.assertTrue(found["allowed"].startswith("vectors of -8192 to 8191 across"))
+        self.assertTrue(found["cause"])
+
+    def test_a_legal_stream(self):
+        found = h264v.explain(read("one_frame.264"))
+        self.assertEqual(found, {"kind": "verdict", "verdict": "yes", "status": 0, "units": 3, "pictures": 1, "frames": 1})
+
+    def test_without_places(self):
+        decoder = h264v.Decoder(read("vector_too_long.264"))
+        self.assertIsNone(decoder.explain())
+        list(decoder)
+        found = decoder.explain()
+        self.assertEqual((found["rule"], found["bit"], found.get("macroblock")), ("VectorRange", 256, None))
+        decoder.close()
+        self.assertIsNone(decoder.explain())
+
+
+class Stream(unittest.TestCase):
+    def test_what_a_set_says(self):
+        decoder = h264v.Decoder(read("one_frame.264"))
+        self.assertIsNone(decoder.info)
+        list(decoder)
+        info = decoder.info
+        self.assertEqual((info.profile_idc, info.level_idc, info.width, info.height), (66, 10, 16, 16))
+        self.assertEqual((info.cropping, info.aspect_ratio, info.frame_rate), ((0, 0, 0, 0), None, None))
+        decoder.close()
+        self.assertIsNone(decoder.info)
+
+
 class Decode(unittest.TestCase):
     def test_planes(self):
         decoder = h264v.Decoder(read("one_frame.264"))
@@ -57,6 +97,20 @@ class Decode(unittest.TestCase):
         sources = (data, bytearray(data), io.BytesIO(data), [data[:7], b"", data[7:]], (bytes([b]) for b in data))
         frames = [[bytes(f.samples) for f in h264v.Decoder(source)] for source in sources]
         self.assertTrue(all(f == frames[0] for f in frames))
+
+    def test_paths(self):
+        path = os.path.join(SAMPLES, "one_frame.264")
+        for source in (path, pathlib.Path(path)):
+            with h264v.Decoder(source) as decoder:
+                self.assertEqual(len(list(decoder)), 1)
+                self.assertEqual(decoder.verdict.kind, h264v.Kind.YES)
+        with self.assertRaises(OSError):
+            list(h264v.Decoder(os.path.join(SAMPLES, "none.264")))
+
+    def test_planes_share_the_frames_memory(self):
+        (frame,) = h264v.Decoder(read("one_frame.264"))
+        for plane in (frame.y, frame.cb, frame.cr):
+            self.assertIs(plane.obj, frame.samples.obj)
 
     def test_lent_frames(self):
         data = read("one_frame.264")
@@ -118,6 +172,7 @@ class Decode(unittest.TestCase):
         plane = numpy.asarray(frame.y)
         self.assertEqual(plane.shape, (frame.height, frame.width))
         self.assertEqual(plane.tobytes(), bytes(frame.y))
+        self.assertTrue(numpy.shares_memory(plane, numpy.asarray(frame.samples)))
 
 
 @unittest.skipUnless(os.environ.get("H264V_PROGRAM") and os.environ.get("H264V_STREAMS"), "no program or no streams are named")

@@ -8,6 +8,8 @@ pub enum Mode {
     Units,
     /// These, and slice headers with the order of frames that they give.
     Headers,
+    /// These, and slice data. Every rule is judged as in `Full`, and no frame is made.
+    Verdict,
     /// These, and slice data, of which the frames are made.
     Full,
 }

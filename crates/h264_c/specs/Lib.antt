@@ -1,3 +1,4 @@
 pub mod Numbers
 pub mod Verdicts
 pub mod Frames
+pub mod Infos

@@ -14,6 +14,7 @@ pub(crate) fn mode_of(number: u32) -> Option<Mode>
         0 => Some(Mode::Units),
         1 => Some(Mode::Headers),
         2 => Some(Mode::Full),
+        3 => Some(Mode::Verdict),
         _ => None,
     }
 }

@@ -5,8 +5,6 @@ use Rattle.h264_base.specs.declared.mode.Mode.{Mode}
 use Rattle.h264_base.specs.declared.mode.Target.{Target}
 use Rattle.h264_base.specs.declared.stop.Stop.{Stop}
 use Rattle.h264_base.specs.declared.stop.Stop.TheVariants.{No, Outside, Memory, Read, Write}
-use Rattle.h264_plane.specs.Frames.{no_frame}
-use Rattle.h264_plane.specs.declared.frame.Frame.{Frame}
 use Rattle.h264_lines.specs.Chosen.{TookChosen}
 use Rattle.h264_report.specs.Written.{OfBytes}
 use Rattle.h264_verify.specs.Account.{Account, calls_in}
@@ -19,6 +17,9 @@ use Rattle.h264_pages.specs.declared.survey.surveyed.Surveyed.{Surveyed}
 use Rattle.h264_verify.proofs.Accounts.{accounts}
 use Rattle.h264_report.proofs.Accounts.{of-bytes, of-map}
 use Rattle.h264_pages.proofs.Surveying.{none-surveyed}
+use Rattle.h264_verify.specs.Modes.{purpose_for}
+use Rattle.h264_verify.specs.Telling.{Family, IsFamilyFor}
+use Rattle.h264_verify.proofs.Purposes.{with-family}
 use Rattle.h264_verify.specs.Units.{terms_of}
 use Rattle.h264_verify.specs.Verdict.{Judged}
 use Rattle.h264_base.specs.declared.summary.Summary.{Summary}
@@ -29,7 +30,7 @@ use Rattle.h264_command.specs.declared.job.Job.{Job}
 use Rattle.h264_command.specs.Words.{mode_of}
 use Rattle.h264_command.specs.declared.command_line.Task.{Task}
 
-of-judged : {S : Type 0} {took : S → List Call → Type 0} {failures : S → ℕ} {terms : Terms} {bytes : List ℕ} {frames : ℕ → Frame} {s s' : S}
+of-judged : {S : Type 0} {took : S → List Call → Type 0} {failures : S → ℕ} {terms : Terms} {bytes : List ℕ} {frames : Family} {s s' : S}
     (answer : Result Summary Stop) →
     Judged terms (span took failures s s') bytes frames [] answer → IsAnswer terms bytes answer
 of-judged (Ok summary) j = (j.judged.0.more, j.judged.0.verdict)
@@ -43,32 +44,34 @@ of-judged (Err Write) j = tt
 pub answered : {S : Type 0} {took : S → List Call → Type 0} {failures : S → ℕ} {s s' : S} (task : Task) (target : Target) (mode : Mode)
     (left : Option (List ℕ)) (answer : Result Summary Stop) →
     mode ≡ mode_of task → ((bytes : List ℕ) → left ≡ Some bytes →
-    (frames : ℕ → Frame) → Judged (terms_of mode target) (span took failures s s') bytes frames [] answer) →
-    (some : List ℕ) → ((frames : ℕ → Frame) → Judged (terms_of mode target) (span took failures s s') some frames [] answer) →
+    (frames : Family) → IsFamilyFor (purpose_for mode) frames → Judged (terms_of mode target) (span took failures s s') bytes frames [] answer) →
+    (some : List ℕ) → ((frames : Family) → IsFamilyFor (purpose_for mode) frames →
+    Judged (terms_of mode target) (span took failures s s') some frames [] answer) →
     IsAnswerOf task target left answer
 answered task target mode left answer is known some judged =
     subst (λ m. OfBytes left (λ bytes. IsAnswer (terms_of m target) bytes answer)) is
-    (of-bytes left (λ bytes. IsAnswer (terms_of mode target) bytes answer) (λ bytes h. of-judged answer (known bytes h (λ k. no_frame)))
-    (some, of-judged answer (judged (λ k. no_frame))))
+    (of-bytes left (λ bytes. IsAnswer (terms_of mode target) bytes answer) (λ bytes h. of-judged answer (with-family (purpose_for mode) (known bytes h)))
+    (some, of-judged answer (with-family (purpose_for mode) judged)))
 
 -- the calls that a sink took of what a source gives
 pub took-calls : {S : Type 0} {took : S → List Call → Type 0} {failures : S → ℕ} {s s' : S} (task : Task) (target : Target) (mode : Mode)
     (left : Option (List ℕ)) (answer : Result Summary Stop) →
     mode ≡ mode_of task → ((bytes : List ℕ) → left ≡ Some bytes →
-    (frames : ℕ → Frame) → Judged (terms_of mode target) (span took failures s s') bytes frames [] answer) →
-    (some : List ℕ) → ((frames : ℕ → Frame) → Judged (terms_of mode target) (span took failures s s') some frames [] answer) → took s [] →
+    (frames : Family) → IsFamilyFor (purpose_for mode) frames → Judged (terms_of mode target) (span took failures s s') bytes frames [] answer) →
+    (some : List ℕ) → ((frames : Family) → IsFamilyFor (purpose_for mode) frames →
+    Judged (terms_of mode target) (span took failures s s') some frames [] answer) → took s [] →
     OfBytes left (λ bytes. (a : Account (terms_of (mode_of task) target) bytes answer) × took s' (calls_in a))
 took-calls {took = took} {s' = s'} task target mode left answer is known some judged none =
     subst (λ m. OfBytes left (λ bytes. (a : Account (terms_of m target) bytes answer) × took s' (calls_in a))) is
     (of-bytes left (λ bytes. (a : Account (terms_of mode target) bytes answer) × took s' (calls_in a))
-    (λ bytes h. accounts (known bytes h (λ k. no_frame)) none) (some, accounts (judged (λ k. no_frame)) none))
+    (λ bytes h. accounts (with-family (purpose_for mode) (known bytes h)) none) (some, accounts (with-family (purpose_for mode) judged) none))
 
 -- and those that a sink took whose calls are surveyed, with its survey
 pub surveyed-calls : {S M : Type 0} (took : S → List Call → Type 0) {failures : Surveyed S M → ℕ} {s s' : Surveyed S M} (task : Task) (target : Target)
     (mode : Mode) (left : Option (List ℕ)) (answer : Result Summary Stop) →
-    mode ≡ mode_of task → ((bytes : List ℕ) → left ≡ Some bytes → (frames : ℕ → Frame) →
+    mode ≡ mode_of task → ((bytes : List ℕ) → left ≡ Some bytes → (frames : Family) → IsFamilyFor (purpose_for mode) frames →
     Judged (terms_of mode target) (span (λ (x : Surveyed S M) calls. took x.sink calls × HasSurveyed x.survey calls) failures s s') bytes frames [] answer) →
-    (some : List ℕ) → ((frames : ℕ → Frame) →
+    (some : List ℕ) → ((frames : Family) → IsFamilyFor (purpose_for mode) frames →
     Judged (terms_of mode target) (span (λ (x : Surveyed S M) calls. took x.sink calls × HasSurveyed x.survey calls) failures s s') some frames [] answer) →
     took s.sink [] → IsTold s.survey nothing_told → OfBytes left (λ bytes. (a : Account (terms_of (mode_of task) target) bytes answer)
     × took s'.sink (calls_in a))

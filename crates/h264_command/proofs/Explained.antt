@@ -1,7 +1,7 @@
 -- The entries of labels, with one more.
 use Rattle.std.proofs.Common.{◌≡◌, ℕ, ◌+◌, ◌<◌, Bool, List, [], ◌∷◌, ◌++◌, map, flat_map, take, length, get_or, refl, sym, ap, ◌∙◌, subst}
 use Rattle.std.proofs.lemmas.List.{append-nil, append_assoc, map-append, take_more}
-use Rattle.h264_command.specs.Explained.{label_in, entry_text, IsExplained}
+use Rattle.h264_command.specs.Explained.{folded, label_in, entry_text, IsExplained}
 use Rattle.h264_command.specs.declared.explaining.Entry.{Entry}
 
 -- the first of some elements with one more, each turned into another thing
@@ -16,16 +16,18 @@ texts-more : (f : Entry → List ℕ) (es : List Entry) (e : Entry) → flat_map
 texts-more f [] e = append-nil (f e)
 texts-more f (x ∷ es) e = ap (λ l. f x ++ l) (texts-more f es e) ∙ sym (append_assoc (f x) (flat_map f es) (f e))
 
-more : (json : Bool) (labels : List (List ℕ)) (label text new : List ℕ) (e : Entry) → IsExplained json labels text → label_in e ≡ label →
+more : (json : Bool) (labels : List (List ℕ)) (label text new : List ℕ) (e : Entry) → IsExplained json labels text → folded (label_in e) ≡ folded label →
     new ≡ text ++ entry_text json e → IsExplained json (labels ++ label ∷ []) new
 more json labels label text new e h is text-is = record {
   entries = h.entries ++ e ∷ [];
-  are_theirs = map-append label_in h.entries (e ∷ []) ∙ ap (λ l. l ++ label_in e ∷ []) h.are_theirs ∙ ap (λ l. labels ++ l ∷ []) is;
+  are_theirs =
+      map-append (λ x. folded (label_in x)) h.entries (e ∷ []) ∙ ap (λ l. l ++ folded (label_in e) ∷ []) h.are_theirs ∙
+      ap (λ l. map folded labels ++ l ∷ []) is ∙ sym (map-append folded labels (label ∷ []));
   text_is = text-is ∙ ap (λ l. l ++ entry_text json e) h.text_is ∙ sym (texts-more (entry_text json) h.entries e);
 }
 
 pub explained-more : {X : Type 0} (json : Bool) (of : X → List ℕ) (xs : List X) (i : ℕ) (x : X) (text new : List ℕ) (e : Entry) →
     IsExplained json (map of (take i xs)) text → i < length xs →
-    label_in e ≡ of (get_or xs i x) → new ≡ text ++ entry_text json e → IsExplained json (map of (take (i + 1) xs)) new
+    folded (label_in e) ≡ folded (of (get_or xs i x)) → new ≡ text ++ entry_text json e → IsExplained json (map of (take (i + 1) xs)) new
 explained-more json of xs i x text new e h inside is text-is =
     subst (λ ls. IsExplained json ls new) (sym (one-more of xs i x inside)) (more json (map of (take i xs)) (of (get_or xs i x)) text new e h is text-is)

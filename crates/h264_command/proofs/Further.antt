@@ -10,7 +10,6 @@ use Rattle.h264_base.specs.declared.mode.Mode.{Mode}
 use Rattle.h264_base.specs.declared.mode.Target.{Target}
 use Rattle.h264_base.specs.declared.stop.Stop.{Stop}
 use Rattle.h264_base.specs.declared.stop.Stop.TheVariants.{No, Outside, Memory, Read, Write}
-use Rattle.h264_plane.specs.Frames.{no_frame}
 use Rattle.h264_verify.proofs.Accounts.{accounts}
 use Rattle.h264_strict.specs.Strict.{TookStrict}
 use Rattle.h264_strict.specs.StrictUnits.{TellsOfBytes}
@@ -19,6 +18,7 @@ use Rattle.h264_strict.specs.declared.strict_rule.StrictRule.{StrictRule}
 use Rattle.h264_strict.specs.declared.strict_rule.StrictRule.TheVariants as rules
 use Rattle.h264_strict.specs.declared.strict_rule.TheConstants.{EVERY_STRICT_RULE}
 use Rattle.h264_verify.specs.Giving.{AreFirst}
+use Rattle.h264_verify.specs.Telling.{Family}
 use Rattle.h264_verify.specs.Units.{terms_of}
 use Rattle.h264_verify.specs.Verdict.{Judged as JudgedOf}
 use Rattle.h264_base.specs.declared.summary.Summary.{Summary}
@@ -79,10 +79,11 @@ pub one-rule-more : (P : StrictRule → Type 0) (rules : List StrictRule) (i : �
 one-rule-more P rules i d inside all one = subst (All P) (sym (take_more rules i d inside)) (All-push P (take i rules) (get_or rules i d) all one)
 
 -- a judgement with the further rules
-pub judged : {S : Type 0} {took : S → List Call → Type 0} {failures : S → ℕ} {s s' : S} (mode whole : Mode) (target : Target) (left : Option (List ℕ))
+pub judged : {S : Type 0} {took : S → List Call → Type 0} {failures : S → ℕ} {frames : Family} {s s' : S} (mode whole : Mode) (target : Target)
+    (left : Option (List ℕ))
     (answer : Result Summary Stop) (further : FurtherRules) →
     mode ≡ whole → (bytes : List ℕ) (ended : Bool) → AreFirst left bytes ended → OnOk answer (ended ≡ true) →
-    JudgedOf (terms_of mode target) (span took failures s s') bytes (λ k. no_frame) [] answer → took s [] →
+    JudgedOf (terms_of mode target) (span took failures s s') bytes frames [] answer → took s [] →
     ((calls : List Call) → took s' calls → TookStrict further.strict calls) →
     TellsOfBytes further.units.extent ended further.units.found further.units.lack bytes → AreJudged (terms_of whole target) left answer further
 judged mode whole target left answer further is bytes ended first all j none strict units =
@@ -146,3 +147,10 @@ pub broken-kept : (is_asked : Bool) (terms : Terms) (held left : Option (List �
 broken-kept is_asked terms held left done k (Judged answer found said h told untold) =
     Judged answer found said (found-kept is_asked terms held left answer found k h) told untold
 broken-kept is_asked terms held left done k (Unjudged none unbroken) = Unjudged none unbroken
+
+-- it is told so of another ending with the same answer
+pub broken-same : {is_asked : Bool} {terms : Terms} {left : Option (List ℕ)} (d d' : Done) → d'.ending.answer ≡ d.ending.answer →
+    d'.is_broken ≡ d.is_broken → TellsBroken is_asked terms left d → TellsBroken is_asked terms left d'
+broken-same d d' same broken (Judged answer found told is one never) =
+    Judged answer found (subst (IsToldOf answer) (sym same) told) is (λ e. one (sym broken ∙ e)) (λ e. never (sym broken ∙ e))
+broken-same d d' same broken (Unjudged none e) = Unjudged (subst IsNoVerdict (sym same) none) (broken ∙ e)

@@ -220,7 +220,8 @@ module _ {task : Task} {o : Options} {opening : Opening} {said : Result Summary 
 renamed : {task : Task} {o : Options} {said : Result Summary Stop} {text : List ℕ} (p q : List ℕ) → IsNoVerdict said →
     TellsAnswer task o (OfLine p) said text → TellsAnswer task o (OfLine q) said text
 renamed p q none (Quiet e t) = Quiet e t
-renamed p q none (Whole e w) = Short e none (w.0 ++ p) (w.1 ∙ sym (append_assoc w.0 p _))
+renamed p q none (Whole e (inl w)) = Short e none (w.0 ++ p) (w.1 ∙ sym (append_assoc w.0 p _))
+renamed p q none (Whole e (inr change)) = Whole e (inr change)
 renamed p q none (Short e n before t) = Short e n before t
 
 pub end-renamed : {task : Task} {o : Options} {said : Result Summary Stop} {old : Option (List ℕ)} {new : Output} (p q : List ℕ) → IsNoVerdict said →

@@ -1,7 +1,7 @@
 -- What is said of a failed write.
 use Rattle.std.proofs.Common.{◌≡◌, ◌≢◌, ℕ, max, Bool, true, false, ◌⊎◌, inl, inr, ⊎_elim, List, [], ◌∷◌, ◌++◌, Option, Some, None, IsSome, IfSome}
 use Rattle.std.proofs.Common.{Bor, Result, Ok, Err, OnOk, OnErr}
-use Rattle.std.proofs.Common.{IsErrOf, not, ◌==◌, refl, sym, ap, subst, ◌∙◌, map, length, arith, if◌then◌else◌}
+use Rattle.std.proofs.Common.{IsErrOf, not, ◌==◌, refl, sym, ap, subst, ◌∙◌, map, length, option_map, arith, ◌&&◌, if◌then◌else◌}
 use Rattle.std.specs.List.{All}
 use Rattle.std.proofs.lemmas.Bool.{false≢true, ne_eqb, true≢false}
 use Rattle.std.proofs.lemmas.List.{append-nil}
@@ -20,8 +20,10 @@ use Rattle.h264_lines.specs.declared.device.WriteDevice.{WriteDevice}
 use Rattle.h264_command.specs.Commands.{Output, OutputSpan, IsHandedOver, from_to, output_by, span_by}
 use Rattle.h264_command.specs.Further.{asks_further, TellsBroken}
 use Rattle.h264_command.specs.More.{AreDone, AreTold, AreToldAside, Broke, Each, FileDone, Work, HasTaken, IsAnswerOf, IsJudged, IsPutAside, IsTextOfFile}
-use Rattle.h264_command.specs.More.{IsToldAside, NoneTook, TellReads, TellUnread, TellsRead, TellsWrites, are_several, done_status, files_span, says_failure}
+use Rattle.h264_command.specs.More.{IsToldAside, NoneTook, TellReads, TellUnread, TellsRead, TellsWrites, are_several, done_status}
+use Rattle.h264_command.specs.More.{file_of_output, files_span, is_whole, says_verdict}
 use Rattle.h264_command.specs.More.{texts_of, work, worst}
+use Rattle.h264_command.specs.Options.{output_file}
 use Rattle.h264_command.specs.Files.{Counts, IsUnread, TellsFailure}
 use Rattle.h264_command.specs.Texts.{IsFileText, TakesText, opening_in, prefix_of}
 use Rattle.h264_command.specs.Words.{mode_of, system_name}
@@ -120,18 +122,6 @@ device-status broken true answer (inl e) = absurd (true≢false e)
 device-status true true answer (inr e) = rw e refl
 device-status false true answer (inr e) = rw e refl
 
-failure-status : (broken written : Bool) (answer : Result Summary Stop) → says_failure answer ≡ true →
-    (if broken then max (status_of written answer) 1 else status_of written answer) ≡ 4
-failure-status broken false answer e = device-status broken false answer (inl refl)
-failure-status broken true (Ok summary) e = absurd (false≢true e)
-failure-status broken true (Err (No bit rule)) e = absurd (false≢true e)
-failure-status broken true (Err (Outside bit feature)) e = absurd (false≢true e)
-failure-status broken true (Err Memory) e = absurd (false≢true e)
-failure-status true true (Err Read) e = refl
-failure-status false true (Err Read) e = refl
-failure-status true true (Err Write) e = refl
-failure-status false true (Err Write) e = refl
-
 true-or-false : (b : Bool) → (b ≡ true) ⊎ (b ≡ false)
 true-or-false true = inl refl
 true-or-false false = inr refl
@@ -143,11 +133,24 @@ no-device d status is never =
     device-status d.is_broken d.ending.written d.ending.answer h in
     (λ e. never (four (inr e)), ⊎_elim (λ t. t) (λ f. absurd (never (four (inl f)))) (true-or-false d.ending.written))
 
--- nor does it tell of a failure
-no-failure : (d : Done) (status : ℕ) → status ≡ done_status d → status ≢ 4 → says_failure d.ending.answer ≡ false
-no-failure d status is never =
-    ⊎_elim (λ some. absurd (never (is ∙ failure-status d.is_broken d.ending.written d.ending.answer some))) (λ none. none)
-    (true-or-false (says_failure d.ending.answer))
+-- a status that is that of a verdict comes of a whole output
+whole-status : (broken written : Bool) (answer : Result Summary Stop) (status : ℕ) →
+    status ≡ (if broken then max (status_of written answer) 1 else status_of written answer) → status ≢ 3 → status ≢ 4 → (written && says_verdict answer) ≡ true
+whole-status broken false answer status is three four = absurd (four (is ∙ device-status broken false answer (inl refl)))
+whole-status broken true (Ok summary) status is three four = refl
+whole-status broken true (Err (No bit rule)) status is three four = refl
+whole-status broken true (Err (Outside bit feature)) status is three four = refl
+whole-status true true (Err Memory) status is three four = absurd (three is)
+whole-status false true (Err Memory) status is three four = absurd (three is)
+whole-status true true (Err Read) status is three four = absurd (four is)
+whole-status false true (Err Read) status is three four = absurd (four is)
+whole-status true true (Err Write) status is three four = absurd (four is)
+whole-status false true (Err Write) status is three four = absurd (four is)
+
+both : (a b : Bool) → (a && b) ≡ true → (a ≡ true) × (b ≡ true)
+both true true e = (refl, refl)
+both true false e = absurd (false≢true e)
+both false b e = absurd (false≢true e)
 
 one-worst : (f : FileDone) → worst (f ∷ []) ≡ done_status f.done
 one-worst f = omega arith
@@ -160,7 +163,7 @@ one-read before after f names name read =
 
 -- one file alone
 pub alone : {Took : Text → List ℕ → Type 0} (task : Task) (o : Options) (file : Text → Option (List ℕ)) (before after : Counts) (f : FileDone)
-    (names : List Text) (status : ℕ) (out out' err' : Output) → o.output ≡ None → f.name ∷ [] ≡ names →
+    (names : List Text) (status : ℕ) (out out' err' : Output) → file_of_output o ≡ None → f.name ∷ [] ≡ names →
     IsAnswerOf task o.target (file (system_name f.name)) f.done.ending.answer →
     TellsBroken (asks_further task o.strict) (terms_of (mode_of task) o.target) (file (system_name f.name)) f.done →
     TellsRead before after f → TellsWrites o.y4m f.done.ending (from_to out out') err' → IsTextOfFile (work task o) file false f →
@@ -183,63 +186,74 @@ alone {Took} task o file before after f names status out out' err' no_output nam
     Each (f ∷ []) name (All-push Judged [] f (All-nil Judged) judged) (one-read before after f names name read) (is ∙ sym (one-worst f))
     (λ never. let n = no-device f.done status is never in t.told n.0 n.1)
     (λ none. subst (λ ns. AreTold (work task o) file (are_several ns) (f ∷ []) (from_to out out')) name told)
-    (λ one never. subst (λ (output : Option (Bor (List ℕ))). IfSome output
-    (λ output. AreToldAside (work task o) (files_span file before after Took) (f ∷ []) output.now))
-    (sym no_output) tt)
+    (λ one well never. subst (λ output. IfSome output (AreToldAside (work task o) (files_span file before after Took) (f ∷ []))) (sym no_output) tt)
 
--- what a device took that was made for the file of a name
-pub told-aside : {W : Type 0} (goes_to : W → Text → Type 0) (contents : W → Option (List ℕ)) (name : Text) {y4m : Bool} (ending : Ending)
-    {Is : List ℕ → Type 0} (made : W) (device device' : WriteDevice W) (err' : Output) → goes_to made name → device.writer ≡ made →
-    device.failed ≡ false → TellsWrites y4m ending (span_by contents device device') err' →
-    TakesText Is (contents device.writer) (output_by contents device') → IsToldAside ending Is (HasTaken goes_to contents name)
-told-aside goes_to contents name ending made device device' err' its same new t takes =
-    let none : says_failure ending.answer ≡ false → ending.written ≡ true → device'.failed ≡ false = λ quiet written.
-    ⊎_elim (λ f. absurd (true≢false (sym ((t.told (λ e. true≢false (sym (ap says_failure e) ∙ quiet)) written).0 f) ∙ new))) (λ n. n)
+-- what a device took that was made for the file of a name, and was finished where it is whole
+pub told-aside : {W : Type 0} (goes_to : W → Text → Type 0) (is_finished : W → Type 0) (contents : W → Option (List ℕ)) (name : Text) {y4m : Bool}
+    (ending ending' : Ending) {Is : List ℕ → Type 0} (made : W) (device device' : WriteDevice W) (err' : Output) → goes_to made name →
+    device.writer ≡ made → device.failed ≡ false → TellsWrites y4m ending (span_by contents device device') err' →
+    TakesText Is (contents device.writer) (output_by contents device') → (is_whole ending' ≡ true → is_whole ending ≡ true) →
+    (is_whole ending' ≡ true → is_finished device'.writer) → IsToldAside ending' Is (HasTaken goes_to is_finished contents name)
+told-aside goes_to is_finished contents name ending ending' made device device' err' its same new t takes whole finished =
+    let none : is_whole ending' ≡ true → device'.failed ≡ false = λ w.
+    let parts = both ending.written (says_verdict ending.answer) (whole w) in
+    ⊎_elim (λ f. absurd (true≢false (sym ((t.told (λ e. true≢false (sym parts.1 ∙ ap says_verdict e)) parts.0).0 f) ∙ new))) (λ n. n)
     (true-or-false device'.failed) in
     record {
       text = takes.text;
-      is_text = λ written quiet. takes.is_text;
-      took = λ written quiet.
-          (made, device'.writer, its, subst (λ w. Sends (contents w) (contents device'.writer) takes.text) same (takes.sends (none quiet written)));
+      is_text = λ w. takes.is_text;
+      took = λ w. (
+        made,
+        device'.writer,
+        its,
+        subst (λ v. Sends (contents v) (contents device'.writer) takes.text) same (takes.sends (none w)),
+        finished w,
+      );
     }
 
--- and where a read or a write failed
-pub untold-aside : {Is Took : List ℕ → Type 0} (ending : Ending) → says_failure ending.answer ≡ true → IsToldAside ending Is Took
-untold-aside ending some = record {
+-- and where there is no verdict
+pub untold-aside : {Is Took : List ℕ → Type 0} (ending : Ending) → says_verdict ending.answer ≡ false → IsToldAside ending Is Took
+untold-aside ending none = record {
   text = [];
-  is_text = λ written quiet. absurd (true≢false (sym some ∙ quiet));
-  took = λ written quiet. absurd (true≢false (sym some ∙ quiet));
+  is_text = λ w. absurd (true≢false (sym (both ending.written (says_verdict ending.answer) w).1 ∙ none));
+  took = λ w. absurd (true≢false (sym (both ending.written (says_verdict ending.answer) w).1 ∙ none));
 }
 
 -- one file, whose output is a file that the words name
 pub alone-elsewhere : {Took : Text → List ℕ → Type 0} (task : Task) (o : Options) (file : Text → Option (List ℕ)) (before after : Counts) (name : Text)
-    (done : Done) (names : List Text) (status : ℕ) (out err' : Output) (output : Bor (List ℕ)) → o.output ≡ Some output → name ∷ [] ≡ names →
+    (done : Done) (names : List Text) (status : ℕ) (out err' : Output) (output : Text) → IsSome o.output → file_of_output o ≡ Some output →
+    name ∷ [] ≡ names →
     IsAnswerOf task o.target (file (system_name name)) done.ending.answer →
     TellsBroken (asks_further task o.strict) (terms_of (mode_of task) o.target) (file (system_name name)) done →
     (IsErrOf done.ending.answer Read → IsUnread before.failures before.reads after.failures after.reads) →
     TellsFailure before.failures after.failures done.ending.answer →
     IsToldAside done.ending (IsFileText task o (opening_in o.json name (prefix_of false name)) (file (system_name name)) done.ending.answer)
-    (Took output.now) → status ≡ done_status done →
+    (Took output) → status ≡ done_status done →
     AreDone (work task o) (files_span file before after Took) names status (from_to out out) err'
-alone-elsewhere {Took} task o file before after name done names status out err' output given same answer broken read_only read_told aside is =
+alone-elsewhere {Took} task o file before after name done names status out err' output some given same answer broken read_only read_told aside is =
     let f : FileDone = record { name = name; done = done; text = aside.text } in
-    let some : IsSome o.output = subst IsSome (sym given) refl in
     let Judged : FileDone → Type 0 = IsJudged (work task o) file out err' in
     let IsText : FileDone → Type 0 = IsTextOfFile (work task o) file false in
     let judged : Judged f = record { answer = answer; broken = broken; excused = record { write = λ e. inr (inl some); unwritten = λ e. inr (inl some) } } in
-    let told : status ≢ 4 → AreToldAside (work task o) (files_span file before after Took) (f ∷ []) output.now = λ never.
-    let written = (no-device done status is never).1 in
-    let quiet = no-failure done status is never in
+    let told : status ≢ 3 → status ≢ 4 → AreToldAside (work task o) (files_span file before after Took) (f ∷ []) output = λ well never.
+    let whole = whole-status done.is_broken done.ending.written done.ending.answer status is well never in
     record {
-      texts = All-push IsText [] f (All-nil IsText) (aside.is_text written quiet);
-      took = subst (Took output.now) (texts-one f ∙ append-nil (texts_of (f ∷ []))) (aside.took written quiet);
+      texts = All-push IsText [] f (All-nil IsText) (aside.is_text whole);
+      took = subst (Took output) (texts-one f ∙ append-nil (texts_of (f ∷ []))) (aside.took whole);
     } in
     Each (f ∷ []) same (All-push Judged [] f (All-nil Judged) judged)
     (one-read before after f names same (record { read = read_only; told = read_told })) (is ∙ sym (one-worst f))
-    (λ never. (λ h. h, inr refl)) (λ none. absurd (false≢true (subst IsSome none some)))
-    (λ one never. subst (λ (named : Option (Bor (List ℕ))). IfSome named
-    (λ output. AreToldAside (work task o) (files_span file before after Took) (f ∷ []) output.now))
-    (sym given) (told never))
+    (λ never. (λ h. h, inr refl)) (λ none. absurd (let d : None ≡ Some output = sym none ∙ given in cc))
+    (λ one well never. subst (λ named. IfSome named (AreToldAside (work task o) (files_span file before after Took) (f ∷ []))) (sym given) (told well never))
+
+-- an output with a file has a name
+pub output-given : (output : Option (Bor (List ℕ))) {file : Text} → output_file (option_map (λ s. s.now) output) ≡ Some file → IsSome output
+output-given None e = absurd (let d : None ≡ Some _ = e in cc)
+output-given (Some name) e = refl
+
+pub some-text : (output : Option (Bor (List ℕ))) {given : Option Text} → option_map (λ s. s.now) output ≡ given → IsSome output → IsSome given
+some-text None same some = absurd (false≢true some)
+some-text (Some name) same some = subst IsSome same refl
 
 -- ---- several files
 
@@ -297,8 +311,8 @@ each-written {Took} task o file before after files names status out out' err' na
 
 -- No file was made, so this holds whatever one took.
 none-made : (w : Work) (held : Text → Option (List ℕ)) (before after : Counts) (Took : Text → List ℕ → Type 0) (done : List FileDone)
-    (output : Option (Bor (List ℕ))) → IfSome output (λ o. AreToldAside w (files_span held before after NoneTook) done o.now) →
-    IfSome output (λ o. AreToldAside w (files_span held before after Took) done o.now)
+    (output : Option Text) → IfSome output (AreToldAside w (files_span held before after NoneTook) done) →
+    IfSome output (AreToldAside w (files_span held before after Took) done)
 none-made w held before after Took done None h = h
 none-made w held before after Took done (Some output) h = absurd h.took
 
@@ -306,7 +320,7 @@ whatever-made : (w : Work) (held : Text → Option (List ℕ)) (before after : C
     {out : OutputSpan} {err' : Output} → AreDone w (files_span held before after NoneTook) names status out err' →
     AreDone w (files_span held before after Took) names status out err'
 whatever-made w held before after Took (Each done named judged reads is whole told aside) =
-    Each done named judged reads is whole told (λ one never. none-made w held before after Took done w.options.output (aside one never))
+    Each done named judged reads is whole told (λ one well never. none-made w held before after Took done (file_of_output w.options) (aside one well never))
 whatever-made w held before after Took (Broke is failed) = Broke is failed
 
 -- these files are those of the words

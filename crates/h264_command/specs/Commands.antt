@@ -8,7 +8,6 @@ use Rattle.h264_report.specs.Written.{OfBytes, Lists, Checks, Decodes, last_line
 use Rattle.h264_lines.specs.declared.device.WriteDevice.{WriteDevice}
 use Rattle.h264_report.specs.declared.judging.Ending.{Ending}
 use Rattle.h264_lines.specs.declared.listing.Listing.TheVariants as listings
-use Rattle.h264_verify.specs.Units.{terms_of}
 use Rattle.h264_command.specs.Options.{IsPlain}
 use Rattle.h264_command.specs.Words.{program, asks, name_of, value_in, IsRefusable, IsTarget}
 use Rattle.h264_command.specs.declared.command_line.Task.{Task}
@@ -21,11 +20,11 @@ use Rattle.h264_command.specs.declared.outcome.Outcome.TheVariants as outcomes
 -- The tasks that do not judge a stream with lines or frames as their answer are none of these.
 abbrev pub Performs : Task → Target → (bytes : List ℕ) → Ending → (out err : WriterSpan) → Type 0
 Performs tasks.Check target bytes ending out err = Checks target bytes ending out × (err.new ≡ err.old)
-Performs tasks.Units target bytes ending out err = Lists (terms_of modes.Units target) listings.Units bytes ending out × (err.new ≡ err.old)
-Performs tasks.Headers target bytes ending out err = Lists (terms_of modes.Headers target) listings.Slices bytes ending out × (err.new ≡ err.old)
-Performs tasks.Frames target bytes ending out err = Lists (terms_of modes.Full target) listings.Frames bytes ending out × (err.new ≡ err.old)
+Performs tasks.Units target bytes ending out err = Lists modes.Units target listings.Units bytes ending out × (err.new ≡ err.old)
+Performs tasks.Headers target bytes ending out err = Lists modes.Headers target listings.Slices bytes ending out × (err.new ≡ err.old)
+Performs tasks.Frames target bytes ending out err = Lists modes.Full target listings.Frames bytes ending out × (err.new ≡ err.old)
 Performs tasks.Decode target bytes ending out err = Decodes target bytes ending out err
-Performs tasks.Elements target bytes ending out err = Lists (terms_of modes.Full target) listings.Elements bytes ending out × (err.new ≡ err.old)
+Performs tasks.Elements target bytes ending out err = Lists modes.Verdict target listings.Elements bytes ending out × (err.new ≡ err.old)
 Performs tasks.Info target bytes ending out err = ⊥
 Performs tasks.Report target bytes ending out err = ⊥
 Performs tasks.Explain target bytes ending out err = ⊥

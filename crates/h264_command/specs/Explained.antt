@@ -1,5 +1,6 @@
 -- What `explain` tells of rules, features and further rules. To be read beside docs/OUTPUT.md.
 use Rattle.std.specs.Prelude.{◌≡◌, ℕ, Bool, true, false, List, ◌++◌, codes, map, flat_map}
+use Rattle.std.specs.Char.{to_ascii_lowercase}
 use Rattle.h264_base.specs.Rule.{label_of, clause_of}
 use Rattle.h264_base.specs.Feature.{text_of}
 use Rattle.h264_base.specs.declared.rule.Rule.{Rule as RuleOf}
@@ -74,8 +75,12 @@ entry_text false (Rule e) = rule_lines e
 entry_text false (Feature e) = feature_lines e
 entry_text false (Further e) = strict_lines e
 
--- This text has the entry of each of these labels, in their order.
+-- a label in small letters
+abbrev pub folded : List ℕ → List ℕ
+folded label = map to_ascii_lowercase label
+
+-- This text has the entry of each of these labels, in their order, whatever the case of their letters.
 pub record IsExplained (json : Bool) (labels : List (List ℕ)) (text : List ℕ) : Type 0 where
   pub entries : List Entry
-  pub are_theirs : map label_in entries ≡ labels
+  pub are_theirs : map (λ e. folded (label_in e)) entries ≡ map folded labels
   pub text_is : text ≡ flat_map (entry_text json) entries

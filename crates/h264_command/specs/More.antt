@@ -1,17 +1,18 @@
 -- What the program comes to, whatever its words ask: the exit status, and what it writes to standard output. To be read beside docs/OUTPUT.md.
-use Rattle.std.specs.Prelude.{◌≡◌, ◌≢◌, ◌⊎◌, ℕ, ◌≤◌, ◌==◌, max, not, Bool, true, false, List, [], ◌∷◌, ◌++◌}
-use Rattle.std.specs.Prelude.{map, length, codes, Option, None, Some, IsSome, IfSome, Result, Ok, Err, IsErrOf, if◌then◌else◌}
+use Rattle.std.specs.Prelude.{◌≡◌, ◌≢◌, ◌⊎◌, ℕ, ◌≤◌, ◌==◌, ◌&&◌, max, not, Bool, true, false, List, [], ◌∷◌, ◌++◌}
+use Rattle.std.specs.Prelude.{map, length, codes, Option, None, Some, IsSome, IfSome, Result, Ok, Err, IsErrOf, option_map, if◌then◌else◌}
 use Rattle.std.specs.List.{All, count_by}
 use Rattle.h264_base.specs.declared.mode.Mode.TheVariants as modes
 use Rattle.h264_base.specs.declared.mode.Target.{Target}
 use Rattle.h264_base.specs.declared.stop.Stop.{Stop}
 use Rattle.h264_base.specs.declared.stop.Stop.TheVariants.{No, Outside, Memory, Read, Write}
+use Rattle.h264_lines.specs.Names.{shown}
 use Rattle.h264_lines.specs.Sent.{Sends, Takes}
 use Rattle.h264_lines.specs.Told.{ended}
 use Rattle.h264_report.specs.Written.{OfBytes, last_line, status_of}
 use Rattle.h264_report.specs.declared.judging.Ending.{Ending}
 use Rattle.h264_verify.specs.Telling.{Told as ToldOf}
-use Rattle.h264_verify.specs.Units.{terms_of}
+use Rattle.h264_verify.specs.Units.{terms_of, extent_by}
 use Rattle.h264_verify.specs.Verdict.{Holds, Breaks, MayStop}
 use Rattle.h264_base.specs.declared.summary.Summary.{Summary}
 use Rattle.h264_verify.specs.declared.state.Terms.{Terms}
@@ -19,12 +20,12 @@ use Rattle.h264_command.specs.declared.job.Done.{Done}
 use Rattle.h264_command.specs.Texts.{IsFileText, opening_in, prefix_of}
 use Rattle.h264_command.specs.Words.{program, asks, name_of, Given, values_in, system_name, mode_of}
 use Rattle.h264_command.specs.Further.{asks_further, TellsBroken}
-use Rattle.h264_command.specs.Options.{AreOptions, AreWellUsed, IsRefused, refusal_text}
+use Rattle.h264_command.specs.Options.{AreOptions, AreWellUsed, IsRefused, output_file, refusal_text}
 use Rattle.h264_command.specs.declared.options.Options.{Options}
 use Rattle.h264_command.specs.declared.refusal.Refusal.{Refusal}
 use Rattle.h264_command.specs.declared.command_line.Task.{Task}
 use Rattle.h264_command.specs.declared.command_line.Task.TheVariants as tasks
-use Rattle.clap.specs.Words.{Text, subcommand_of}
+use Rattle.clap.specs.Words.{Text, subcommand_of, takes}
 use Rattle.h264_command.specs.Commands.{Output, OutputSpan, from_to, FilesRead, files_read, Comes, HasFailed, IsHandedOver}
 use Rattle.h264_command.specs.Files.{Counts, HasReadAll, IsUnread, TellsFailure}
 
@@ -32,9 +33,9 @@ use Rattle.h264_command.specs.Files.{Counts, HasReadAll, IsUnread, TellsFailure}
 
 -- A yes, a no and an outside are the verdict on these bytes; memory, read and write say nothing of them.
 abbrev pub IsAnswer : Terms → List ℕ → Result Summary Stop → Type 0
-IsAnswer terms bytes (Ok summary) = (calls : List ToldOf) × Holds terms bytes calls summary
-IsAnswer terms bytes (Err (No bit rule)) = (calls : List ToldOf) × Breaks terms bytes calls bit rule
-IsAnswer terms bytes (Err (Outside bit feature)) = (calls : List ToldOf) × MayStop terms bytes calls bit feature
+IsAnswer terms bytes (Ok summary) = (calls : List ToldOf) × Holds (extent_by terms) bytes calls summary
+IsAnswer terms bytes (Err (No bit rule)) = (calls : List ToldOf) × Breaks (extent_by terms) bytes calls bit rule
+IsAnswer terms bytes (Err (Outside bit feature)) = (calls : List ToldOf) × MayStop (extent_by terms) bytes calls bit feature
 IsAnswer terms bytes (Err Memory) = Unit {0}
 IsAnswer terms bytes (Err Read) = Unit {0}
 IsAnswer terms bytes (Err Write) = Unit {0}
@@ -73,13 +74,19 @@ pub record AreExcused (o : Options) (out' err' : Output) (ending : Ending) : Typ
   pub unwritten : ending.written ≡ false → MayHaveFailed o out' err'
 
 -- A line was written that says why a file or a device failed: `h264v: NAME`, and after it the system's cause, where there was memory for that.
-pub record TellsCause (old new : Option (List ℕ)) (name : Text) : Type 0 where
+pub record NamesCause (old new : Option (List ℕ)) (name : Text) : Type 0 where
   pub cause : List ℕ
-  pub line : Sends old new ((codes "h264v: " ++ name) ++ ended cause)
+  pub line : Sends old new ((codes "h264v: " ++ shown name) ++ ended cause)
 
--- An output to the file of this name was made, and took this text.
-abbrev pub HasTaken : {W : Type 0} → (goes_to : W → Text → Type 0) → (contents : W → Option (List ℕ)) → (name : Text) (text : List ℕ) → Type 0
-HasTaken {W} goes_to contents name text = (made : W) × (written : W) × goes_to made name × Sends (contents made) (contents written) text
+-- Such a line was written; or one that says that there was no memory for the name.
+abbrev pub TellsCause : (old new : Option (List ℕ)) (name : Text) → Type 0
+TellsCause old new name = NamesCause old new name ⊎ Sends old new (codes "h264v: " ++ ended (codes "memory"))
+
+-- An output to the file of this name was made, took this text, and then got its name.
+abbrev pub HasTaken : {W : Type 0} → (goes_to : W → Text → Type 0) → (is_finished : W → Type 0) → (contents : W → Option (List ℕ)) →
+    (name : Text) (text : List ℕ) → Type 0
+HasTaken {W} goes_to is_finished contents name text =
+    (made : W) × (written : W) × goes_to made name × Sends (contents made) (contents written) text × is_finished written
 
 -- ---- a file of the words
 
@@ -124,11 +131,24 @@ says_failure (Err Memory) = false
 says_failure (Err Read) = true
 says_failure (Err Write) = true
 
--- The file for the output took a text of this kind, where neither a read nor a write failed.
+-- the answer is a verdict
+abbrev pub says_verdict : Result Summary Stop → Bool
+says_verdict (Ok summary) = true
+says_verdict (Err (No bit rule)) = true
+says_verdict (Err (Outside bit feature)) = true
+says_verdict (Err Memory) = false
+says_verdict (Err Read) = false
+says_verdict (Err Write) = false
+
+-- An output is whole: all was written, and the answer is a verdict.
+abbrev pub is_whole : Ending → Bool
+is_whole ending = ending.written && says_verdict ending.answer
+
+-- The file for the output took a text of this kind, where it is whole.
 pub record IsToldAside (ending : Ending) (Is Took : List ℕ → Type 0) : Type 0 where
   pub text : List ℕ
-  pub is_text : ending.written ≡ true → says_failure ending.answer ≡ false → Is text
-  pub took : ending.written ≡ true → says_failure ending.answer ≡ false → Took text
+  pub is_text : is_whole ending ≡ true → Is text
+  pub took : is_whole ending ≡ true → Took text
 
 -- That a read failed is told of a file only where one did since, or where it was read too often. One that failed is told, or that a write failed too.
 pub record TellsRead (before after : Counts) (f : FileDone) : Type 0 where
@@ -206,6 +226,10 @@ pub record FilesSpan : Type 1 where
 abbrev pub files_span : (Text → Option (List ℕ)) → (before after : Counts) → (Took : Text → List ℕ → Type 0) → FilesSpan
 files_span held before after Took = record { held = held; before = before; after = after; Took = Took }
 
+-- the file that the words name for the output, if they do
+abbrev pub file_of_output : Options → Option Text
+file_of_output o = output_file (option_map (λ s. s.now) o.output)
+
 -- no file is made for the output
 abbrev pub NoneTook : Text → List ℕ → Type 0
 NoneTook name text = ⊥
@@ -216,12 +240,12 @@ pub record AreToldAside (w : Work) (files : FilesSpan) (done : List FileDone) (o
   pub took : files.Took output (texts_of done)
 
 -- Each file of these names was judged, in their order, and this is the status of all; or a device failed. Of failed reads this is told. Standard output was
--- told of each, where the words name no file for the output; else that file was told of the one FILE, where the status is none of a device's.
+-- told of each, where the words name no file for the output; else that file was told of the one FILE, where the status is that of a verdict.
 pub data AreDone (w : Work) (files : FilesSpan) (names : List Text) (status : ℕ) (out : OutputSpan) (err' : Output) : Type 0 where
   Each : (done : List FileDone) → map (λ f. f.name) done ≡ names → All (IsJudged w files.held out.new err') done →
       TellReads (are_several names) files.before files.after done → status ≡ worst done → IsWhole status out →
-      (w.options.output ≡ None → AreTold w files.held (are_several names) done out) →
-      (are_several names ≡ false → status ≢ 4 → IfSome w.options.output (λ output. AreToldAside w files done output.now)) →
+      (file_of_output w.options ≡ None → AreTold w files.held (are_several names) done out) →
+      (are_several names ≡ false → status ≢ 3 → status ≢ 4 → IfSome (file_of_output w.options) (AreToldAside w files done)) →
       AreDone w files names status out err'
   Broke : status ≡ 4 → HasFailed out.new err' → AreDone w files names status out err'
 
@@ -250,11 +274,14 @@ pub data Ends (words : List Text) (files : FilesSpan) (status : ℕ) (out : Outp
 -- What the program comes to with these words.
 pub data Runs (words : List Text) (files : FilesSpan) (status : ℕ) (out : OutputSpan) (err : Output) : Type 0 where
   Asked : Ends words files status out err → Runs words files status out err
+  -- the plain command line does not take the words, and what comes of others stands for them: they name files by lists
+  Listed : takes program words ≡ false → (plain : List Text) (err' : Output) → Ends plain files status out err' → Runs words files status out err
+  -- nor can the lists be followed, and standard output is as it was
+  Unlisted : takes program words ≡ false → out.new ≡ out.old → Runs words files status out err
   -- there was no memory for the words
   NoWords : (written : Bool) → status ≡ status_of written (Err Memory) → (written ≡ true → out.new.holds_back ≡ false) →
       Takes written out.old.bytes out.new.bytes (last_line modes.Full (Err Memory)) → Runs words files status out err
 
--- What the program comes to with words that may not be known: with some, or where one of them is no text.
-pub data RunsOnSome (files : FilesSpan) (status : ℕ) (out : OutputSpan) (err : Output) : Type 0 where
-  Worded : (words : List Text) → Runs words files status out err → RunsOnSome files status out err
-  NotText : status ≡ 64 → out.new ≡ out.old → RunsOnSome files status out err
+-- What the program comes to with words that may not be known.
+abbrev pub RunsOnSome : (files : FilesSpan) (status : ℕ) (out : OutputSpan) (err : Output) → Type 0
+RunsOnSome files status out err = (words : List Text) × Runs words files status out err

@@ -1,5 +1,6 @@
 -- Which options words give, and which of them are refused, with what text. To be read beside docs/OUTPUT.md.
-use Rattle.std.specs.Prelude.{◌≡◌, ◌≢◌, ℕ, ◌<◌, ◌^◌, Bool, true, false, List, length, Option, Some, None, IsSome, ◌⊎◌, option_map, option_and_then, codes}
+use Rattle.std.specs.Prelude.{◌≡◌, ◌≢◌, ℕ, ◌<◌, ◌^◌, ◌||◌, Bool, true, false, List, length}
+use Rattle.std.specs.Prelude.{Option, Some, None, IsSome, ◌⊎◌, option_map, option_and_then, codes, if◌then◌else◌}
 use Rattle.std.specs.List.{count_by}
 use Rattle.std.specs.Str.{bytes_eq}
 use Rattle.std.specs.Str.Parse.{IsNumeral, digits_value, without_leading_plus}
@@ -58,6 +59,7 @@ pub record AreOptions (given : Given) (o : Options) : Type 0 where
   pub progress : IsFlag (flag_in given (codes "progress")) o.progress
   pub y4m : IsFlag (flag_in given (codes "y4m")) o.y4m
   pub strict : IsFlag (flag_in given (codes "strict")) o.strict
+  pub brief : IsFlag (flag_in given (codes "brief")) o.brief
   pub output : option_map (λ s. s.now) o.output ≡ value_in given (codes "output")
   pub picture : IsNumber (value_in given (codes "picture")) o.choice.picture
   pub mb : IsNumber (value_in given (codes "mb")) o.choice.macroblock
@@ -71,6 +73,7 @@ pub record HasNoOption (given : Given) : Type 0 where
   pub progress : IsFlag (flag_in given (codes "progress")) false
   pub y4m : IsFlag (flag_in given (codes "y4m")) false
   pub strict : IsFlag (flag_in given (codes "strict")) false
+  pub brief : IsFlag (flag_in given (codes "brief")) false
   pub output : value_in given (codes "output") ≡ None
   pub picture : value_in given (codes "picture") ≡ None
   pub mb : value_in given (codes "mb") ≡ None
@@ -80,6 +83,17 @@ pub record IsPlain (given : Given) (name : Text) : Type 0 where
   pub options : HasNoOption given
   pub files : length (values_in given (codes "FILE")) ≡ 1
   pub input : name ≢ codes "-"
+
+-- ---- the output
+
+-- a name of standard output
+abbrev pub names_standard_output : Text → Bool
+names_standard_output name = bytes_eq name (codes "-") || bytes_eq name (codes "/dev/stdout")
+
+-- the file of an output with this name; none of standard output
+abbrev pub output_file : Option Text → Option Text
+output_file None = None
+output_file (Some name) = if names_standard_output name then None else Some name
 
 -- ---- values that can't be read
 
@@ -103,6 +117,7 @@ IsBesideExplain given o = (o.quiet ≡ true) ⊎ ((o.progress ≡ true) ⊎ IsSo
 abbrev pub IsMisplaced : Task → Given → Options → Misplaced → Type 0
 IsMisplaced task given o misplaced.Y4m = (o.y4m ≡ true) × (task ≢ tasks.Decode)
 IsMisplaced task given o misplaced.Strict = (o.strict ≡ true) × (asks_further task true ≡ false)
+IsMisplaced task given o misplaced.Brief = (o.brief ≡ true) × (task ≢ tasks.Check)
 IsMisplaced task given o misplaced.Output = IsSome o.output × (task ≢ tasks.Decode) × (task ≢ tasks.Report)
 IsMisplaced task given o misplaced.Choice = Chooses o.choice × (task ≢ tasks.Elements)
 IsMisplaced task given o misplaced.Explain = (o.explain ≡ true) × (is_judging task ≡ false)
@@ -131,7 +146,7 @@ IsAlsoInput (Some output) files = 0 < times files output
 abbrev pub IsClash : Task → Options → List Text → Clash → Type 0
 IsClash task o files clashes.SeveralToDecode = (1 < length files) × (task ≡ tasks.Decode)
 IsClash task o files clashes.SeveralToReport = (1 < length files) × (task ≡ tasks.Report)
-IsClash task o files clashes.OutputIsInput = IsAlsoInput (option_map (λ s. s.now) o.output) files
+IsClash task o files clashes.OutputIsInput = IsAlsoInput (output_file (option_map (λ s. s.now) o.output)) files
 IsClash task o files clashes.InputTwice = 1 < times files (codes "-")
 
 -- ---- words that are refused
@@ -166,6 +181,7 @@ unreadable_text unreadables.Target = codes "--target is baseline or main-ip"
 abbrev pub misplaced_text : Misplaced → Text
 misplaced_text misplaced.Y4m = codes "--y4m belongs to decode"
 misplaced_text misplaced.Strict = codes "--strict belongs to check and report"
+misplaced_text misplaced.Brief = codes "--brief belongs to check"
 misplaced_text misplaced.Output = codes "--output belongs to decode and report"
 misplaced_text misplaced.Choice = codes "--picture and --mb belong to elements"
 misplaced_text misplaced.Explain = codes "--explain belongs to check, units, headers, frames, decode and elements"

@@ -1,11 +1,14 @@
 -- What a task writes of one file, by its options: the text of the calls, and after it the answer. To be read beside docs/OUTPUT.md.
-use Rattle.std.specs.Prelude.{◌≡◌, ◌⊎◌, ◌||◌, ℕ, Bool, true, false, List, [], ◌++◌, codes, Option, Result, is_some, if◌then◌else◌}
+use Rattle.std.specs.Prelude.{◌≡◌, ◌⊎◌, ◌||◌, ℕ, Bool, true, false, List, [], ◌++◌, codes, Option, Result, Err, is_some, if◌then◌else◌}
+use Rattle.std.specs.Fmt.{decimal}
 use Rattle.h264_base.specs.Call.{Call}
 use Rattle.h264_base.specs.declared.stop.Stop.{Stop}
+use Rattle.h264_base.specs.declared.stop.Stop.TheVariants.{Write}
 use Rattle.h264_lines.specs.Chosen.{left_in, left_by, choosing_after, at_first}
 use Rattle.h264_pages.specs.Json.{escaped}
 use Rattle.h264_lines.specs.Objects.{Opening, OfLine, OfObject}
-use Rattle.h264_pages.specs.Pages.{verdict_fields}
+use Rattle.h264_lines.specs.Names.{shown}
+use Rattle.h264_pages.specs.Pages.{text_field, verdict_fields}
 use Rattle.h264_lines.specs.Sent.{Sends}
 use Rattle.h264_lines.specs.Told.{lines_of, bytes_of}
 use Rattle.h264_report.specs.Written.{OfBytes, last_line}
@@ -54,9 +57,9 @@ abbrev pub opening_in : (json : Bool) → (name prefix : Text) → Opening
 opening_in true name prefix = OfObject (head_of name)
 opening_in false name prefix = OfLine prefix
 
--- what stands before each line of a file: its name, where there are several
+-- what stands before each line of a file: its name as lines have it, where there are several
 abbrev pub prefix_of : (several : Bool) → (name : Text) → Text
-prefix_of true name = name ++ codes ": "
+prefix_of true name = shown name ++ codes ": "
 prefix_of false name = []
 
 -- one picture or one macroblock is chosen
@@ -145,10 +148,42 @@ abbrev pub EndsWith : Task → Opening → (told : Result Summary Stop) → (tex
 EndsWith task (OfLine prefix) told text = (before : List ℕ) × (text ≡ before ++ (prefix ++ last_line (mode_of task) told))
 EndsWith task (OfObject head) told text = (before : List ℕ) × (more : List ℕ) × (text ≡ before ++ verdict_object head told more)
 
+-- a frame of another size than those before it, which has no place in YUV4MPEG2: the file's name, the frame's number in the order of output, and headers
+-- with both sizes
+pub record SizeChange : Type 0 where
+  pub name : Text
+  pub frame : ℕ
+  pub first : Head
+  pub other : Head
+
+abbrev pub size_text : Head → List ℕ
+size_text head = decimal head.width ++ (codes "x" ++ decimal head.height)
+
+-- the line that tells of it
+abbrev pub change_line : SizeChange → List ℕ
+change_line c =
+    codes "h264v: " ++ (shown c.name ++ (codes ": frame " ++ (decimal c.frame ++ (codes " is " ++ (size_text c.other
+    ++ (codes ", and those before it are " ++ (size_text c.first ++ codes ": YUV4MPEG2 has one size\n")))))))
+
+-- This object opens so, and tells of one.
+abbrev pub change_object : (head more : List ℕ) → List ℕ
+change_object head more =
+    head ++ ((text_field (codes "kind") (codes "verdict") ++ text_field (codes "verdict") (codes "size changes")) ++ (more ++ codes "}\n"))
+
+-- The last line of a text tells of a change of size, or its last object does.
+abbrev pub EndsWithChange : Opening → (text : List ℕ) → Type 0
+EndsWithChange (OfLine prefix) text = (before : List ℕ) × (change : SizeChange) × (text ≡ before ++ change_line change)
+EndsWithChange (OfObject head) text = (before : List ℕ) × (more : List ℕ) × (text ≡ before ++ change_object head more)
+
+-- A text ends with this answer; or, where it is that the output of YUV4MPEG2 broke off, with a change of size.
+abbrev pub EndsWithAnswer : Task → Options → Opening → (told : Result Summary Stop) → (text : List ℕ) → Type 0
+EndsWithAnswer task o opening told text =
+    EndsWith task opening told text ⊎ ((o.y4m ≡ true) × (told ≡ Err Write) × EndsWithChange opening text)
+
 -- This tells an answer: a text that ends with it, or nothing with `--quiet`.
 pub data TellsAnswer (task : Task) (o : Options) (opening : Opening) (told : Result Summary Stop) (text : List ℕ) : Type 0 where
   Quiet : o.quiet ≡ true → text ≡ [] → TellsAnswer task o opening told text
-  Whole : o.quiet ≡ false → EndsWith task opening told text → TellsAnswer task o opening told text
+  Whole : o.quiet ≡ false → EndsWithAnswer task o opening told text → TellsAnswer task o opening told text
   -- there is no verdict, and may have been no memory for its object: a line tells so
   Short : o.quiet ≡ false → IsNoVerdict told → (prefix : List ℕ) → text ≡ prefix ++ last_line (mode_of task) told → TellsAnswer task o opening told text
 

@@ -32,8 +32,8 @@ with_flag a option = with_rule a (flag_rule option)
 
 abbrev pub with_flags : App → App
 with_flags a =
-    with_flag (with_flag (with_flag (with_flag (with_flag (with_flag a (codes "explain")) (codes "json")) (codes "quiet")) (codes "progress")) (codes "y4m"))
-    (codes "strict")
+    let told = with_flag (with_flag (with_flag (with_flag a (codes "explain")) (codes "json")) (codes "quiet")) (codes "progress") in
+    with_flag (with_flag (with_flag told (codes "y4m")) (codes "strict")) (codes "brief")
 
 abbrev pub with_value : App → Text → ℕ → App
 with_value a option letter = with_rule a (value_rule option letter)
@@ -135,15 +135,15 @@ system_name name = if bytes_eq name (codes "-") then codes "/dev/stdin" else nam
 
 -- how far a task judges
 abbrev pub mode_of : Task → Mode
-mode_of tasks.Check = modes.Full
+mode_of tasks.Check = modes.Verdict
 mode_of tasks.Units = modes.Units
 mode_of tasks.Headers = modes.Headers
 mode_of tasks.Frames = modes.Full
 mode_of tasks.Decode = modes.Full
-mode_of tasks.Elements = modes.Full
-mode_of tasks.Info = modes.Full
+mode_of tasks.Elements = modes.Verdict
+mode_of tasks.Info = modes.Verdict
 mode_of tasks.Report = modes.Full
-mode_of tasks.Explain = modes.Full
+mode_of tasks.Explain = modes.Verdict
 
 -- the name of a target
 abbrev pub target_name : Target → Text

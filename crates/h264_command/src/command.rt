@@ -6,7 +6,6 @@ ghost use Rattle.h264_base.specs.Call.{HasRoom};
 ghost use Rattle.clap.specs.Words.{Text, subcommand_of, takes, kind_of};
 ghost use Rattle.clap.specs.declared.error.kind.ErrorKind.TheVariants as kinds;
 ghost use Rattle.h264_base.specs.declared.mode.Mode.TheVariants as modes;
-ghost use Rattle.h264_verify.specs.Units.{terms_of};
 ghost use Rattle.h264_lines.specs.Sent.{Sends, Takes, wrote};
 ghost use Rattle.h264_report.specs.Written.{OfBytes, last_line};
 ghost use Rattle.h264_command.specs.Commands.{Performs, SaysAlone, TellsFailures, IsExcused, Faults, Comes, ComesTo, failed_read, files_read, span_of};
@@ -16,33 +15,22 @@ ghost use Rattle.h264_command.specs.declared.outcome.Outcome.TheVariants as outc
 ghost use Rattle.h264_command.specs.Words.{program, asks, name_of, value_in, is_judging, IsTarget};
 ghost use Rattle.h264_command.specs.Options.{IsPlain};
 
-use crate::command_line::{Request, Task, asked};
+use crate::command_line::{Request, Task, asked, listed};
 use crate::files::Files;
 use crate::outcome::Outcome;
 use clap::Error;
 use clap::error::ErrorKind;
 use h264_base::{Mode, Stop, Target};
-use h264_lines::{Device, Listing, put_text};
+use h264_lines::{Device, Listing, put_text, shown};
 use h264_report::{Ending, check, decode, list, put_answer, put_memory};
-use h264_verify::{Source, Terms};
-use std::alloc::Global;
-
-/// What is said where a word is no text.
-const NOT_TEXT: &str =
-    "h264v: a word is not UTF-8; a file with such a name is judged from standard input: h264v check - <FILE\n";
+use h264_verify::Source;
+use std::alloc::{AllocError, Global};
 
 /// What is said where the words name no task.
 const NO_TASK: &str = "h264v: no command is given; h264v --help lists them\n";
 
 /// The exit status of a fault of the words.
 pub const FAULT: u8 = 64;
-
-/// What a stream is judged by.
-fn terms(mode: Mode, target: Target) -> Terms
-    ensures { result ≡ terms_of mode target }
-{
-    Terms { mode, target }
-}
 
 /// Does a task with a file that can be opened, for this target.
 fn perform<R: Source, W: Device, E: Device>(
@@ -61,16 +49,13 @@ fn perform<R: Source, W: Device, E: Device>(
     ensures performs { OfBytes (R.left source.old) (λ bytes. Performs task target bytes result (wrote (W.contents out.old) (W.contents out.new))
         (wrote (E.contents err.old) (E.contents err.new))) }
 {
-    let units = terms(Mode::Units, target);
-    let headers = terms(Mode::Headers, target);
-    let whole = terms(Mode::Full, target);
     match task {
         Task::Check => check(alloc, target, source, out),
-        Task::Units => list(alloc, units, Listing::Units, source, out),
-        Task::Headers => list(alloc, headers, Listing::Slices, source, out),
-        Task::Frames => list(alloc, whole, Listing::Frames, source, out),
+        Task::Units => list(alloc, Mode::Units, target, Listing::Units, source, out),
+        Task::Headers => list(alloc, Mode::Headers, target, Listing::Slices, source, out),
+        Task::Frames => list(alloc, Mode::Full, target, Listing::Frames, source, out),
         Task::Decode => decode(alloc, target, source, out, err),
-        Task::Elements => list(alloc, whole, Listing::Elements, source, out),
+        Task::Elements => list(alloc, Mode::Verdict, target, Listing::Elements, source, out),
         Task::Info => unreachable!(),
         Task::Report => unreachable!(),
         Task::Explain => unreachable!(),
@@ -120,25 +105,42 @@ fn refused<E: Device>(err: &mut E, text: &str) -> u8
     FAULT
 }
 
-/// Says that a word is no text, where no file has a name that can be opened: the exit status of a fault of the words.
-pub fn not_text<E: Device>(err: &mut E) -> u8
-    ensures status { result ≡ 64 }
-    ensures handed_over { (E.holds_back err.new ≡ false) ⊎ (E.has_failed err.new ≡ true) }
-    ensures told { E.has_failed err.new ≡ false → Sends (E.contents err.old) (E.contents err.new) (codes
-        "h264v: a word is not UTF-8; a file with such a name is judged from standard input: h264v check - <FILE\n") }
-{
-    refused(err, NOT_TEXT)
+/// The words as they stand in lines. AllocError: there is no memory for them.
+fn shown_words(alloc: Global, words: &[String]) -> Result<Vec<String>, AllocError> {
+    let mut all: Vec<String> = Vec::new(alloc);
+    for word in words.iter() {
+        all.push(shown(alloc, word.as_str())?)?;
+    }
+    Ok(all)
+}
+
+/// What is said of words that ask for nothing, with each word in it as it stands in lines. AllocError: there is no memory for it.
+fn fault_text(alloc: Global, words: &[String]) -> Result<String, AllocError> {
+    let words = shown_words(alloc, words)?;
+    if let Err(error) = listed(alloc, words.as_slice()) {
+        return format!(in alloc; "{error}");
+    }
+    match asked(alloc, words.as_slice()) {
+        Err(error) => format!(in alloc; "{error}"),
+        Ok(_) => String::from_str(alloc, NO_TASK),
+    }
 }
 
 /// Says why the words ask for nothing: the exit status of a fault of the words. Where memory was wanting for that, it is said on `out`.
-fn fault<W: Device, E: Device>(alloc: Global, error: &Error, out: &mut W, err: &mut E) -> u8
+fn fault<W: Device, E: Device>(
+    alloc: Global,
+    given: &[String],
+    error: &Error,
+    out: &mut W,
+    err: &mut E,
+) -> u8
     ensures { (words : List Text) → (takes program words ≡ true → kind_of error.now ≡ kinds.OutOfMemory) →
         Faults words result (span_of W.contents W.has_failed W.holds_back out.old out.new) (span_of E.contents E.has_failed E.holds_back err.old err.new) }
 {
     if error.kind() == ErrorKind::OutOfMemory {
         return put_memory(out).status();
     }
-    match format!(in alloc; "{error}") {
+    match fault_text(alloc, given) {
         Ok(text) => refused(err, text.as_str()),
         Err(_) => put_memory(out).status(),
     }
@@ -187,7 +189,7 @@ pub fn command<'a, F: Files, W: Device, E: Device>(
     ensures kept { (wanted : WantedView) → result ≡ outcomes.More wanted → files.new ≡ files.old }
 {
     match asked(alloc, words) {
-        Err(error) => Outcome::Fault(fault(alloc, &error, out, err)),
+        Err(error) => Outcome::Fault(fault(alloc, words, &error, out, err)),
         Ok(None) => Outcome::Fault(refused(err, NO_TASK)),
         Ok(Some(wanted)) => match wanted.plain_target() {
             Some(target) => {

@@ -156,6 +156,7 @@ impl<'a> Wanted<'a> {
             || self.has("progress")
             || self.has("y4m")
             || self.has("strict")
+            || self.has("brief")
             || self.value("output").is_some()
             || self.value("picture").is_some()
             || self.value("mb").is_some()
@@ -256,6 +257,9 @@ fn is_shown(option: &str, name: &str) -> bool {
     if option == "strict" {
         return name == "check" || name == "report";
     }
+    if option == "brief" {
+        return name == "check";
+    }
     if option == "output" {
         return name == "decode" || name == "report";
     }
@@ -268,14 +272,15 @@ fn is_shown(option: &str, name: &str) -> bool {
     true
 }
 
-/// The files of a subcommand, of which there is at least one.
+/// The files of a subcommand, of which there is at least one where they are required.
 fn with_files<'a>(
     alloc: Global,
     command: Command<'a>,
     name: &'a str,
+    required: bool,
 ) -> Result<Command<'a>, AllocError>
     requires local { (fields_of command).has_globals ≡ false }
-    ensures app { IfOk result (λ c. app_of c ≡ with_rule (app_of command.entry) files_rule) }
+    ensures app { IfOk result (λ c. app_of c ≡ with_rule (app_of command.entry) (record files_rule { required = required })) }
     ensures local { IfOk result (λ c. (fields_of c).has_globals ≡ false) }
 {
     let (shown, help) = if name == "explain" {
@@ -284,7 +289,7 @@ fn with_files<'a>(
         ("FILE", FILE_HELP)
     };
     let files = Arg::new(alloc, "FILE")
-        .required(true)
+        .required(required)
         .num_args(1..)
         .value_name(shown)
         .help(help);
@@ -348,6 +353,9 @@ const Y4M_HELP: &str = "Writes YUV4MPEG2, which players open, in the place of ba
 const STRICT_HELP: &str =
     "Judges further rules of H.264 beside the verdict, and says which are broken";
 
+/// What the help says of `--brief`.
+const BRIEF_HELP: &str = "Leaves out the last elements before a no";
+
 /// What the help says of `--output` and its value.
 const OUTPUT_HELP: (&str, &str) = (
     "OUTPUT",
@@ -387,13 +395,9 @@ fn with_flags<'a>(
     let hidden = !is_shown("progress", name);
     let fourth = with_flag(alloc, third, "progress", PROGRESS_HELP, hidden)?;
     let fifth = with_flag(alloc, fourth, "y4m", Y4M_HELP, !is_shown("y4m", name))?;
-    with_flag(
-        alloc,
-        fifth,
-        "strict",
-        STRICT_HELP,
-        !is_shown("strict", name),
-    )
+    let hidden = !is_shown("strict", name);
+    let sixth = with_flag(alloc, fifth, "strict", STRICT_HELP, hidden)?;
+    with_flag(alloc, sixth, "brief", BRIEF_HELP, !is_shown("brief", name))
 }
 
 /// The command with the options that take a value.
@@ -415,12 +419,95 @@ fn with_values<'a>(
     with_value(alloc, third, "target", 't', TARGET_HELP, hidden)
 }
 
+/// The options that take no value.
+pub const FLAGS: [&str; 7] = [
+    "explain", "json", "quiet", "progress", "y4m", "strict", "brief",
+];
+
+/// The options that take a value.
+pub const VALUES: [&str; 4] = ["output", "picture", "mb", "target"];
+
+/// What the help says of `--files0-from` and its value.
+const LIST_HELP: (&str, &str) = (
+    "LIST",
+    "Takes the names of files from this file too, each ended by a byte 00, as find -print0 writes them",
+);
+
+/// What the help says of `--recursive` and its value.
+const FOLDER_HELP: (&str, &str) = ("FOLDER", "Takes each file below this folder too");
+
+/// What the help says of `--glob` and its value.
+const GLOB_HELP: (&str, &str) = (
+    "PATTERN",
+    "Of the folders only files of such a name: * stands for any characters, ? for one",
+);
+
+/// What the help says of `--name` and its value.
+const NAME_HELP: (&str, &str) = (
+    "TEXT",
+    "The name that standard input has in lines and objects",
+);
+
+/// An option that takes a value, with what its help says.
+fn list_option<'a>(alloc: Global, option: &'a str, about: (&'a str, &'a str)) -> Arg<'a> {
+    Arg::new(alloc, option)
+        .long(option)
+        .action(ArgAction::Set)
+        .value_name(about.0)
+        .help(about.1)
+}
+
+/// Whether a subcommand takes several files, and so lists of them.
+pub fn takes_lists(name: &str) -> bool {
+    name != "decode" && name != "report" && name != "explain"
+}
+
+/// The command with the options that name files by lists.
+fn with_lists<'a>(
+    alloc: Global,
+    command: Command<'a>,
+    name: &'a str,
+) -> Result<Command<'a>, AllocError> {
+    if name == "explain" {
+        return command.arg(
+            Arg::new(alloc, "all")
+                .long("all")
+                .action(ArgAction::SetTrue)
+                .help("Tells all labels"),
+        );
+    }
+    let command = command.arg(list_option(alloc, "name", NAME_HELP))?;
+    if !takes_lists(name) {
+        return Ok(command);
+    }
+    let list = list_option(alloc, "files0-from", LIST_HELP).action(ArgAction::Append);
+    let folder = list_option(alloc, "recursive", FOLDER_HELP)
+        .short('r')
+        .action(ArgAction::Append);
+    command
+        .arg(list)?
+        .arg(folder)?
+        .arg(list_option(alloc, "glob", GLOB_HELP))
+}
+
+/// A subcommand that takes files, options and lists of files; its help says `about`.
+fn list_command<'a>(
+    alloc: Global,
+    name: &'a str,
+    about: &'a str,
+) -> Result<Command<'a>, AllocError> {
+    let command = with_files(alloc, Command::new(alloc, name).about(about), name, false)?;
+    let command = with_flags(alloc, command, name)?;
+    let command = with_values(alloc, command, name)?;
+    with_lists(alloc, command, name)
+}
+
 /// A subcommand that takes one FILE or more, and the options; its help says `about`.
 fn file_command<'a>(alloc: Global, name: &'a str, about: &'a str) -> Result<Command<'a>, AllocError>
     ensures app { IfOk result (λ c. app_of c ≡ file_app name.now) }
     ensures local { IfOk result (λ c. (fields_of c).has_globals ≡ false) }
 {
-    let command = with_files(alloc, Command::new(alloc, name).about(about), name)?;
+    let command = with_files(alloc, Command::new(alloc, name).about(about), name, true)?;
     let command = with_flags(alloc, command, name)?;
     with_values(alloc, command, name)
 }
@@ -517,4 +604,19 @@ pub fn asked<'a>(alloc: Global, words: &'a [String]) -> Result<Option<Wanted<'a>
         Some(request) => Ok(Some(Wanted { request, matches })),
         None => Ok(None),
     }
+}
+
+/// The command line with lists of files.
+fn list_program<'a>(alloc: Global) -> Result<Command<'a>, AllocError> {
+    let mut command = bare(alloc);
+    for (name, about) in SUBCOMMANDS {
+        command = command.subcommand(list_command(alloc, name, about)?)?;
+    }
+    Ok(command)
+}
+
+/// What the words say to the command line with lists of files, which takes what the plain one takes, and words without a FILE. An error has the text that
+/// says why it does not take them.
+pub fn listed<'a>(alloc: Global, words: &'a [String]) -> Result<ArgMatches<'a>, Error> {
+    list_program(alloc)?.try_get_matches_from(words)
 }

@@ -2,9 +2,10 @@
 #![tactic(auto)]
 
 ghost use Rattle.std.specs.Prelude.{◌≡◌, ◌++◌, IfOk, IfSome, IfNone, OnOk, string_bytes};
-ghost use Rattle.h264_command.specs.Explained.{label_in, IsNoLabel, rule_lines, rule_object, feature_lines, feature_object, entry_text};
+ghost use Rattle.h264_command.specs.Explained.{folded, label_in, IsNoLabel, rule_lines, rule_object, feature_lines, feature_object, entry_text};
 ghost use Rattle.h264_command.specs.Explained.{strict_lines, strict_front, strict_object};
 
+use crate::labels::same_but_for_case;
 use h264_base::Stop;
 use h264_pages::pages::{Answer, Guide};
 use h264_pages::{
@@ -177,8 +178,8 @@ pub fn put_entry(
     text.push_str(more.as_str())
 }
 
-/// The entry of the rule, the feature or the further rule with this label.
-pub fn entry_labelled(label: &str) -> Option<Entry>
+/// The entry of the rule, the feature or the further rule with exactly this label.
+fn entry_of_label(label: &str) -> Option<Entry>
     ensures is { IfSome result (λ entry. label_in entry ≡ label.now) }
     ensures none { IfNone result (IsNoLabel label.now) }
 {
@@ -191,5 +192,16 @@ pub fn entry_labelled(label: &str) -> Option<Entry>
                 None => None,
             },
         },
+    }
+}
+
+/// The entry of the rule, the feature or the further rule with this label, whatever the case of its letters.
+pub fn entry_labelled(label: &str) -> Option<Entry>
+    ensures is { IfSome result (λ entry. folded (label_in entry) ≡ folded label.now) }
+    ensures none { IfNone result (IsNoLabel label.now) }
+{
+    match entry_of_label(label) {
+        Some(entry) => Some(entry),
+        None => entry_of_label(same_but_for_case(label)?),
     }
 }

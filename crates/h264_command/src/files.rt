@@ -33,12 +33,22 @@ pub trait Maker {
     /// What is written to.
     type Output: Write + Drop;
 
-    /// Whether what an output is given goes to the file of this name.
+    /// Whether what an output is given goes to the file of this name, once it is finished.
     ghost goes_to: { Self.Output → List ℕ → Type 0 } = { λ _ _. Unit {0} };
 
-    /// A new file of this name, or the emptied one.
+    /// Whether an output was finished.
+    ghost is_finished: { Self.Output → Type 0 } = { λ _. Unit {0} };
+
+    /// A new output to the file of this name. What has the name keeps it until the output is finished.
     fn make(&mut self, name: &str) -> io::Result<Self::Output>
         ensures named { IfOk result (λ output. goes_to output name.now) };
+
+    /// Gives a whole output its name.
+    fn finish(&mut self, output: Self::Output) -> io::Result<()>
+        ensures finished { OnOk result (is_finished output) };
+
+    /// Lets go of an output that is not whole. What has its name keeps it.
+    fn abandon(&mut self, output: Self::Output);
 
     /// Whether two names stand for one file.
     fn is_same(&self, name: &str, other: &str) -> bool;
@@ -157,6 +167,11 @@ impl<O: Opener + Drop> OpenedFiles<O> {
         }
     }
 
+    /// What opens files.
+    pub fn opener(&self) -> &O {
+        &self.opener
+    }
+
     /// Closes the open file, and counts it where it could not be opened or read.
     pub fn close(&mut self)
         ensures opener { self.new.opener ≡ self.old.opener }
@@ -183,13 +198,30 @@ impl<O: Opener + Drop> OpenedFiles<O> {
 }
 
 impl<O: Opener + Maker + Drop> OpenedFiles<O> {
-    /// A new file of this name to write to, or the emptied one.
+    /// A new output to the file of this name.
     pub fn make(&mut self, name: &str) -> io::Result<O::Output>
         ensures named { IfOk result (λ output. O.goes_to output name.now) }
         ensures file { self.new.file ≡ self.old.file }
         ensures unread { self.new.unread ≡ self.old.unread }
     {
         self.opener.make(name)
+    }
+
+    /// Gives a whole output its name.
+    pub fn finish(&mut self, output: O::Output) -> io::Result<()>
+        ensures finished { OnOk result (O.is_finished output) }
+        ensures file { self.new.file ≡ self.old.file }
+        ensures unread { self.new.unread ≡ self.old.unread }
+    {
+        self.opener.finish(output)
+    }
+
+    /// Lets go of an output that is not whole.
+    pub fn abandon(&mut self, output: O::Output)
+        ensures file { self.new.file ≡ self.old.file }
+        ensures unread { self.new.unread ≡ self.old.unread }
+    {
+        self.opener.abandon(output);
     }
 
     /// Whether two names stand for one file.

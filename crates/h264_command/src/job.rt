@@ -91,20 +91,20 @@ pub struct Watch<M: Meter + Drop> {
     ghost fresh: { IsTold survey nothing_told },
 }
 
-/// How far a task judges.
+/// How far a task judges, and whether it makes frames.
 pub fn mode_of(task: Task) -> Mode
     ensures { result ≡ mode_of task }
 {
     match task {
         Task::Units => Mode::Units,
         Task::Headers => Mode::Headers,
-        Task::Check => Mode::Full,
+        Task::Check => Mode::Verdict,
         Task::Frames => Mode::Full,
         Task::Decode => Mode::Full,
-        Task::Elements => Mode::Full,
-        Task::Info => Mode::Full,
+        Task::Elements => Mode::Verdict,
+        Task::Info => Mode::Verdict,
         Task::Report => Mode::Full,
-        Task::Explain => Mode::Full,
+        Task::Explain => Mode::Verdict,
     }
 }
 
@@ -194,8 +194,7 @@ fn tell_end<S: FrameSink + Drop, M: Meter + Drop>(surveyed: &mut Surveyed<S, M>)
         None => 0,
     };
     let pictures = surveyed.survey.picture_count();
-    let frames = surveyed.survey.frames;
-    surveyed.meter.end(byte, pictures, frames);
+    surveyed.meter.end(byte, pictures);
 }
 
 /// What a judgement without lines or frames left.
@@ -241,6 +240,16 @@ fn judge_plainly<S: FrameSink + Drop, F: io::Read + Drop, M: Meter + Drop>(
         survey,
         answer,
     })
+}
+
+/// The lines of the last elements, before a no, unless `--brief` leaves them out; no text before another answer. None where there is no memory for them.
+fn last_elements(job: &Job<'_>, answer: Answer, sink: &TrailSink) -> Option<String>
+    ensures read { IfNone result (IsErrOf answer Read → ⊥) }
+{
+    if job.options.brief {
+        return Some(String::new(job.alloc));
+    }
+    trail_lines(job.alloc, answer, sink)
 }
 
 /// The lines of the last elements, before a no; no text before another answer. None where there is no memory for them.
@@ -361,7 +370,7 @@ fn check_strictly<F: io::Read + Drop, M: Meter + Drop>(
         further,
         ..
     } = judged;
-    let before = trail_lines(job.alloc, answer, &sink)?;
+    let before = last_elements(job, answer, &sink)?;
     Some(Found {
         answer,
         strict: Some(further),
@@ -395,7 +404,7 @@ pub fn check_file<F: io::Read + Drop, M: Meter + Drop>(
         return None;
     };
     let judged = judge_plainly(job, file, sink, meter)?;
-    let before = trail_lines(job.alloc, judged.answer, &judged.sink)?;
+    let before = last_elements(job, judged.answer, &judged.sink)?;
     Some(Found {
         answer: judged.answer,
         strict: None,

@@ -11,8 +11,12 @@ mod command_line;
 mod decoding;
 mod explaining;
 pub mod files;
+pub mod glob;
+pub mod handing;
 mod job;
+mod labels;
 mod listing;
+pub mod lists;
 mod more;
 mod options;
 mod outcome;
@@ -22,5 +26,3 @@ mod reporting;
 mod strictly;
 mod telling;
 pub mod words;
-
-pub use command::not_text;

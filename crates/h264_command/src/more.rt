@@ -2,9 +2,10 @@
 #![tactic(auto)]
 
 ghost use Rattle.std.specs.Prelude.{◌≡◌, ◌≢◌, ℕ, ◌==◌, ◌-◌, ◌<◌, ◌^◌, ◌++◌, ◌⊎◌, ◌||◌, ◌&&◌, is_some, true, false, max, map, length, not, nat_le, List, codes};
-ghost use Rattle.std.specs.Prelude.{Err, None, IsErrOf, IsSome, IfSome, IfNone};
+ghost use Rattle.std.specs.Prelude.{Err, None, IsErrOf, IsSome, IfOk, IfSome, IfNone, string_bytes};
 ghost use Rattle.clap.specs.Words.{subcommand_rows_of};
 ghost use Rattle.h264_base.specs.declared.stop.Stop.TheVariants.{Memory, Read, Write};
+ghost use Rattle.h264_lines.specs.Names.{shown};
 ghost use Rattle.h264_lines.specs.Sent.{Sends};
 ghost use Rattle.h264_lines.specs.Told.{ended};
 ghost use Rattle.h264_report.specs.Written.{OfBytes};
@@ -15,7 +16,7 @@ ghost use Rattle.h264_command.specs.Files.{counts, left_of, one_more, HasReadAll
 ghost use Rattle.h264_command.specs.Further.{asks_further, BreakOne, IsFound, TellsBroken, IsNoVerdict};
 ghost use Rattle.h264_command.specs.Commands.{output_of, span_of};
 ghost use Rattle.h264_command.specs.More.{AreDone, HasTaken, IsAnswerOf, IsPutAside, IsStatus, IsToldAside, IsToldStatus, NoneTook, TellsCause, TellsWrites};
-ghost use Rattle.h264_command.specs.More.{files_span, work};
+ghost use Rattle.h264_command.specs.More.{files_span, is_whole, work};
 ghost use Rattle.h264_command.specs.Options.{refusal_text};
 ghost use Rattle.h264_command.specs.Surveys.{IsSurveyed, surveys};
 ghost use Rattle.h264_command.specs.Texts.{IsEnd, IsFileText, IsTextOf, TakesText, answers_aside, opening_in, prefix_of};
@@ -27,17 +28,18 @@ use crate::decoding::decode_file;
 use crate::explaining::{entry_labelled, put_entry};
 use crate::files::{Files, Maker, OpenFile, OpenedFiles, Opener};
 use crate::job::{Done, Found, Job, check_file, info_file};
+use crate::labels::nearest_label;
 use crate::listing::list_file;
 use crate::options::options_of;
 use crate::refusal::{Clash, Refusal};
 use crate::reporting::report_file;
 use crate::telling::{put_found, put_unjudged};
 use h264_base::Stop;
-use h264_lines::{Device, WriteDevice, put_text, told_answer};
+use h264_lines::{Device, Head, WriteDevice, put_text, shown, told_answer};
 use h264_pages::pages::Page;
 use h264_pages::survey::Meter;
-use h264_report::{put_line, put_memory};
-use std::alloc::Global;
+use h264_report::{Ending, put_line, put_memory};
+use std::alloc::{AllocError, Global};
 use std::io;
 use std::io::Write;
 
@@ -133,13 +135,23 @@ fn put_blame<E: Device>(err: &mut E, front: &str, cause: &str)
     let _ = put_line(front, cause, err);
 }
 
-/// Says why a device or a file failed, by the system's cause. Where there is no memory for the cause, the line ends before it.
+/// The front of the line that tells of a name. AllocError: there is no memory for it.
+fn blame_front(alloc: Global, name: &str) -> Result<String, AllocError>
+    ensures { IfOk result (λ s. string_bytes s ≡ codes "h264v: " ++ shown name.now) }
+{
+    let name = shown(alloc, name)?;
+    let name = name.as_str();
+    format!(in alloc; "h264v: {name}")
+}
+
+/// Says why a device or a file failed, by the system's cause. Where there is no memory for the cause, the line ends before it; where there is none for the
+/// name, it says so.
 pub fn blame<E: Device>(alloc: Global, err: &mut E, name: &str, cause: &io::Error)
     ensures kept { E.has_failed err.old ≡ true → E.has_failed err.new ≡ true }
     ensures told { E.has_failed err.new ≡ false → TellsCause (E.contents err.old) (E.contents err.new) name.now }
 {
-    let Ok(front) = format!(in alloc; "h264v: {name}") else {
-        put_blame(err, "h264v: ", name);
+    let Ok(front) = blame_front(alloc, name) else {
+        put_blame(err, "h264v: ", "memory");
         return;
     };
     match format!(in alloc; ": {cause}") {
@@ -158,6 +170,24 @@ fn refuse<E: Device>(err: &mut E, refusal: Refusal) -> u8
     FAULT
 }
 
+/// What is said of a label that no rule has. AllocError: there is no memory for it.
+fn unknown_text(alloc: Global, label: &str) -> Result<String, AllocError> {
+    let nearest = nearest_label(alloc, label)?.unwrap_or("");
+    let label = shown(alloc, label)?;
+    let label = label.as_str();
+    format!(in alloc;
+        "no rule has the label {label}; the nearest is {nearest}, and h264v explain --all lists all"
+    )
+}
+
+/// Says that no rule has a label.
+fn put_unknown<E: Device>(alloc: Global, err: &mut E, label: &str) {
+    match unknown_text(alloc, label) {
+        Ok(text) => put_blame(err, "h264v: ", text.as_str()),
+        Err(_) => put_blame(err, "h264v: ", "memory"),
+    }
+}
+
 /// Tells the entries of labels: the exit status. Where one label is unknown, nothing is told.
 fn explain_labels<W: Device, E: Device>(
     alloc: Global,
@@ -173,7 +203,7 @@ fn explain_labels<W: Device, E: Device>(
     let mut text = String::new(alloc);
     for label in labels.iter() {
         let Some(entry) = entry_labelled(label) else {
-            let _ = put_line("h264v: no rule has the label ", label, err);
+            put_unknown(alloc, err, label);
             return FAULT;
         };
         if put_entry(alloc, &mut text, entry, json).is_err() {
@@ -285,6 +315,30 @@ fn stop_of(failed: bool) -> Stop
     if failed { Stop::Write } else { Stop::Memory }
 }
 
+/// Says on standard error that the stream has no picture of the number that is chosen.
+fn tell_absent<E: Device>(job: &Job<'_>, found: &Found, err: &mut E) {
+    let Some(number) = job.options.choice.picture else {
+        return;
+    };
+    let count = found.survey.picture_count();
+    if job.options.quiet || number < count {
+        return;
+    }
+    let Ok(front) = blame_front(job.alloc, job.file) else {
+        put_blame(err, "h264v: ", "memory");
+        return;
+    };
+    match format!(in job.alloc; ": there is no picture {number}: {count} pictures were read") {
+        Ok(text) => put_blame(err, front.as_str(), text.as_str()),
+        Err(_) => put_blame(err, "h264v: ", "memory"),
+    }
+}
+
+/// The change of size that is told: none where the output failed.
+fn change_told(change: Option<(Head, Head)>, failed: bool) -> Option<(Head, Head)> {
+    if failed { None } else { change }
+}
+
 /// Judges the open file, and writes its answer to `out`, or to `err` where the task writes something else to `out`.
 fn judge_opened<F: io::Read + Drop, W: Device, E: Device, M: Meter + Drop>(
     job: &Job<'_>,
@@ -314,6 +368,8 @@ fn judge_opened<F: io::Read + Drop, W: Device, E: Device, M: Meter + Drop>(
     };
     let broke_off = is_cut_off(job, &found, failed);
     found.answer = told_answer(found.answer, broke_off);
+    found.change = change_told(found.change, failed);
+    tell_absent(job, &found, err);
     put_answer(job, &found, out, err)
 }
 
@@ -382,6 +438,15 @@ pub fn blame_output<W: Write + Drop, E: Device>(
     }
 }
 
+/// What stands before each line of one of several files: its name. AllocError: there is no memory for it.
+fn prefix_of(alloc: Global, file: &str) -> Result<String, AllocError>
+    ensures { IfOk result (λ s. string_bytes s ≡ prefix_of true file.now) }
+{
+    let mut prefix = shown(alloc, file)?;
+    prefix.push_str(": ")?;
+    Ok(prefix)
+}
+
 /// Judges one of several files, whose lines begin with its name.
 fn do_named<O: Opener + Drop, W: Device, E: Device, M: Meter + Drop>(
     job: &Job<'_>,
@@ -407,8 +472,7 @@ fn do_named<O: Opener + Drop, W: Device, E: Device, M: Meter + Drop>(
     if job.options.json {
         return do_file(job, files, out, err, meter);
     }
-    let file = job.file;
-    let Ok(prefix) = format!(in job.alloc; "{file}: ") else {
+    let Ok(prefix) = prefix_of(job.alloc, job.file) else {
         return put_no_verdict(job, Stop::Memory, out, err);
     };
     let named = Job {
@@ -484,6 +548,51 @@ fn do_one<O: Opener + Drop, W: Device, E: Device, M: Meter + Drop>(
     done
 }
 
+/// Whether an output is whole: all was written, and the answer is a verdict.
+fn is_whole(ending: Ending) -> bool
+    ensures { result ≡ is_whole ending }
+{
+    ending.written
+        && !matches!(
+            ending.answer,
+            Err(Stop::Memory) | Err(Stop::Read) | Err(Stop::Write)
+        )
+}
+
+/// Gives an output its name, where it is whole; else what has the name keeps it. How the judgement ended then: where the name can't be given, not all is
+/// written.
+fn close_output<O: Opener + Maker + Drop, E: Device>(
+    alloc: Global,
+    files: &mut OpenedFiles<O>,
+    written: O::Output,
+    name: &str,
+    done: Done,
+    err: &mut E,
+) -> Done
+    ensures answer { result.ending.answer ≡ done.ending.answer }
+    ensures broken { result.is_broken ≡ done.is_broken }
+    ensures whole { is_whole result.ending ≡ true → is_whole done.ending ≡ true }
+    ensures finished { is_whole result.ending ≡ true → O.is_finished written }
+    ensures file { files.new.file ≡ files.old.file }
+    ensures unread { files.new.unread ≡ files.old.unread }
+{
+    if !is_whole(done.ending) {
+        files.abandon(written);
+        return done;
+    }
+    match files.finish(written) {
+        Ok(()) => done,
+        Err(cause) => {
+            blame(alloc, err, name, &cause);
+            let ending = Ending {
+                written: false,
+                ..done.ending
+            };
+            Done { ending, ..done }
+        }
+    }
+}
+
 /// Judges one file with its output in a file of its own, which is made once the input is open: how that ended.
 fn do_output<O: Opener + Maker + Drop, E: Device, M: Meter + Drop>(
     job: &Job<'_>,
@@ -501,7 +610,7 @@ fn do_output<O: Opener + Maker + Drop, E: Device, M: Meter + Drop>(
     ensures unread { files.new.unread ≡ files.old.unread }
     ensures output { IsToldAside result.ending (IsFileText job.now.task job.now.options
         (opening_in job.now.options.json job.now.file.now job.now.prefix.now) (O.holds files.old.opener (system_name job.now.file.now)) result.ending.answer)
-        (HasTaken O.goes_to O.Output.Write.contents output.now) }
+        (HasTaken O.goes_to O.is_finished O.Output.Write.contents output.now) }
 {
     if files.open(system_name(job.file)).is_err() {
         let done = put_unjudged(job, err, Stop::Read);
@@ -519,7 +628,8 @@ fn do_output<O: Opener + Maker + Drop, E: Device, M: Meter + Drop>(
     let done = judge_opened(job, &mut files.file, &mut device, err, meter);
     blame_reading(job.alloc, &files.file, err, job.file);
     blame_output(job.alloc, &device, err, output);
-    done
+    let WriteDevice { writer, .. } = device;
+    close_output(job.alloc, files, writer, output, done, err)
 }
 
 /// Does what the words ask beside a judgement of one file without options, and gives the exit status: the worst of the files', 64 for a fault of the
@@ -535,7 +645,7 @@ pub fn more<O: Opener + Maker + Drop, W: Device, E: Device, M: Meter + Drop + Co
     requires { files.old.file.failures < 2 ^ 64 - 1 }
     ensures { IsStatus wanted.now.request.task (subcommand_rows_of wanted.now.matches) (files_span (λ name. O.holds files.old.opener name)
         (counts files.old.file.failures files.old.file.reads files.old.unread)
-        (counts files.new.file.failures files.new.file.reads files.new.unread) (HasTaken O.goes_to O.Output.Write.contents)) result
+        (counts files.new.file.failures files.new.file.reads files.new.unread) (HasTaken O.goes_to O.is_finished O.Output.Write.contents)) result
         (span_of W.contents W.has_failed W.holds_back out.old out.new)
         (span_of E.contents E.has_failed E.holds_back err.old err.new) }
 {
@@ -561,7 +671,7 @@ pub fn more<O: Opener + Maker + Drop, W: Device, E: Device, M: Meter + Drop + Co
         file: names[0],
         ..job
     };
-    let Some(output) = options.output else {
+    let Some(output) = options.output_file() else {
         return do_one(&job, files, out, err, meter).status();
     };
     if files.is_same(system_name(job.file), output) {

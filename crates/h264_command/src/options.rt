@@ -3,7 +3,8 @@
 
 ghost use Rattle.std.specs.Prelude.{◌≡◌, ◌<◌, ◌↔◌, true, None, IfOk, IfErr, IsSome, IfSome, map, option_map, codes};
 ghost use Rattle.clap.specs.Words.{subcommand_rows_of};
-ghost use Rattle.h264_command.specs.Options.{AreOptions, AreWellUsed, IsClash, IsMisplaced, IsNoise, IsNoNumber, IsNumber, IsRefused, IsUnreadable, times};
+ghost use Rattle.h264_command.specs.Options.{AreOptions, AreWellUsed, IsClash, IsMisplaced, IsNoise, IsNoNumber, IsNumber};
+ghost use Rattle.h264_command.specs.Options.{IsRefused, IsUnreadable, names_standard_output, output_file, times};
 ghost use Rattle.h264_command.specs.Surveys.{asks_for_survey};
 ghost use Rattle.h264_command.specs.Words.{Given, value_in};
 ghost use Rattle.h264_command.specs.declared.refusal.Clash.{Clash as ClashView};
@@ -24,14 +25,38 @@ pub struct Options<'a> {
     pub progress: bool,
     pub y4m: bool,
     pub strict: bool,
-    /// The file that is written in the place of standard output.
+    pub brief: bool,
+    /// The name of the output, as the words give it.
     pub output: Option<&'a str>,
     pub choice: Choice,
     /// What the stream has to suit.
     pub target: Target,
 }
 
-impl Options<'_> {
+/// Whether this is a name of standard output.
+fn names_standard_output(name: &str) -> bool
+    ensures { result ≡ names_standard_output name.now }
+{
+    name == "-" || name == "/dev/stdout"
+}
+
+impl<'a> Options<'a> {
+    /// The file that is written in the place of standard output. None where the words name none, or standard output itself.
+    pub fn output_file(&self) -> Option<&'a str>
+        ensures { option_map (λ s. s.now) result ≡ output_file (option_map (λ s. s.now) self.now.output) }
+    {
+        match self.output {
+            Some(name) => {
+                if names_standard_output(name) {
+                    None
+                } else {
+                    Some(name)
+                }
+            }
+            None => None,
+        }
+    }
+
     /// Whether an option tells more of a judgement than its sink does.
     pub fn asks_for_survey(&self) -> bool
         ensures { result ≡ asks_for_survey self.now }
@@ -81,6 +106,7 @@ fn given_options<'a>(wanted: &Wanted<'a>) -> Result<Options<'a>, Unreadable>
         progress: wanted.has("progress"),
         y4m: wanted.has("y4m"),
         strict: wanted.has("strict"),
+        brief: wanted.has("brief"),
         output: wanted.value("output"),
         choice: Choice {
             picture,
@@ -102,6 +128,9 @@ fn misplaced(task: Task, options: &Options<'_>, names_target: bool) -> Option<Mi
     }
     if options.strict && !task.has_further_rules() {
         return Some(Misplaced::Strict);
+    }
+    if options.brief && task != Task::Check {
+        return Some(Misplaced::Brief);
     }
     if options.output.is_some() && task != Task::Decode && task != Task::Report {
         return Some(Misplaced::Output);
@@ -164,7 +193,7 @@ fn clash(task: Task, options: &Options<'_>, files: &[&str]) -> Option<Clash>
     if files.len() > 1 && task == Task::Report {
         return Some(Clash::SeveralToReport);
     }
-    if let Some(output) = options.output {
+    if let Some(output) = options.output_file() {
         if times(files, output) > 0 {
             return Some(Clash::OutputIsInput);
         }

@@ -33,6 +33,7 @@ impl Unreadable {
 pub enum Misplaced {
     Y4m,
     Strict,
+    Brief,
     Output,
     /// `--picture` or `--mb`.
     Choice,
@@ -49,6 +50,7 @@ impl Misplaced {
         match self {
             Misplaced::Y4m => "--y4m belongs to decode",
             Misplaced::Strict => "--strict belongs to check and report",
+            Misplaced::Brief => "--brief belongs to check",
             Misplaced::Output => "--output belongs to decode and report",
             Misplaced::Choice => "--picture and --mb belong to elements",
             Misplaced::Explain => {

@@ -1,15 +1,16 @@
 //! How the answer on a file is told: lines, or an object of JSON.
 #![tactic(auto)]
 
-ghost use Rattle.std.specs.Prelude.{◌≡◌, ◌⊎◌, ◌++◌, ℕ, List, true, false, Err};
+ghost use Rattle.std.specs.Prelude.{◌≡◌, ◌⊎◌, ◌++◌, ℕ, List, true, false, Err, IfOk, IfSome, string_bytes};
 ghost use Rattle.h264_base.specs.declared.mode.Mode.{Mode};
 ghost use Rattle.h264_base.specs.declared.stop.Stop.TheVariants.{Memory, Read, Write};
 ghost use Rattle.h264_lines.specs.Lines.{verdict_text};
-ghost use Rattle.h264_pages.specs.Pages.{text_on, is_cut, Adds};
+ghost use Rattle.h264_pages.specs.Pages.{text_on, is_cut, Adds, Grows};
 ghost use Rattle.h264_lines.specs.Sent.{Takes};
 ghost use Rattle.h264_report.specs.Written.{last_line};
 ghost use Rattle.h264_command.specs.Further.{BreakOne, IsNoVerdict};
-ghost use Rattle.h264_command.specs.Texts.{head_of, opening_in, verdict_object, EndsWith, TellsAnswer};
+ghost use Rattle.h264_command.specs.Texts.{SizeChange, change_line, change_object, head_of, opening_in, size_text, verdict_object};
+ghost use Rattle.h264_command.specs.Texts.{EndsWith, EndsWithAnswer, EndsWithChange, TellsAnswer};
 ghost use Rattle.h264_command.specs.Words as words;
 
 use crate::command_line::Task;
@@ -18,11 +19,12 @@ use crate::job::{Done, Found, Job, mode_of};
 use crate::strictly::{put_strict_lines, put_strict_objects};
 use h264_base::Stop;
 use h264_lines::head::Head;
-use h264_lines::{Device, put_text, verdict_line};
+use h264_lines::{Device, put_text, shown, verdict_line};
 use h264_pages::pages::{
     Answer, Finding, Page, put_answer_fields, put_explanation, put_verdict_fields,
 };
 use h264_report::{Ending, put_line};
+use std::alloc::{AllocError, Global};
 
 /// Where the answer of a judgement stands.
 pub fn finding_of(found: &Found) -> Option<Finding> {
@@ -107,28 +109,65 @@ fn short_of(answer: Answer) -> Stop
     }
 }
 
-/// Adds the text that says which sizes follow one another.
-fn put_change(page: &mut Page, first: Head, other: Head) {
-    page.put("size changes from ");
-    page.number(first.width as u64);
-    page.put("x");
-    page.number(first.height as u64);
-    page.put(" to ");
-    page.number(other.width as u64);
-    page.put("x");
-    page.number(other.height as u64);
-    page.put(", and YUV4MPEG2 has no second header");
+/// A size: its width and its height. AllocError: there is no memory for it.
+fn size_text(alloc: Global, head: Head) -> Result<String, AllocError>
+    ensures { IfOk result (λ s. string_bytes s ≡ size_text head) }
+{
+    let Head { width, height, .. } = head;
+    format!(in alloc; "{width}x{height}")
 }
 
-/// Adds the object that says which sizes follow one another.
-fn put_change_object(job: &Job<'_>, page: &mut Page, first: Head, other: Head) {
-    let mut text = Page::new(job.alloc);
-    put_change(&mut text, first, other);
-    if text.is_short() {
-        page.give_up();
+/// The line that tells of a frame of another size than those before it. AllocError: there is no memory for it.
+fn change_line(
+    alloc: Global,
+    file: &str,
+    frame: u64,
+    first: Head,
+    other: Head,
+) -> Result<String, AllocError>
+    ensures { IfOk result (λ s. string_bytes s ≡ change_line (record { name = file.now; frame = frame; first = first; other = other })) }
+{
+    let name = shown(alloc, file)?;
+    let name = name.as_str();
+    let first = size_text(alloc, first)?;
+    let first = first.as_str();
+    let other = size_text(alloc, other)?;
+    let other = other.as_str();
+    format!(in alloc;
+        "h264v: {name}: frame {frame} is {other}, and those before it are {first}: YUV4MPEG2 has one size\n"
+    )
+}
+
+/// Adds the line that tells of a frame of another size than those before it.
+fn put_change(job: &Job<'_>, page: &mut Page, frame: u64, first: Head, other: Head)
+    ensures { is_cut page.new ≡ false → (is_cut page.old ≡ false) × ((change : SizeChange) × (text_on page.new ≡ text_on page.old ++ change_line change)) }
+{
+    match change_line(job.alloc, job.file, frame, first, other) {
+        Ok(line) => page.put(line.as_str()),
+        Err(_) => page.give_up(),
     }
-    page.open_object(job.file, "change");
-    page.text_field("text", text.as_str());
+}
+
+/// Adds the exit status, the frame and the sizes to the object that tells of a change of size.
+fn put_sizes(page: &mut Page, frame: u64, first: Head, other: Head)
+    ensures { Grows page.old page.new }
+{
+    page.number_field("status", 4);
+    page.number_field("frame", frame);
+    page.number_field("width", other.width as u64);
+    page.number_field("height", other.height as u64);
+    page.number_field("width_before", first.width as u64);
+    page.number_field("height_before", first.height as u64);
+}
+
+/// Adds the object that tells of a frame of another size than those before it.
+fn put_change_object(job: &Job<'_>, page: &mut Page, frame: u64, first: Head, other: Head)
+    ensures { is_cut page.new ≡ false → (is_cut page.old ≡ false) × ((more : List ℕ)
+        × (text_on page.new ≡ text_on page.old ++ change_object (head_of job.now.file.now) more)) }
+{
+    page.open_object(job.file, "verdict");
+    page.text_field("verdict", "size changes");
+    put_sizes(page, frame, first, other);
     page.close_object();
 }
 
@@ -138,25 +177,52 @@ fn put_earlier(job: &Job<'_>, page: &mut Page, found: &Found) {
         page.put(found.before.as_str());
     }
     if !job.options.json {
-        if let Some((first, other)) = found.change {
-            put_change(page, first, other);
-            page.put("\n");
-        }
         put_earlier_lines(job, page, found);
         return;
-    }
-    if let Some((first, other)) = found.change {
-        put_change_object(job, page, first, other);
     }
     if let Some(strict) = &found.strict {
         put_strict_objects(page, job.file, strict);
     }
 }
 
+/// Adds the answer, as a line or as an object.
+fn put_answer_told(job: &Job<'_>, page: &mut Page, found: &Found)
+    ensures { is_cut page.new ≡ false → EndsWith job.now.task (opening_in job.now.options.json job.now.file.now job.now.prefix.now) found.now.answer
+        (text_on page.new) }
+{
+    if job.options.json {
+        put_verdict_object(job, page, found);
+    } else {
+        put_last_line(job, page, found);
+    }
+}
+
+/// Adds that the size changes, as a line or as an object.
+fn put_change_told(job: &Job<'_>, page: &mut Page, frame: u64, first: Head, other: Head)
+    ensures { is_cut page.new ≡ false → EndsWithChange (opening_in job.now.options.json job.now.file.now job.now.prefix.now) (text_on page.new) }
+{
+    if job.options.json {
+        put_change_object(job, page, frame, first, other);
+    } else {
+        put_change(job, page, frame, first, other);
+    }
+}
+
+/// The headers of the first frame and of one of another size, with which YUV4MPEG2 ended.
+fn change_in(job: &Job<'_>, found: &Found) -> Option<(Head, Head)>
+    ensures framed { IfSome result (λ _. job.now.options.y4m ≡ true) }
+    ensures unwritten { IfSome result (λ _. found.now.answer ≡ Err Write) }
+{
+    match found.answer {
+        Err(Stop::Write) if job.options.y4m => found.change,
+        _ => None,
+    }
+}
+
 /// Adds what is written at the end of a judgement: last of all the answer, as a line or as an object.
 fn put_end(job: &Job<'_>, page: &mut Page, found: &Found)
-    ensures { is_cut page.new ≡ false →
-        EndsWith job.now.task (opening_in job.now.options.json job.now.file.now job.now.prefix.now) found.now.answer (text_on page.new) }
+    ensures { is_cut page.new ≡ false → EndsWithAnswer job.now.task job.now.options
+        (opening_in job.now.options.json job.now.file.now job.now.prefix.now) found.now.answer (text_on page.new) }
 {
     let mut earlier = Page::new(job.alloc);
     put_earlier(job, &mut earlier, found);
@@ -165,10 +231,9 @@ fn put_end(job: &Job<'_>, page: &mut Page, found: &Found)
         return;
     }
     page.put_lines(job.prefix, earlier.as_str());
-    if job.options.json {
-        put_verdict_object(job, page, found);
-    } else {
-        put_last_line(job, page, found);
+    match change_in(job, found) {
+        Some((first, other)) => put_change_told(job, page, found.survey.frames, first, other),
+        None => put_answer_told(job, page, found),
     }
 }
 

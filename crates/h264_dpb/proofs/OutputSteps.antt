@@ -1,34 +1,41 @@
 -- From what the places hold to pictures alone: what is written, and what is kept.
-use Rattle.std.proofs.Common.{◌≡◌, ℕ, ◌-◌, Bool, Option, Some, Result, Ok, Err, List, [], ◌∷◌, length, refl, ap, sym, ◌∙◌, subst, OnOk}
-use Rattle.std.specs.Prelude.{unwrap_or}
+use Rattle.std.proofs.Common.{◌≡◌, ℕ, ◌-◌, Bool, Option, Result, Ok, Err, List, [], ◌∷◌, ◌++◌, length, refl, ap, sym, ◌∙◌, subst, OnOk}
 use Rattle.std.proofs.lemmas.List.{length-map}
 use Rattle.h264_base.specs.declared.stop.Stop.{Stop}
 use Rattle.h264_base.specs.Call.{Call, span}
 use Rattle.h264_plane.specs.declared.frame.Frame.{Frame}
-use Rattle.h264_plane.specs.Frames.{no_frame}
 use Rattle.h264_marking.specs.Frames.{References}
 use Rattle.h264_dpb.specs.declared.entry.Entry.{Entry}
 use Rattle.h264_dpb.specs.declared.entry.Placed.{Placed}
 use Rattle.h264_dpb.specs.Bumping.{Step, is_held, marked, stored_reference, stored_other, flushed}
 use Rattle.h264_dpb.specs.Renamed.{renamed, all_renamed, renamed_step}
-use Rattle.h264_dpb.specs.Shown.{frame_call, frame_of}
-use Rattle.h264_dpb.specs.Writing.{calls_of, Writes}
+use Rattle.h264_dpb.specs.Shown.{frame_call}
+use Rattle.h264_dpb.specs.Writing.{LendsNone, calls_with, calls_of, Writes}
 use Rattle.h264_dpb.specs.Buffered.{Buffered, Steps, reference_step, other_step, missing_step, room_step}
 use Rattle.h264_dpb.proofs.Renaming.{marked-renamed, reference-renamed, other-renamed, room-renamed, flushed-renamed}
 use Rattle.h264_dpb.specs.Turns.{Shown, names, still}
 use Rattle.h264_dpb.specs.Kept.{Each, IsAtPlace, SameBuffer, shown_at, shown_calls}
-
--- the frame at a place is that of its picture
-frame-is : (frames : ℕ → Frame) (lent : ℕ → Option Frame) (n : Placed) → lent n.place ≡ Some (frames n.picture) → frame_of lent n ≡ frames n.picture
-frame-is frames lent n h = ap (λ o. unwrap_or o no_frame) h
 
 -- the calls of frames at their places are those of their pictures
 pub calls-are : (frames : ℕ → Frame) (lent : ℕ → Option Frame) (written : List (Entry Placed)) → Each (IsAtPlace frames lent) written →
     calls_of lent written ≡ shown_calls frames (all_renamed shown_at written)
 calls-are frames lent [] h = refl
 calls-are frames lent (e ∷ es) h =
-    ap (λ f. frame_call e.count f e.of.rectangle ∷ calls_of lent es) (frame-is frames lent e.of h.0.0)
+    ap (λ (o : Option Frame). calls_with o e ++ calls_of lent es) h.0.0
     ∙ ap (λ (l : List Call). frame_call e.count (frames e.of.picture) e.of.rectangle ∷ l) (calls-are frames lent es h.1)
+
+-- nothing is told of frames that are not lent
+pub calls-none : (lent : ℕ → Option Frame) (written : List (Entry Placed)) → LendsNone lent → calls_of lent written ≡ []
+calls-none lent [] n = refl
+calls-none lent (e ∷ es) n = ap (λ (o : Option Frame). calls_with o e ++ calls_of lent es) (n e.of.place) ∙ calls-none lent es n
+
+pub passed-over : {X S : Type 0} (took : S → List Call → Type 0) (failures : S → ℕ) (lent : ℕ → Option Frame) (step : Step Placed)
+    (new : List (Entry Placed)) (s s' : S) (result : Result X Stop) → LendsNone lent → Steps (span took failures s s') lent step new result →
+    Writes took failures [] s s' result
+passed-over {X} took failures lent step new s s' (Ok x) n h =
+    subst (λ (l : List Call). Writes {X = X} took failures l s s' (Ok x)) (calls-none lent step.written n) (record { writes = (h.steps.1, h.steps.2) })
+passed-over {X} took failures lent step new s s' (Err e) n h =
+    subst (λ (l : List Call). Writes {X = X} took failures l s s' (Err e)) (calls-none lent step.written n) (record { writes = h.steps })
 
 -- is it still held?
 abbrev pub held_by : References → Placed → Bool

@@ -1,7 +1,8 @@
 -- Steps that a sink is told, one after another.
 use Rattle.std.proofs.Common.{◌≡◌, ℕ, ◌+◌, ◌<◌, Bool, true, false, IsTrue, not, ◌||◌, ◌&&◌, List, [], ◌∷◌, ◌++◌, length, get_or, Result, Ok, Err, refl, ap}
 use Rattle.std.proofs.Common.{sym, ◌∙◌, subst, arith, ℤ, zero, suc, append_assoc, Option}
-use Rattle.std.proofs.lemmas.List.{append-nil, map-append}
+use Rattle.std.proofs.lemmas.List.{append-nil}
+use Rattle.std.proofs.lemmas.List.Concat.{flat_map-append}
 use Rattle.h264_base.specs.declared.stop.Stop.{Stop}
 use Rattle.h264_base.specs.Call.{Call, Tells, TellsFront, span}
 use Rattle.h264_plane.specs.declared.frame.Frame.{Frame}
@@ -9,7 +10,7 @@ use Rattle.h264_dpb.specs.Shown.{is_shown}
 use Rattle.h264_dpb.specs.declared.entry.Entry.{Entry}
 use Rattle.h264_dpb.specs.declared.entry.Placed.{Placed}
 use Rattle.h264_dpb.specs.Bumping.{Step, leaves, and_then, is_next}
-use Rattle.h264_dpb.specs.Writing.{call_of, calls_of, Writes}
+use Rattle.h264_dpb.specs.Writing.{calls_at, calls_of, Writes}
 use Rattle.h264_dpb.specs.Buffered.{AreReady, Steps, StepsBy}
 use Rattle.h264_dpb.proofs.Tellings.{front-after, front-before}
 use Rattle.h264_base.proofs.Steps.{tells-none, tells-both}
@@ -38,12 +39,12 @@ module _ {S : Type 0} (took : S → List Call → Type 0) (failures : S → ℕ)
   -- one frame was written
   pub steps-one : {X Y : Type 0} (step : Step Placed) (e : Entry Placed) (es new : List (Entry Placed)) (s s' : S) (x : X) (y : Y) →
       (let t : Step Placed = record { written = e ∷ []; entries = es } in step ≡ t) → new ≡ es →
-      Writes {X = X} took failures (call_of lent e ∷ []) s s' (Ok x) → Steps {X = Y} (span took failures s s') lent step new (Ok y)
+      Writes {X = X} took failures (calls_of lent (e ∷ [])) s s' (Ok x) → Steps {X = Y} (span took failures s s') lent step new (Ok y)
   steps-one {Y} step e es new s s' x y h n w =
       subst (λ t. Steps {X = Y} (span took failures s s') lent t new (Ok y)) (sym h) (record { steps = (n, w.writes.0, w.writes.1) })
 
   pub steps-failed : {X Y : Type 0} (step : Step Placed) (e : Entry Placed) (es new : List (Entry Placed)) (s s' : S) (stop : Stop) →
-      (let t : Step Placed = record { written = e ∷ []; entries = es } in step ≡ t) → Writes {X = X} took failures (call_of lent e ∷ []) s s' (Err stop) →
+      (let t : Step Placed = record { written = e ∷ []; entries = es } in step ≡ t) → Writes {X = X} took failures (calls_of lent (e ∷ [])) s s' (Err stop) →
       Steps {X = Y} (span took failures s s') lent step new (Err stop)
   steps-failed {Y} step e es new s s' stop h w =
       subst (λ t. Steps {X = Y} (span took failures s s') lent t new (Err stop)) (sym h) (record { steps = (w.writes.0, w.writes.1, w.writes.2) })
@@ -67,7 +68,7 @@ module _ {S : Type 0} (took : S → List Call → Type 0) (failures : S → ℕ)
         (e ∙ ap (λ (l : List (Entry Placed)). (let u : Step Placed = record { written = step.written ++ (next l).written; entries = (next l).entries } in u))
         (sym t.steps.0)) ∙ ap (λ (l : List (Entry Placed)). (let u : Step Placed = record { written = l; entries = (next new).entries } in u))
         (sym (append_assoc f.written step.written (next new).written));
-    tells = subst (λ (l : List Call). Tells took s s2 l) (sym (map-append (call_of lent) f.written step.written)) (tells-both f.tells t.steps.1);
+    tells = subst (λ (l : List Call). Tells took s s2 l) (sym (flat_map-append (calls_at lent) f.written step.written)) (tells-both f.tells t.steps.1);
     kept = t.steps.2 ∙ f.kept;
   }
 
@@ -87,7 +88,7 @@ module _ {S : Type 0} (took : S → List Call → Type 0) (failures : S → ℕ)
       subst (λ (u : Step Placed). Steps {X = X} (span took failures s s2) lent u new r) (sym f.whole_is) (record { steps = by r t.steps })
     where
       calls-are : calls_of lent (f.written ++ rest.written) ≡ calls_of lent f.written ++ calls_of lent rest.written
-      calls-are = map-append (call_of lent) f.written rest.written
+      calls-are = flat_map-append (calls_at lent) f.written rest.written
 
       by : (r : Result X Stop) → StepsBy {X = X} (span took failures s1 s2) lent rest new r →
           (let u : Step Placed = record { written = f.written ++ rest.written; entries = rest.entries } in
@@ -105,14 +106,14 @@ module _ {S : Type 0} (took : S → List Call → Type 0) (failures : S → ℕ)
         steps = (
           t.steps.0,
           front-before (calls_of lent (next step.entries).written)
-              (map-append (call_of lent) step.written (next step.entries).written) t.steps.1,
+              (flat_map-append (calls_at lent) step.written (next step.entries).written) t.steps.1,
           t.steps.2,
         );
       })
 
   -- the last thing is a frame that is written
   pub steps-write : {X : Type 0} (step : Step Placed) (e : Entry Placed) (es : List (Entry Placed)) (s s' : S) (r : Result X Stop) →
-      (let t : Step Placed = record { written = e ∷ []; entries = es } in step ≡ t) → Writes {X = X} took failures (call_of lent e ∷ []) s s' r →
+      (let t : Step Placed = record { written = e ∷ []; entries = es } in step ≡ t) → Writes {X = X} took failures (calls_of lent (e ∷ [])) s s' r →
       Steps {X = X} (span took failures s s') lent step es r
   steps-write step e es s s' (Ok x) h w = steps-one step e es es s s' x x h refl w
   steps-write step e es s s' (Err stop) h w = steps-failed step e es es s s' stop h w

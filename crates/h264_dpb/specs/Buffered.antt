@@ -45,7 +45,7 @@ abbrev pub AreUsed : {N : Type 0} → List (Entry N) → Type 0
 AreUsed [] = Unit {0}
 AreUsed (e ∷ es) = (is_in_use e ≡ true) × AreUsed es
 
--- a frame that waits is at its place, and its rectangle lies in it
+-- the rectangle of a frame that waits lies in it, where it is lent
 abbrev pub is_ready : (ℕ → Option Frame) → Entry Placed → Bool
 is_ready lent e = not e.waiting || is_shown lent e.of
 
@@ -95,7 +95,7 @@ places_taken b = length b.entries + b.missing
 abbrev pub StaysWithin : {N : Type 0} → Buffered N → Type 0
 StaysWithin b = length b.entries + b.missing ≤ b.size
 
--- A picture that may wait has its frame; a frame that does not exist has none.
+-- The rectangle of a picture that may wait lies in its frame, where that is lent; a frame that does not exist has none.
 abbrev pub IsShownBy : Kind → (ℕ → Option Frame) → Picture → Type 0
 IsShownBy kinds.Reference lent p = IsTrue (is_shown lent p.of)
 IsShownBy kinds.Other lent p = IsTrue (is_shown lent p.of)

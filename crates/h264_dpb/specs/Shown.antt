@@ -1,7 +1,6 @@
 -- The frames that are lent by place, and what is shown of them: the cropping rectangle (7.4.2.1.1). A working form.
-use Rattle.std.specs.Prelude.{ℕ, ◌+◌, ◌-◌, ◌*◌, ◌/◌, ◌==◌, ◌&&◌, nat_le, Bool, false, ℤ, Option, Some, None, unwrap_or}
+use Rattle.std.specs.Prelude.{ℕ, ◌+◌, ◌-◌, ◌*◌, ◌/◌, ◌==◌, ◌&&◌, nat_le, Bool, true, ℤ, Option, Some, None}
 use Rattle.h264_base.specs.Call.{Call, OfFrame}
-use Rattle.h264_plane.specs.Frames.{no_frame}
 use Rattle.h264_plane.specs.Rows.{picture_bytes, samples_of}
 use Rattle.h264_plane.specs.declared.frame.Frame.{Frame}
 use Rattle.h264_plane.specs.declared.frame.Component.{Component}
@@ -41,12 +40,9 @@ frame_call count f r = OfFrame count (width_in r f) (height_in r f) (picture_byt
 -- ---- frames by place
 
 abbrev pub fits_in : Rectangle → Option Frame → Bool
-fits_in r None = false
+fits_in r None = true
 fits_in r (Some f) = fits r f
 
--- there is a frame at the place of a picture, and its rectangle lies in it
+-- the rectangle of a picture lies in the frame at its place, if one is lent there
 abbrev pub is_shown : (ℕ → Option Frame) → Placed → Bool
 is_shown lent n = fits_in n.rectangle (lent n.place)
-
-abbrev pub frame_of : (ℕ → Option Frame) → Placed → Frame
-frame_of lent n = unwrap_or (lent n.place) no_frame

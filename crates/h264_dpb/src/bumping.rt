@@ -6,7 +6,7 @@ ghost use Rattle.arrayvec.specs.ArrayVec.{array_vec_len};
 ghost use Rattle.h264_dpb.specs.Shown.{is_shown};
 ghost use Rattle.h264_dpb.specs.Bumping.{least_with, least_count, is_next, is_below, left_at, bumped, made_room, stored_other, stored_reference};
 ghost use Rattle.h264_dpb.specs.Bumping.{is_picture, is_held, missing_in, marked_by, is_in_use, marked, flushed};
-ghost use Rattle.h264_dpb.specs.Writing.{Writes, call_of};
+ghost use Rattle.h264_dpb.specs.Writing.{Writes, calls_of};
 ghost use Rattle.h264_dpb.specs.Buffered.{AreReady, AreUsed, Steps, is_ready, references, entry_of, still, room_step, stored_by, missing_by};
 ghost use Rattle.h264_dpb.specs.Buffered.{HasRoomBy, IsShownBy};
 ghost use Rattle.h264_dpb.specs.Steady.{is_marked};
@@ -71,6 +71,7 @@ fn is_below(count: i32, least: Option<i32>) -> bool
     }
 }
 
+/// Writes a frame, if the store lends it.
 fn write<F: FrameStore, S: FrameOut>(
     entry: &Entry<Placed>,
     frames: &F,
@@ -78,13 +79,12 @@ fn write<F: FrameStore, S: FrameOut>(
 ) -> Result<(), Stop>
     requires room { HasRoom S.failures sink.old }
     requires place { IsTrue (is_shown (F.lent frames.now) entry.now.of) }
-    ensures { Writes S.took S.failures (call_of (F.lent frames.now) entry.now ∷ []) sink.old sink.new result }
+    ensures { Writes S.took S.failures (calls_of (F.lent frames.now) (entry.now ∷ [])) sink.old sink.new result }
 {
-    match sink.frame(
-        entry.count,
-        frames.frame(entry.of.place),
-        entry.of.rectangle,
-    ) {
+    let Some(frame) = frames.frame(entry.of.place) else {
+        return Ok(());
+    };
+    match sink.frame(entry.count, frame, entry.of.rectangle) {
         Ok(()) => Ok(()),
         Err(Failed) => Err(Stop::Write),
     }

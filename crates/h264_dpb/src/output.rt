@@ -105,7 +105,7 @@ impl Output {
     ghost use Rattle.h264_dpb.specs.Bumping.{flushed, is_held, missing_in};
     ghost use Rattle.h264_dpb.specs.Buffered.{Buffered, AreReady, Steps, HasRoomBy, IsShownBy, StaysWithin, places_taken, stored_by, missing_by};
     ghost use Rattle.h264_dpb.specs.Shown.{is_shown};
-    ghost use Rattle.h264_dpb.specs.Writing.{Writes};
+    ghost use Rattle.h264_dpb.specs.Writing.{Writes, LendsNone};
     ghost use Rattle.h264_dpb.specs.Turns.{Shown, no_buffer, names, empties, flush_turn, way_turn, store_turn, missing_turn, last_turn, stays};
     ghost use Rattle.h264_dpb.specs.Kept.{KeepsBuffer, HasFrames, IsOrdered, IsReady, IsEmpty, IsAtPlace, is_occupied, place_of, size_of, placed_at};
     ghost use Rattle.h264_dpb.specs.Kept.{shown_calls, waiting_in};
@@ -173,6 +173,7 @@ impl Output {
         ensures writes { (frames : ℕ → Frame) (b : Buffered Shown) (written : ℕ) → KeepsBuffer b written self.old →
             HasFrames frames (F.lent store.now) self.old → Writes S.took S.failures
             (shown_calls frames (flush_turn write size b).written) sink.old sink.new result }
+        ensures passes { LendsNone (F.lent store.now) → Writes S.took S.failures [] sink.old sink.new result }
         ensures keeps { (b : Buffered Shown) (written : ℕ) → KeepsBuffer b written self.old →
             OnOk result (KeepsBuffer (flush_turn write size b).buffer (written + length (flush_turn write size b).written) self.new) }
         ensures emptied { OnOk result (self.new.buffer ≡ record { entries = []; missing = 0; size = size }) }
@@ -233,6 +234,7 @@ impl Output {
         ensures writes { (frames : ℕ → Frame) (b : Buffered Shown) (written : ℕ) → KeepsBuffer b written self.old →
             HasFrames frames (F.lent store.now) self.old → Writes S.took S.failures
             (shown_calls frames (way_turn picture.now b).written) sink.old sink.new result }
+        ensures passes { LendsNone (F.lent store.now) → Writes S.took S.failures [] sink.old sink.new result }
         ensures keeps { (b : Buffered Shown) (written : ℕ) → KeepsBuffer b written self.old →
             OnOk result (KeepsBuffer (way_turn picture.now b).buffer (written + length (way_turn picture.now b).written) self.new) }
         ensures ordered { OnOk result (IsOrdered picture.now.picture self.new) }
@@ -268,6 +270,7 @@ impl Output {
         ensures writes { (frames : ℕ → Frame) (b : Buffered Shown) (written : ℕ) → KeepsBuffer b written self.old →
             HasFrames frames (F.lent store.now) self.old → IsAtPlace frames (F.lent store.now) (placed_at picture.now place) →
             Writes S.took S.failures (shown_calls frames (store_turn picture.now held.now b).written) sink.old sink.new result }
+        ensures passes { LendsNone (F.lent store.now) → Writes S.took S.failures [] sink.old sink.new result }
         ensures keeps { (b : Buffered Shown) (written : ℕ) → KeepsBuffer b written self.old →
             OnOk result (KeepsBuffer (store_turn picture.now held.now b).buffer (written + length (store_turn picture.now held.now b).written) self.new) }
         ensures frames { (frames : ℕ → Frame) → HasFrames frames (F.lent store.now) self.old →
@@ -298,6 +301,7 @@ impl Output {
         ensures writes { (frames : ℕ → Frame) (b : Buffered Shown) (written : ℕ) → KeepsBuffer b written self.old →
             HasFrames frames (F.lent store.now) self.old → Writes S.took S.failures
             (shown_calls frames (missing_turn held.now b).written) sink.old sink.new result }
+        ensures passes { LendsNone (F.lent store.now) → Writes S.took S.failures [] sink.old sink.new result }
         ensures keeps { (b : Buffered Shown) (written : ℕ) → KeepsBuffer b written self.old →
             OnOk result (KeepsBuffer (missing_turn held.now b).buffer (written + length (missing_turn held.now b).written) self.new) }
         ensures frames { (frames : ℕ → Frame) → HasFrames frames (F.lent store.now) self.old → OnOk result (HasFrames frames (F.lent store.now) self.new) }
@@ -330,6 +334,7 @@ impl Output {
         requires ready { IsReady (F.lent store.now) self.old }
         ensures writes { (frames : ℕ → Frame) (b : Buffered Shown) (written : ℕ) → KeepsBuffer b written self.old →
             HasFrames frames (F.lent store.now) self.old → Writes S.took S.failures (shown_calls frames (last_turn b).written) sink.old sink.new result }
+        ensures passes { LendsNone (F.lent store.now) → Writes S.took S.failures [] sink.old sink.new result }
         ensures keeps { (b : Buffered Shown) (written : ℕ) → KeepsBuffer b written self.old →
             OnOk result (KeepsBuffer (last_turn b).buffer (written + length (last_turn b).written) self.new) }
     {

@@ -1,4 +1,5 @@
 pub mod Lines
+pub mod Names
 pub mod Objects
 pub mod Sent
 pub mod Rows

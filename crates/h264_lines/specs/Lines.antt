@@ -43,12 +43,17 @@ frame_text index count width height bytes =
 abbrev pub element_text : ElementName → ℕ → ℤ → List ℕ
 element_text name bit value = codes "element " ++ (names.text_of name ++ (codes " bit " ++ (decimal bit ++ (codes " value " ++ signed_decimal value))))
 
+-- yes: units U pictures P frames F
+abbrev pub whole_text : Summary → List ℕ
+whole_text summary =
+    codes "yes: units " ++ (decimal summary.units ++ (codes " pictures " ++ (decimal summary.pictures ++ (codes " frames " ++ decimal summary.frames))))
+
 -- yes: units U, the pictures where slices were read, and the frames where slice data were
 abbrev pub yes_text : Mode → Summary → List ℕ
 yes_text modes.Units summary = codes "yes: units " ++ decimal summary.units
 yes_text modes.Headers summary = codes "yes: units " ++ (decimal summary.units ++ (codes " pictures " ++ decimal summary.pictures))
-yes_text modes.Full summary =
-    codes "yes: units " ++ (decimal summary.units ++ (codes " pictures " ++ (decimal summary.pictures ++ (codes " frames " ++ decimal summary.frames))))
+yes_text modes.Verdict summary = whole_text summary
+yes_text modes.Full summary = whole_text summary
 
 -- no: bit N: LABEL (clause C)
 abbrev pub no_text : ℕ → Rule → List ℕ

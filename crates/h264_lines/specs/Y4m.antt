@@ -5,13 +5,19 @@ use Rattle.std.specs.List.{All}
 use Rattle.h264_base.specs.Call.{Call, OfFrame}
 use Rattle.h264_lines.specs.Sent.{IsBlamed, LentWriter}
 use Rattle.h264_lines.specs.Told.{ended, HoldsCalls}
+use Rattle.h264_lines.specs.declared.head.Aspect.{Aspect}
 use Rattle.h264_lines.specs.declared.head.Head.{Head}
 
--- YUV4MPEG2 WWIDTH HHEIGHT FFRAMES:SECONDS Ip C420
+-- the shape of a sample, where it is known: a blank and AWIDTH:HEIGHT
+abbrev pub aspect_text : Option Aspect → List ℕ
+aspect_text None = []
+aspect_text (Some aspect) = codes " A" ++ (decimal aspect.width ++ (codes ":" ++ decimal aspect.height))
+
+-- YUV4MPEG2 WWIDTH HHEIGHT FFRAMES:SECONDS Ip [AWIDTH:HEIGHT] C420
 abbrev pub head_text : Head → List ℕ
 head_text head =
     codes "YUV4MPEG2 W" ++ (decimal head.width ++ (codes " H" ++ (decimal head.height ++ (codes " F" ++ (decimal head.frames
-    ++ (codes ":" ++ (decimal head.seconds ++ codes " Ip C420")))))))
+    ++ (codes ":" ++ (decimal head.seconds ++ (codes " Ip" ++ (aspect_text head.aspect ++ codes " C420")))))))))
 
 -- a frame with its line
 abbrev pub framed : List ℕ → List ℕ

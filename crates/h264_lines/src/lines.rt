@@ -154,7 +154,7 @@ fn yes_line(alloc: Global, mode: Mode, summary: Summary) -> Result<String, Alloc
     match mode {
         Mode::Units => format!(in alloc; "yes: units {units}"),
         Mode::Headers => format!(in alloc; "yes: units {units} pictures {pictures}"),
-        Mode::Full => {
+        Mode::Verdict | Mode::Full => {
             format!(in alloc; "yes: units {units} pictures {pictures} frames {frames}")
         }
     }

@@ -6,11 +6,11 @@ ghost use Rattle.h264_dpb.specs.Shown.{fits, width_in, height_in};
 ghost use Rattle.h264_lines.specs.Frames.{shown_bytes};
 ghost use Rattle.h264_lines.specs.Sent.{Sends, SendsFront, SendsOrBreaksOff, IsBlamed};
 ghost use Rattle.h264_lines.specs.Told.{ended};
-ghost use Rattle.h264_lines.specs.Y4m.{head_text, framed};
+ghost use Rattle.h264_lines.specs.Y4m.{aspect_text, head_text, framed};
 
 use crate::device::Device;
 use crate::frames::send_frame;
-use crate::head::Head;
+use crate::head::{Aspect, Head};
 use crate::rows::{height, width};
 use crate::send::send;
 use crate::sheet::{Pen, Sheet};
@@ -24,14 +24,46 @@ use std::marker::PhantomData;
 /// Frames a second of a stream without timing.
 const USUAL_RATE: u64 = 25;
 
-/// The timing of the last sequence parameter set; zeros where it gives none.
+/// What the last sequence parameter set says of how its pictures are shown; zeros where it says nothing.
 #[derive(Clone, Copy, Default)]
-struct Timing {
+struct Showing {
     num_units_in_tick: u64,
     time_scale: u64,
+    aspect_ratio_idc: u64,
+    sar_width: u64,
+    sar_height: u64,
 }
 
-/// Writes YUV4MPEG2: a header with size and rate before the first frame; for each frame the line FRAME, and the samples as `YuvSink` writes them.
+impl Showing {
+    /// Notes an element.
+    fn note(&mut self, name: ElementName, value: u64) {
+        match name {
+            ElementName::ProfileIdc => *self = Showing::default(),
+            ElementName::NumUnitsInTick => self.num_units_in_tick = value,
+            ElementName::TimeScale => self.time_scale = value,
+            ElementName::AspectRatioIdc => self.aspect_ratio_idc = value,
+            ElementName::SarWidth => self.sar_width = value,
+            ElementName::SarHeight => self.sar_height = value,
+            _ => {}
+        }
+    }
+
+    /// So many frames in so many seconds.
+    fn rate(self) -> (u64, u64) {
+        if self.num_units_in_tick == 0 || self.time_scale == 0 {
+            return (USUAL_RATE, 1);
+        }
+        (self.time_scale, self.num_units_in_tick.saturating_mul(2))
+    }
+
+    /// The shape of a sample, where it is given.
+    fn aspect(self) -> Option<Aspect> {
+        Aspect::of(self.aspect_ratio_idc, self.sar_width, self.sar_height)
+    }
+}
+
+/// Writes YUV4MPEG2: a header with size, rate and shape of a sample before the first frame; for each frame the line FRAME, and the samples as `YuvSink`
+/// writes them.
 ///
 /// A writer that tells its bytes holds, after what it held, the header and the frames taken, in order. Where the device fails within a frame or the
 /// header before it, the frame is taken, and the writer holds a part of them, which is not the whole. A frame of another size than the first one fails,
@@ -42,7 +74,7 @@ pub struct Y4mSink<'a, W: Device, K: Sheet> {
     pen: Pen<'a, W>,
     sheet: PhantomData<K>,
     line: String,
-    timing: Timing,
+    showing: Showing,
     /// The header, once the first frame was taken.
     head: Option<Head>,
     /// The header that a frame of another size would have.
@@ -51,6 +83,16 @@ pub struct Y4mSink<'a, W: Device, K: Sheet> {
     pub failures: u64,
     /// Whether the device failed within the newest frame or the header before it.
     broke_off: bool,
+}
+
+/// Adds the shape of a sample to a header, where it is known. AllocError where there is no memory for it; a part of it may have been added.
+fn put_aspect(line: &mut String, aspect: Option<Aspect>) -> Result<(), AllocError>
+    ensures { OnOk result (string_bytes line.new ≡ string_bytes line.old ++ aspect_text aspect) }
+{
+    if let Some(Aspect { width, height }) = aspect {
+        write!(line, " A{width}:{height}")?;
+    }
+    Ok(())
 }
 
 /// Makes a line that of a header. AllocError where there is no memory for it; the line is then a part of it.
@@ -62,11 +104,9 @@ fn head_line(line: &mut String, head: Head) -> Result<(), AllocError>
     let frames = head.frames;
     let seconds = head.seconds;
     line.clear();
-    write!(
-        line,
-        "YUV4MPEG2 W{width} H{height} F{frames}:{seconds} Ip C420"
-    )?;
-    Ok(())
+    write!(line, "YUV4MPEG2 W{width} H{height} F{frames}:{seconds} Ip")?;
+    put_aspect(line, head.aspect)?;
+    line.push_str(" C420")
 }
 
 /// Writes the line FRAME and what is shown of a frame.
@@ -134,7 +174,7 @@ impl<'a, W: Device, K: Sheet> Y4mSink<'a, W, K> {
             pen,
             sheet: PhantomData,
             line: String::new(alloc),
-            timing: Timing::default(),
+            showing: Showing::default(),
             head: None,
             other: None,
             failures: 0,
@@ -183,27 +223,19 @@ impl<'a, W: Device, K: Sheet> Y4mSink<'a, W, K> {
         Err(Failed)
     }
 
-    /// The header of a frame, with the rate of the last timing.
+    /// The header of a frame, with the rate and the shape of a sample that are known now.
     fn head_for(&self, frame: &Frame, rectangle: Rectangle) -> Head
         requires { IsTrue (fits rectangle frame.now) }
         ensures width { result.width ≡ width_in rectangle frame.now }
         ensures height { result.height ≡ height_in rectangle frame.now }
     {
-        let timing = self.timing;
-        let is_given = timing.num_units_in_tick != 0 && timing.time_scale != 0;
+        let (frames, seconds) = self.showing.rate();
         Head {
             width: width(frame, rectangle),
             height: height(frame, rectangle),
-            frames: if is_given {
-                timing.time_scale
-            } else {
-                USUAL_RATE
-            },
-            seconds: if is_given {
-                timing.num_units_in_tick.saturating_mul(2)
-            } else {
-                1
-            },
+            frames,
+            seconds,
+            aspect: self.showing.aspect(),
         }
     }
 
@@ -252,12 +284,7 @@ impl<'a, W: Device, K: Sheet> Elements for Y4mSink<'a, W, K> {
             return self.fail();
         }
         let value = u64::try_from(value).unwrap_or(0);
-        match name {
-            ElementName::ProfileIdc => self.timing = Timing::default(),
-            ElementName::NumUnitsInTick => self.timing.num_units_in_tick = value,
-            ElementName::TimeScale => self.timing.time_scale = value,
-            _ => {}
-        }
+        self.showing.note(name, value);
         Ok(())
     }
 }

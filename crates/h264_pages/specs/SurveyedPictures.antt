@@ -1,5 +1,5 @@
 -- What a survey tells of pictures and macroblocks. To be read beside the standard (7.3.3, 7.3.4, tables 7-11 and 7-13).
-use Rattle.std.specs.Prelude.{ℕ, ℤ, ◌-◌, ◌+◌, ◌==◌, ◌||◌, nat_lt, if◌then◌else◌, not, Bool, true, false}
+use Rattle.std.specs.Prelude.{ℕ, ℤ, ◌-◌, ◌==◌, ◌||◌, nat_lt, if◌then◌else◌, not, Bool, true, false}
 use Rattle.std.specs.Prelude.{Option, None, Some, option_map, unwrap_or, List, [], ◌∷◌, ◌++◌, set, length, slice_get}
 use Rattle.h264_base.specs.declared.element_name.ElementName.{ElementName}
 use Rattle.h264_base.specs.declared.element_name.ElementName.TheVariants as names

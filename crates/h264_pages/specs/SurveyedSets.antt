@@ -1,10 +1,11 @@
 -- What a survey tells of parameter sets. To be read beside the standard (7.3.2.1, 7.3.2.2, E.1.1).
-use Rattle.std.specs.Prelude.{ℕ, ℤ, pos, ◌==◌, if◌then◌else◌, not, Bool, false, Option, None, Some, List, [], ◌∷◌, ◌++◌, position, find, set, unwrap_or}
+use Rattle.std.specs.Prelude.{ℕ, ℤ, pos, ◌==◌, if◌then◌else◌, not, Bool, false, Option, None, Some, option_and_then, unwrap_or}
+use Rattle.std.specs.Prelude.{List, [], ◌∷◌, ◌++◌, position, find, set}
 use Rattle.h264_base.specs.declared.element_name.ElementName.{ElementName}
 use Rattle.h264_base.specs.declared.element_name.ElementName.TheVariants as names
 use Rattle.h264_bits.specs.Forms.{natural}
 use Rattle.h264_bits.specs.Counts.{grown}
-use Rattle.h264_pages.specs.declared.survey.sequence.Cropping.{Cropping}
+use Rattle.h264_pages.specs.declared.survey.sequence.AspectRatio.{AspectRatio}
 use Rattle.h264_pages.specs.declared.survey.sequence.PictureSet.{PictureSet}
 use Rattle.h264_pages.specs.declared.survey.sequence.Sequence.{Sequence}
 use Rattle.h264_pages.specs.declared.survey.sequence.Timing.{Timing}
@@ -19,7 +20,18 @@ is_set v = not (v == 0)
 abbrev pub timing_of : Sequence → Timing
 timing_of s = unwrap_or s.timing (record { num_units_in_tick = 0; time_scale = 0; fixed_frame_rate = false })
 
+-- the sample aspect ratio, with zeros where none is given yet
+abbrev pub ratio_of : Sequence → AspectRatio
+ratio_of s = unwrap_or s.aspect_ratio (record { aspect_ratio_idc = 0; sar_width = 0; sar_height = 0 })
+
 -- ---- a sequence parameter set after an element, whose value is v
+
+-- of the sample aspect ratio (E.1.1)
+unfoldable pub with_ratio : ElementName → ℕ → Sequence → Sequence
+with_ratio names.AspectRatioIdc v s = record s { aspect_ratio = Some (record (ratio_of s) { aspect_ratio_idc = v }) }
+with_ratio names.SarWidth v s = record s { aspect_ratio = Some (record (ratio_of s) { sar_width = v }) }
+with_ratio names.SarHeight v s = record s { aspect_ratio = Some (record (ratio_of s) { sar_height = v }) }
+with_ratio name v s = s
 
 -- of the video usability information (E.1.1)
 unfoldable pub with_usability : ElementName → ℕ → Sequence → Sequence
@@ -28,7 +40,7 @@ with_usability names.TimeScale v s = record s { timing = Some (record (timing_of
 with_usability names.FixedFrameRateFlag v s = record s { timing = Some (record (timing_of s) { fixed_frame_rate = is_set v }) }
 with_usability names.MaxNumReorderFrames v s = record s { max_num_reorder_frames = Some v }
 with_usability names.MaxDecFrameBuffering v s = record s { max_dec_frame_buffering = Some v }
-with_usability name v s = s
+with_usability name v s = with_ratio name v s
 
 -- of its size and cropping
 unfoldable pub with_size : ElementName → ℕ → Sequence → Sequence
@@ -81,6 +93,7 @@ no_sequence = record {
   width = 0;
   height = 0;
   cropping = record { left = 0; right = 0; top = 0; bottom = 0 };
+  aspect_ratio = None;
   timing = None;
   max_num_reorder_frames = None;
   max_dec_frame_buffering = None;
@@ -131,3 +144,8 @@ find_sequence id sets = find (has_sequence_id id) sets
 
 abbrev pub find_picture_set : ℕ → List PictureSet → Option PictureSet
 find_picture_set id sets = find (has_picture_id id) sets
+
+-- the sequence parameter set that a picture parameter set of this id names
+abbrev pub find_sequence_of : ℕ → List PictureSet → List Sequence → Option Sequence
+find_sequence_of id picture_sets sequences =
+    option_and_then (λ (s : PictureSet). find_sequence s.seq_parameter_set_id sequences) (find_picture_set id picture_sets)

@@ -23,7 +23,7 @@ pub use narrowed::Narrowed;
 pub use notes::Survey;
 pub use picture::{Picture, PictureKind};
 pub use pictures::Pictures;
-pub use sequence::{Cropping, PictureSet, Sequence, Timing};
+pub use sequence::{AspectRatio, Cropping, PictureSet, Sequence, Timing};
 pub use sets::{ParameterSet, Sets};
 pub use slice::{Slice, Unit};
 pub use surveyed::Surveyed;

@@ -1,6 +1,7 @@
 pub mod Steps
 pub mod Limits
 pub mod Sound
+pub mod Canvases
 pub mod Lent
 pub mod Turns
 pub mod Room

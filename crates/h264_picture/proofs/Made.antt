@@ -1,6 +1,6 @@
 -- The samples of a picture in the making.
-use Rattle.std.proofs.Common.{◌≡◌, ℕ, ◌+◌, ◌*◌, ◌/◌, ◌<◌, Bool, true, false, IsTrue, IsOk, IfOk, Result, Ok, Err, List, [], length, get_or, Option, Some}
-use Rattle.std.proofs.Common.{None, refl, sym, ap, ◌∙◌, subst, ℤ}
+use Rattle.std.proofs.Common.{◌≡◌, ℕ, ◌+◌, ◌*◌, ◌<◌, Bool, true, false, IsTrue, IsOk, IfOk, Result, Ok, Err, List, [], length, get_or, Option, Some}
+use Rattle.std.proofs.Common.{None, is_some, refl, sym, ap, ◌∙◌, subst, ℤ}
 use Rattle.std.proofs.lemmas.Bool.{false≢true}
 use Rattle.std.proofs.Math.Nat.{mul_comm}
 use Rattle.h264_plane.specs.Frames.{frame_at, IsFrame}
@@ -18,12 +18,13 @@ use Rattle.h264_recon.specs.Pool.{IsShown, AreShown}
 use Rattle.h264_recon.specs.Predicted.{Prediction, Intra, Inter, Pcm}
 use Rattle.h264_recon.proofs.Possible.{given-allowed}
 use Rattle.h264_deblock.specs.Filtering.{IsOf}
+use Rattle.h264_picture.specs.declared.canvas.Canvas.{Canvas}
 use Rattle.h264_picture.specs.declared.sequence.Sequence.{Sequence}
 use Rattle.h264_picture.specs.declared.slice.Slice.{Slice}
 use Rattle.h264_picture.specs.Decoded.{Parameters, given_by}
 use Rattle.h264_picture.specs.Holds.{ServesIn, HoldsIn}
-use Rattle.h264_picture.specs.Making.{Making, MakesSlice, HasSamples, HoldsMade, IsMadeOf, setting_of}
-use Rattle.h264_picture.specs.Sound.{IsPlace, ArePlaces}
+use Rattle.h264_picture.specs.Making.{Making, MakesSlice, HasSamplesIn, HoldsMade, IsMadeOf, pool_of, setting_by, setting_of}
+use Rattle.h264_picture.specs.Sound.{IsPlace, ArePlaces, IsCanvas, HasCanvas}
 use Rattle.h264_picture.proofs.Held.{held-none, held-whole}
 use Rattle.h264_picture.proofs.Room.{own-frame, pool-frame, half}
 
@@ -45,26 +46,30 @@ pub if-ok : {A E P : Type 0} (r : Result A E) → IsOk r → IfOk r (λ u. P) �
 if-ok (Ok v) e p = p
 if-ok (Err x) e p = absurd (false≢true e)
 
-pub own-size : (s : Sequence) → IsOf s.across s.down s.frames.frame
-own-size s = frame-of s.across s.down s.frames.frame (own-frame (16 * s.across) (16 * s.down) s.frames s.sound.frames s.frames.within.0)
+module _ (across down places : ℕ) (c : Canvas) (d : IsCanvas across down places c) where
+  pub own-size : IsOf across down c.frames.frame
+  own-size = frame-of across down c.frames.frame (own-frame (16 * across) (16 * down) c.frames d.frames c.frames.within.0)
 
--- the frames of the pool are the reference pictures
-shown : (s : Sequence) (n : ℕ) → IsPlace s.frames n → IsShown (setting_of s) s.frames.pool n
-shown s n h = record {
-  size = frame-of s.across s.down (frame_at s.frames.pool n) (pool-frame (16 * s.across) (16 * s.down) s.frames n s.sound.frames h);
-  samples = λ p x y i j. refl;
-}
+  -- the frames of the pool are the reference pictures
+  shown : (n : ℕ) → IsPlace c.frames n → IsShown (setting_by across down c.frames.pool) c.frames.pool n
+  shown n h = record {
+    size = frame-of across down (frame_at c.frames.pool n) (pool-frame (16 * across) (16 * down) c.frames n d.frames h);
+    samples = λ p x y i j. refl;
+  }
 
-pub are-shown : (s : Sequence) (ps : List ℕ) → ArePlaces s.frames ps → (m : Prediction) → PointsInto ps m → AreShown (setting_of s) s.frames.pool m
-are-shown s ps places (Intra modes) h = tt
-are-shown s ps places (Inter motion) h = λ n i. let p = h n i in
-    subst (IsShown (setting_of s) s.frames.pool) (sym p.2) (shown s (get_or ps p.0 0) (places.each p.0 p.1))
-are-shown s ps places (Pcm bytes) h = tt
+  pub are-shown : (ps : List ℕ) → ArePlaces c.frames ps → (m : Prediction) → PointsInto ps m → AreShown (setting_by across down c.frames.pool) c.frames.pool m
+  are-shown ps stand (Intra modes) h = tt
+  are-shown ps stand (Inter motion) h = λ n i. let p = h n i in
+      subst (IsShown (setting_by across down c.frames.pool) c.frames.pool) (sym p.2) (shown (get_or ps p.0 0) (stand.each p.0 p.1))
+  are-shown ps stand (Pcm bytes) h = tt
 
 -- nothing is decoded
-pub nothing-made : (making : Option Making) (s : Sequence) → HasSamples making [] s
-nothing-made None s = tt
-nothing-made (Some making) s = held-none (setting_of s) making.place making.slices s.picture.lines s.frames.frame s.sound.wide.0 s.sound.lines (own-size s)
+pub nothing-made : (across down places : ℕ) (making : Making) (o : Option Canvas) → 0 < across → HasCanvas across down places o → is_some o ≡ true →
+    HasSamplesIn (setting_by across down (pool_of o)) making [] o
+nothing-made across down places making None some h e = absurd (cc)
+nothing-made across down places making (Some c) some h e =
+    let d = h c refl in
+    held-none (setting_by across down c.frames.pool) making.place making.slices c.lines c.frames.frame some d.lines (own-size across down places c d)
 
 pub begun-holds : (width size : ℕ) (old new : Sequence) → ServesIn width size old → Keeps (width_of old.picture.near) [] new.picture.near →
     new.across ≡ old.across → new.size ≡ old.size → new.picture.next ≡ 0 → HoldsIn width size [] new
@@ -101,7 +106,13 @@ possible width slice picture place weights offset m c r g n i e h is =
 
 -- a whole picture is decoded
 pub whole-made : (width size : ℕ) (making : Making) (picture : List CodedMacroblock) (s : Sequence) (f : Option Frame) →
-    HoldsMade width size (Some making) picture s → length picture ≡ size → f ≡ Some s.frames.frame → IsMadeOf (setting_of s) making picture f
-whole-made width size making picture s f h n e =
-    let count : length picture ≡ s.down * s.across = n ∙ sym h.holds.macroblocks ∙ s.sound.size ∙ mul_comm s.across s.down in
-    rw e (held-whole (setting_of s) making.place making.slices s.picture.lines s.frames.frame picture s.sound.wide.0 count h.samples)
+    HoldsMade width size (Some making) picture s → length picture ≡ size → ((c : Canvas) → s.canvas ≡ Some c → f ≡ Some c.frames.frame) →
+    IsMadeOf (setting_of s) making picture f
+whole-made width size making picture s f h n e = by s.canvas refl h.samples
+  where
+    count : length picture ≡ s.down * s.across
+    count = n ∙ sym h.holds.macroblocks ∙ s.sound.size ∙ mul_comm s.across s.down
+
+    by : (o : Option Canvas) → s.canvas ≡ o → HasSamplesIn (setting_of s) making picture o → IsMadeOf (setting_of s) making picture f
+    by None is held = absurd held
+    by (Some c) is held = rw (e c is) (held-whole (setting_of s) making.place making.slices c.lines c.frames.frame picture s.sound.wide.0 count held)

@@ -15,10 +15,11 @@ use Rattle.h264_recon.specs.Placed.{PointsInto}
 use Rattle.h264_recon.specs.Pool.{HasRoom, AreUsable}
 use Rattle.h264_recon.specs.Predicted.{Prediction, Intra, Inter, Pcm}
 use Rattle.h264_recon.specs.declared.store.Lines.{Lines}
+use Rattle.h264_picture.specs.declared.canvas.Canvas.{Canvas}
 use Rattle.h264_picture.specs.declared.frames.Frames.{Frames}
 use Rattle.h264_picture.specs.declared.picture.Picture.{Picture}
 use Rattle.h264_picture.specs.Lent.{AreFrames, frame_within}
-use Rattle.h264_picture.specs.Sound.{IsPlace, ArePlaces, IsSound}
+use Rattle.h264_picture.specs.Sound.{IsPlace, ArePlaces, IsSound, IsCanvas}
 
 -- the frame that was moved out, and those that stand in the pool
 pub own-frame : (w h : ℕ) (f : Frames) → AreFrames w h f → f.place < length f.pool → IsFrame f.frame w h
@@ -74,15 +75,12 @@ has-own w h c r f i j s =
     let rw' = s.cr.columns in let rh = s.cr.rows in
     record { y = (omega arith, omega arith); cb = (omega arith, omega arith); cr = (omega arith, omega arith) }
 
-module _ (across down count : ℕ) (picture : Picture) (f : Frames) (s : IsSound across down count picture f) (below : picture.next < count) where
+module _ (across down count : ℕ) (picture : Picture) (s : IsSound across down count picture) (below : picture.next < count) where
   abbrev c : ℕ
   c = picture.position.column
 
   abbrev r : ℕ
   r = picture.position.row
-
-  abbrev l : Lines
-  l = picture.lines
 
   pub in-rows : r < down
   in-rows = by (nat_lt r down) refl
@@ -102,42 +100,45 @@ module _ (across down count : ℕ) (picture : Picture) (f : Frames) (s : IsSound
   pub small-sides : (across ≤ 1024) × (r ≤ 1024)
   small-sides = let i = in-rows in let w = s.wide.1 in let h = s.tall.1 in (omega arith, omega arith)
 
-  pub own-room : f.place < length f.pool → HasOwn c r f.frame
-  own-room i = has-own across down c r f.frame s.column in-rows (own-frame (16 * across) (16 * down) f s.frames i)
+  module _ (places : ℕ) (canvas : Canvas) (d : IsCanvas across down places canvas) where
+    abbrev f : Frames
+    f = canvas.frames
 
-  pub has-room : (n : ℕ) → IsPlace f n → HasRoom f.pool c r n
-  has-room n p =
-      let o = has-own across down c r (frame_at f.pool n) s.column in-rows (pool-frame (16 * across) (16 * down) f n s.frames p) in
-      record { picture = p.inside; y = o.y; cb = o.cb; cr = o.cr }
+    abbrev l : Lines
+    l = canvas.lines
 
-  pub are-usable : (ps : List ℕ) → ArePlaces f ps → (m : Prediction) → PointsInto ps m → AreUsable f.pool c r m
-  are-usable ps places (Intra modes) h = tt
-  are-usable ps places (Inter motion) h = λ n i. let p = h n i in subst (HasRoom f.pool c r) (sym p.2) (has-room (get_or ps p.0 0) (places.each p.0 p.1))
-  are-usable ps places (Pcm bytes) h = tt
+    pub own-room : HasOwn c r f.frame
+    own-room = has-own across down c r f.frame s.column in-rows (own-frame (16 * across) (16 * down) f d.frames f.within.0)
 
-  pub y-lines : 16 * c + 16 ≤ vec_len l.y.above
-  y-lines = let n = s.lines Y in let i = s.column in omega arith
+    pub has-room : (n : ℕ) → IsPlace f n → HasRoom f.pool c r n
+    has-room n p =
+        let o = has-own across down c r (frame_at f.pool n) s.column in-rows (pool-frame (16 * across) (16 * down) f n d.frames p) in
+        record { picture = p.inside; y = o.y; cb = o.cb; cr = o.cr }
 
-  pub cb-lines : 8 * c + 8 ≤ vec_len l.cb.above
-  cb-lines = let n = s.lines Cb in let i = s.column in omega arith
+    pub are-usable : (ps : List ℕ) → ArePlaces f ps → (m : Prediction) → PointsInto ps m → AreUsable f.pool c r m
+    are-usable ps places (Intra modes) h = tt
+    are-usable ps places (Inter motion) h = λ n i. let p = h n i in subst (HasRoom f.pool c r) (sym p.2) (has-room (get_or ps p.0 0) (places.each p.0 p.1))
+    are-usable ps places (Pcm bytes) h = tt
 
-  pub cr-lines : 8 * c + 8 ≤ vec_len l.cr.above
-  cr-lines = let n = s.lines Cr in let i = s.column in omega arith
+    pub y-lines : 16 * c + 16 ≤ vec_len l.y.above
+    y-lines = let n = d.lines Y in let i = s.column in omega arith
 
-  pub more-lines : c + 1 < across → 16 * c + 20 ≤ vec_len l.y.above
-  more-lines h = let n = s.lines Y in omega arith
+    pub cb-lines : 8 * c + 8 ≤ vec_len l.cb.above
+    cb-lines = let n = d.lines Cb in let i = s.column in omega arith
 
-  -- lines and a frame of the same size, in their places
-  pub made : (l' : Lines) (f' : Frames) → ((p : Component) → vec_len (store_of p l').above ≡ vec_len (store_of p l).above) → f.place < length f.pool →
-      ((p : Component) → IsSized (plane_of p f'.frame) (plane_of p f.frame).width (plane_of p f.frame).height) →
-      f'.pool ≡ f.pool → f'.place ≡ f.place → IsSound across down count (record picture { lines = l' }) f'
-  made l' f' h i g p q = record {
-    wide = s.wide;
-    tall = s.tall;
-    size = s.size;
-    next = s.next;
-    column = s.column;
-    lines = λ k. h k ∙ s.lines k;
-    frames = resized (16 * across) (16 * down) f f' i g p q s.frames;
-    some = (let n = s.some in let e = ap length p in omega arith);
-  }
+    pub cr-lines : 8 * c + 8 ≤ vec_len l.cr.above
+    cr-lines = let n = d.lines Cr in let i = s.column in omega arith
+
+    pub more-lines : c + 1 < across → 16 * c + 20 ≤ vec_len l.y.above
+    more-lines h = let n = d.lines Y in omega arith
+
+-- lines and a frame of the same size, in their places
+pub made : (across down places : ℕ) (canvas : Canvas) (l : Lines) (f : Frames) → IsCanvas across down places canvas →
+    ((p : Component) → vec_len (store_of p l).above ≡ vec_len (store_of p canvas.lines).above) →
+    ((p : Component) → IsSized (plane_of p f.frame) (plane_of p canvas.frames.frame).width (plane_of p canvas.frames.frame).height) →
+    f.pool ≡ canvas.frames.pool → f.place ≡ canvas.frames.place → IsCanvas across down places (record { frames = f; lines = l })
+made across down places canvas l f d h g p q = record {
+  lines = λ k. h k ∙ d.lines k;
+  frames = resized (16 * across) (16 * down) canvas.frames f canvas.frames.within.0 g p q d.frames;
+  count = ap length p ∙ d.count;
+}

@@ -11,10 +11,11 @@ use Rattle.h264_recon.specs.Lines.{store_of}
 use Rattle.h264_near.specs.declared.near.Near.{Near}
 use Rattle.h264_recon.specs.declared.macroblock.Position.{Position}
 use Rattle.h264_recon.specs.declared.store.Lines.{Lines}
+use Rattle.h264_picture.specs.declared.canvas.Canvas.{Canvas}
 use Rattle.h264_picture.specs.declared.frames.Frames.{Frames}
 use Rattle.h264_picture.specs.declared.picture.Picture.{Picture}
 use Rattle.h264_picture.specs.Lent.{AreFrames}
-use Rattle.h264_picture.specs.Sound.{ArePlaces, IsSound}
+use Rattle.h264_picture.specs.Sound.{ArePlaces, IsSound, IsCanvas}
 use Rattle.h264_sps.specs.Usable.{is_frame_size}
 
 pub same-places : (old new : Frames) (ps : List ℕ) → length new.pool ≡ length old.pool → new.place ≡ old.place → ArePlaces old ps → ArePlaces new ps
@@ -23,52 +24,24 @@ same-places old new ps n p a = record {
       record { inside = (let x = h.inside in omega arith); other = λ e. h.other (e ∙ p) };
 }
 
--- other frames, of the same size and at the same places
-pub same-frames : (across down count : ℕ) (p : Picture) (old new : Frames) → AreFrames (16 * across) (16 * down) new → length new.pool ≡ length old.pool →
-    IsSound across down count p old → IsSound across down count p new
-same-frames across down count p old new a n s = record {
-  wide = s.wide;
-  tall = s.tall;
-  size = s.size;
-  next = s.next;
-  column = s.column;
-  lines = s.lines;
-  frames = a;
-  some = (let x = s.some in omega arith);
-}
+-- other frames, of the same size and as many
+pub same-frames : (across down places : ℕ) (c : Canvas) (f : Frames) → AreFrames (16 * across) (16 * down) f → length f.pool ≡ length c.frames.pool →
+    IsCanvas across down places c → IsCanvas across down places (record c { frames = f })
+same-frames across down places c f a n d = record { lines = d.lines; frames = a; count = n ∙ d.count }
 
 -- where the first macroblock of a picture stands
 abbrev first : Position
 first = record { column = 0; row = 0 }
 
 -- the first macroblock of a picture
-pub begun : (across down count : ℕ) (p : Picture) (n : Near) (old new : Frames) → AreFrames (16 * across) (16 * down) new → length new.pool ≡ length old.pool →
-    IsSound across down count p old → IsSound across down count (record p { near = n; next = 0; position = first }) new
-begun across down count p near old new a n s = record {
-  wide = s.wide;
-  tall = s.tall;
-  size = s.size;
-  next = omega arith;
-  column = s.wide.0;
-  lines = s.lines;
-  frames = a;
-  some = (let x = s.some in omega arith);
-}
+pub begun : (across down count : ℕ) (p : Picture) (n : Near) → IsSound across down count p →
+    IsSound across down count (record p { near = n; next = 0; position = first })
+begun across down count p near s = record { wide = s.wide; tall = s.tall; size = s.size; next = omega arith; column = s.wide.0 }
 
 -- a sequence of which no picture is begun
-pub fresh : (w h : ℕ) (n : Near) (l : Lines) (f : Frames) → ((0 < w) × (w ≤ 543)) → ((0 < h) × (h ≤ 543)) →
-    ((p : Component) → vec_len (store_of p l).above ≡ side p * w) → AreFrames (16 * w) (16 * h) f → 1 < length f.pool →
-    IsSound w h (w * h) (record { near = n; lines = l; next = 0; position = first }) f
-fresh w h near l f wide tall lines a n = record {
-  wide = wide;
-  tall = tall;
-  size = refl;
-  next = omega arith;
-  column = wide.0;
-  lines = lines;
-  frames = a;
-  some = n;
-}
+pub fresh : (w h : ℕ) (n : Near) → ((0 < w) × (w ≤ 543)) → ((0 < h) × (h ≤ 543)) →
+    IsSound w h (w * h) (record { near = n; next = 0; position = first })
+fresh w h near wide tall = record { wide = wide; tall = tall; size = refl; next = omega arith; column = wide.0 }
 
 -- a frame size that is allowed
 pub sized : (s : FrameSize) → is_frame_size s ≡ true → ((0 < s.width) × (s.width ≤ 543)) × ((0 < s.height) × (s.height ≤ 543))
@@ -101,15 +74,7 @@ pub one-more : (n : ℕ) → n ≤ 16 → (0 < n + 1) × (n + 1 ≤ 17)
 one-more n h = (omega arith, omega arith)
 
 -- one macroblock more
-pub next-sound : (across down count : ℕ) (p : Picture) (on : Position) (f : Frames) → IsSound across down count p f → on.column < across →
-    on.row * across + on.column ≡ p.position.row * across + p.position.column + 1 → IsSound across down count (record p { next = p.next + 1; position = on }) f
-next-sound across down count p on f s i e = record {
-  wide = s.wide;
-  tall = s.tall;
-  size = s.size;
-  next = (let n = s.next in omega arith);
-  column = i;
-  lines = s.lines;
-  frames = s.frames;
-  some = s.some;
-}
+pub next-sound : (across down count : ℕ) (p : Picture) (on : Position) → IsSound across down count p → on.column < across →
+    on.row * across + on.column ≡ p.position.row * across + p.position.column + 1 → IsSound across down count (record p { next = p.next + 1; position = on })
+next-sound across down count p on s i e =
+    record { wide = s.wide; tall = s.tall; size = s.size; next = (let n = s.next in omega arith); column = i }

@@ -21,11 +21,12 @@ use Rattle.h264_mbsyntax.proofs.Quantiser.{predicted-next}
 use Rattle.h264_picture.specs.declared.sequence.Sequence.{Sequence}
 use Rattle.h264_mbsyntax.specs.declared.slice.Standing.{Standing}
 use Rattle.h264_picture.specs.Holds.{HoldsIn, IsPast, IsWithin, KeepsPlace}
-use Rattle.h264_picture.specs.Making.{Making, MakesWith, HasSamples, MakesIn, Reads}
+use Rattle.h264_picture.specs.Making.{Making, MakesWith, HasSamples, HasSamplesIn, MakesIn, Reads, setting_of}
 use Rattle.std.proofs.Common.{get_or, ◌≢◌, IsTrue}
 use Rattle.std.specs.Prelude.{nat_le}
 use Rattle.std.proofs.lemmas.Bool.Decides.{nat_tests}
-use Rattle.h264_picture.specs.Sound.{IsPlace}
+use Rattle.h264_picture.specs.Sound.{IsPlace, IsPlaceIn}
+use Rattle.h264_picture.specs.declared.canvas.Canvas.{Canvas}
 use Rattle.h264_picture.specs.declared.samples.SliceSamples.{SliceSamples}
 use Rattle.h264_picture.specs.declared.slice.Slice.{Slice}
 
@@ -110,40 +111,36 @@ left-is a b fits width slice standing picture e m = rw e m
 
 -- the frames stand where they stood
 pub same-place : (s : Sequence) → KeepsPlace s s
-same-place s = record { across = refl; down = refl; pool = refl; place = refl; begun = refl }
+same-place s = record { across = refl; down = refl; places = refl; rest = refl }
 
 pub both-places : (a b c : Sequence) → KeepsPlace a b → KeepsPlace b c → KeepsPlace a c
-both-places a b c h k = record {
-  across = k.across ∙ h.across;
-  down = k.down ∙ h.down;
-  pool = k.pool ∙ h.pool;
-  place = k.place ∙ h.place;
-  begun = k.begun ∙
-      h.begun;
-}
+both-places a b c h k = record { across = k.across ∙ h.across; down = k.down ∙ h.down; places = k.places ∙ h.places; rest = k.rest ∙ h.rest }
 
 -- the samples are those of the lines and the frames
 pub same-samples : (making : Option Making) (picture : List CodedMacroblock) (old new : Sequence) → new.across ≡ old.across → new.down ≡ old.down →
-    new.picture.lines ≡ old.picture.lines → new.frames ≡ old.frames → HasSamples making picture old → HasSamples making picture new
-same-samples None picture old new a d l f h = tt
-same-samples (Some making) picture old new a d l f h = rw (a, d, l, f) h
+    new.canvas ≡ old.canvas → HasSamples making picture old → HasSamples making picture new
+same-samples None picture old new a d c h = tt
+same-samples (Some making) picture old new a d c h = rw (a, d, c) h
 
 -- a slice begins, with the places of its reference pictures among the frames
-pub makes-with : (making : Option Making) (slice : Slice) (samples : SliceSamples) (base : ℕ) (old : Sequence) →
-    ((n : ℕ) → n < 16 → base ≤ get_or samples.places n 0 → IsPlace old.frames (get_or samples.places n 0 - base) →
+pub makes-with : (making : Option Making) (picture : List CodedMacroblock) (slice : Slice) (samples : SliceSamples) (base : ℕ) (old : Sequence) →
+    ((c : Canvas) → old.canvas ≡ Some c → (n : ℕ) → n < 16 → base ≤ get_or samples.places n 0 → IsPlace c.frames (get_or samples.places n 0 - base) →
     get_or slice.places n 0 ≡ get_or samples.places n 0 - base) → slice.filter ≡ samples.filter → slice.weights ≡ samples.weights →
-    MakesWith making slice.context samples base old → MakesIn making slice
-makes-with None slice samples base old values f w h = tt
-makes-with (Some making) slice samples base old values f w h = record {
+    HasSamples making picture old → MakesWith making slice.context samples base old → MakesIn making slice
+makes-with None picture slice samples base old values f w s h = tt
+makes-with (Some making) picture slice samples base old values f w s h = record {
   parameters = rw (f, w) h.parameters;
   offset = rw f h.offset;
   offsets = rw f h.offsets;
-  placed = record {
-    each = λ k n i e. let p = h.placed k n i e in
-        let is : get_or samples.places k 0 - base ≡ making.place n = (let x = p.0 in omega arith) in
-        values k i (let x = p.0 in omega arith) (subst (IsPlace old.frames) (sym is) p.1) ∙ is;
-  };
+  placed = record { each = λ k n i e. let p = h.placed k n i e in at old.canvas refl s k n i p.0 p.1 };
 }
+  where
+    at : (o : Option Canvas) → old.canvas ≡ o → HasSamplesIn (setting_of old) making picture o → (k n : ℕ) → k < 16 →
+        get_or samples.places k 0 ≡ base + making.place n → IsPlaceIn o (making.place n) → get_or slice.places k 0 ≡ making.place n
+    at None is s k n i e p = absurd s
+    at (Some c) is s k n i e p =
+        let there : get_or samples.places k 0 - base ≡ making.place n = omega arith in
+        values c is k i (omega arith) (subst (IsPlace c.frames) (sym there) p) ∙ there
 
 weaker-by : {X A S : Type 0} (took : S → List Call → Type 0) (failures : S → ℕ) (R R' : X → A → Type 0) (g : Grammar A) (body : Body) (i j : ℕ) (s s' : S)
     (r : Result X Stop) → ((x : X) (v : A) → R x v → R' x v) → MeetsBy (span took failures s s') R g (record { body = body; at = i }) j r →

@@ -2,19 +2,24 @@
 use Rattle.std.proofs.Common.{◌≡◌, ◌≢◌, ℕ, ◌+◌, ◌-◌, ◌%◌, ◌<◌, ◌≤◌, Bool, true, false, ◌&&◌, Option, Some, None, length, refl, ap, sym, ◌∙◌, arith}
 use Rattle.std.proofs.Common.{if◌then◌else◌, ◌⊎◌, inl, inr}
 use Rattle.std.specs.Prelude.{nat_lt}
-use Rattle.std.specs.Option.{option_map}
+use Rattle.std.specs.Option.{option_and_then}
 use Rattle.std.proofs.lemmas.Bool.Decides.{nat_tests}
 use Rattle.h264_plane.specs.declared.frame.Frame.{Frame}
 use Rattle.h264_picture.specs.declared.frames.Frames.{Frames}
-use Rattle.h264_picture.specs.Lent.{lent_in, lent_within, KeepsLent}
+use Rattle.h264_picture.specs.Lent.{lent_in, frames_in, KeepsLent}
 use Rattle.std.proofs.Common.{◌==◌}
 use Rattle.h264_plane.specs.Samples.{at}
 use Rattle.h264_plane.specs.Frames.{plane_of, frame_at}
 use Rattle.h264_plane.specs.declared.frame.Component.{Component}
 use Rattle.h264_picture.specs.declared.sequence.Sequence.{Sequence}
 use Rattle.h264_picture.specs.Holds.{IsActive}
-use Rattle.h264_picture.specs.Making.{setting_of}
-use Rattle.h264_picture.specs.Places.{is_active_place}
+use Rattle.h264_picture.specs.Making.{pool_of, setting_of}
+use Rattle.h264_picture.specs.Places.{is_active_place, purpose_of, lent, HasBegunIn}
+use Rattle.h264_picture.specs.Purposes.{makes_frames}
+use Rattle.h264_picture.specs.declared.canvas.Canvas.{Canvas}
+use Rattle.h264_picture.specs.declared.purpose.Purpose.TheVariants as purpose
+use Rattle.h264_picture.specs.declared.work.Work.{Work}
+use Rattle.std.proofs.Common.{is_some}
 
 -- the frame that is lent, of the frames of two sequences
 abbrev pub lent_of : ℕ → Option Frames → Option Frames → ℕ → Option Frame
@@ -55,11 +60,11 @@ older-place base active p low turn some = by (is_active_place base p) refl
     by false e = absurd (some (ap (λ t. if t then lent_in active (p - base) else None) e))
 
 -- the frame at a place of the active sequence
-pub lent-begun : (base place k : ℕ) (f : Frames) (older : Option Frames) → base + k ≡ place → k < 17 → lent_of base (Some f) older place ≡ lent_within f k
-lent-begun base place k f older e i =
+pub lent-begun : (base place k : ℕ) (o older : Option Frames) → base + k ≡ place → k < 17 → lent_of base o older place ≡ lent_in o k
+lent-begun base place k o older e i =
     let active : is_active_place base place ≡ true = grind (arith, nat_tests) in
     let is : place - base ≡ k = omega arith in
-    ap (λ t. if t then lent_in (Some f) (place - base) else lent_in older (place - (17 - base))) active ∙ ap (lent_within f) is
+    ap (λ t. if t then lent_in o (place - base) else lent_in older (place - (17 - base))) active ∙ ap (lent_in o) is
 
 pick : (t u b : Bool) (x y f : Frame) → (if t then (if u && b then None else Some (if u then x else y)) else None) ≡ Some f → b ≡ true → y ≡ f
 pick true true true x y f h e = cc
@@ -68,37 +73,68 @@ pick true false b x y f h e = cc
 pick false u b x y f h e = cc
 
 -- what is lent beside the frame that is written stands in the pool
-pub lent-beside : (base n : ℕ) (g : Frames) (older : Option Frames) (f : Frame) → n < 17 → g.begun ≡ true → lent_of base (Some g) older (base + n) ≡ Some f →
-    frame_at g.pool n ≡ f
-lent-beside base n g older f i b h = pick (nat_lt n (length g.pool)) (n == g.place) g.begun g.frame (frame_at g.pool n) f
-    (sym (lent-begun base (base + n) n g older refl i) ∙ h) b
+lent-beside : (base place n : ℕ) (o : Option Canvas) (older : Option Frames) (f : Frame) → n < 17 → HasBegunIn base place o →
+    lent_of base (frames_in o) older (base + n) ≡ Some f → frame_at (pool_of o) n ≡ f
+lent-beside base place n None older f i b h =
+    let none : ◌≡◌ {A = Option Frame} None (Some f) = sym (lent-begun base (base + n) n None older refl i) ∙ h in absurd (cc)
+lent-beside base place n (Some c) older f i b h =
+    let g = c.frames in
+    pick (nat_lt n (length g.pool)) (n == g.place) g.begun g.frame (frame_at g.pool n) f (sym (lent-begun base (base + n) n (Some g) older refl i) ∙ h) b.0
 
 pub lent-references : (base place n : ℕ) (o : Option Sequence) (older : Option Frames) (f : Frame) →
-    IsActive (λ (s : Sequence). (s.frames.begun ≡ true) × (base + s.frames.place ≡ place)) o → n < 17 →
-    lent_of base (option_map (λ (s : Sequence). s.frames) o) older (base + n) ≡ Some f →
+    IsActive (λ (s : Sequence). HasBegunIn base place s.canvas) o → n < 17 →
+    lent_of base (option_and_then (λ (s : Sequence). frames_in s.canvas) o) older (base + n) ≡ Some f →
     IsActive (λ (s : Sequence). (p : Component) (x y : ℕ) → (setting_of s).reference n p x y ≡ at (plane_of p f) x y) o
 lent-references base place n None older f h i e = absurd h
-lent-references base place n (Some s) older f h i e = λ p x y. ap (λ (g : Frame). at (plane_of p g) x y) (lent-beside base n s.frames older f i h.0 e)
+lent-references base place n (Some s) older f h i e =
+    λ p x y. ap (λ (g : Frame). at (plane_of p g) x y) (lent-beside base place n s.canvas older f i h e)
 
 -- what was lent stays lent, of the older sequence and where the frames of the active one keep it
-pub lent-kept : (base : ℕ) (old new : Frames) (older : Option Frames) → KeepsLent old new → (p : ℕ) → lent_of base (Some old) older p ≢ None →
-    lent_of base (Some new) older p ≡ lent_of base (Some old) older p
+pub lent-kept : (base : ℕ) (old new older : Option Frames) → KeepsLent old new → (p : ℕ) → lent_of base old older p ≢ None →
+    lent_of base new older p ≡ lent_of base old older p
 lent-kept base old new older kept p = by (is_active_place base p)
   where
-    by : (t : Bool) → (if t then lent_within old (p - base) else lent_in older (p - (17 - base))) ≢ None →
-        (if t then lent_within new (p - base) else lent_in older (p - (17 - base))) ≡
-        (if t then lent_within old (p - base) else lent_in older (p - (17 - base)))
+    by : (t : Bool) → (if t then lent_in old (p - base) else lent_in older (p - (17 - base))) ≢ None →
+        (if t then lent_in new (p - base) else lent_in older (p - (17 - base))) ≡
+        (if t then lent_in old (p - base) else lent_in older (p - (17 - base)))
     by true some = kept (p - base) some
     by false some = refl
 
 -- and where they keep all but one
-pub lent-others : (base : ℕ) (old new : Frames) (older : Option Frames) (place : ℕ) → base ≤ place →
-    ((k : ℕ) → k ≢ place - base → lent_within old k ≢ None → lent_within new k ≡ lent_within old k) →
-    (p : ℕ) → p ≢ place → lent_of base (Some old) older p ≢ None → lent_of base (Some new) older p ≡ lent_of base (Some old) older p
+pub lent-others : (base : ℕ) (old new older : Option Frames) (place : ℕ) → base ≤ place →
+    ((k : ℕ) → k ≢ place - base → lent_in old k ≢ None → lent_in new k ≡ lent_in old k) →
+    (p : ℕ) → p ≢ place → lent_of base old older p ≢ None → lent_of base new older p ≡ lent_of base old older p
 lent-others base old new older place low kept p other = by (is_active_place base p) refl
   where
-    by : (t : Bool) → is_active_place base p ≡ t → (if t then lent_within old (p - base) else lent_in older (p - (17 - base))) ≢ None →
-        (if t then lent_within new (p - base) else lent_in older (p - (17 - base))) ≡
-        (if t then lent_within old (p - base) else lent_in older (p - (17 - base)))
+    by : (t : Bool) → is_active_place base p ≡ t → (if t then lent_in old (p - base) else lent_in older (p - (17 - base))) ≢ None →
+        (if t then lent_in new (p - base) else lent_in older (p - (17 - base))) ≡
+        (if t then lent_in old (p - base) else lent_in older (p - (17 - base)))
     by true e some = let l : base ≤ p = grind (arith, nat_tests) in kept (p - base) (λ same. other (omega arith)) some
     by false e some = refl
+
+-- ---- no frames
+
+-- where no frame is made none is lent
+none-in : (o : Option Sequence) (b : Bool) → ((s : Sequence) → o ≡ Some s → is_some s.canvas ≡ b) → b ≡ false → (k : ℕ) →
+    lent_in (option_and_then (λ (s : Sequence). frames_in s.canvas) o) k ≡ None
+none-in None b now e k = refl
+none-in (Some s) b now e k = by s.canvas (now s refl ∙ e)
+  where
+    by : (c : Option Canvas) → is_some c ≡ false → lent_in (frames_in c) k ≡ None
+    by None q = refl
+    by (Some c) q = absurd (cc)
+
+none-older : (o : Option Frames) (b : Bool) → (is_some o ≡ true → b ≡ true) → b ≡ false → (k : ℕ) → lent_in o k ≡ None
+none-older None b before e k = refl
+none-older (Some f) b before e k = let h : true ≡ false = sym (before refl) ∙ e in absurd (cc)
+
+pub nothing-lent : (work : Work) → purpose_of work ≡ purpose.Verdict → (p : ℕ) → lent work p ≡ None
+nothing-lent work is p = by (is_active_place work.base p)
+  where
+    off : makes_frames work.purpose ≡ false
+    off = ap makes_frames is
+
+    by : (t : Bool) → (if t then lent_in (option_and_then (λ (s : Sequence). frames_in s.canvas) work.active) (p - work.base)
+        else lent_in work.older (p - (17 - work.base))) ≡ None
+    by true = none-in work.active _ work.made.now off (p - work.base)
+    by false = none-older work.older _ work.made.before off (p - (17 - work.base))

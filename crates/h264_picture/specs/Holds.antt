@@ -1,5 +1,5 @@
 -- What the work holds of a picture. A working form.
-use Rattle.std.specs.Prelude.{◌≡◌, ℕ, ◌+◌, ◌-◌, ◌*◌, ◌<◌, ◌≤◌, ◌&&◌, true, List, length, Option, Some, None, slice_get}
+use Rattle.std.specs.Prelude.{◌≡◌, ℕ, ◌+◌, ◌-◌, ◌<◌, ◌≤◌, true, List, length, Option, Some, None, slice_get}
 use Rattle.h264_near.specs.Coded.{CodedMacroblock}
 use Rattle.h264_near.specs.Keeps.{Keeps, width_of}
 use Rattle.h264_vectors.specs.Derived.{has_picture}
@@ -8,6 +8,7 @@ use Rattle.h264_mbsyntax.specs.declared.slice.Standing.{Standing}
 use Rattle.h264_mbsyntax.specs.declared.slice.Standing.TheVariants.{Next, Skipping}
 use Rattle.h264_picture.specs.declared.sequence.Sequence.{Sequence}
 use Rattle.h264_picture.specs.declared.work.Work.{Work}
+use Rattle.h264_picture.specs.Lent.{rest_of}
 
 -- the last of these macroblocks is of a slice that began before their end
 abbrev pub IsPast : List CodedMacroblock → Type 0
@@ -33,9 +34,8 @@ pub record HoldsIn (width size : ℕ) (picture : List CodedMacroblock) (sequence
 pub record KeepsPlace (old new : Sequence) : Type 0 where
   pub across : new.across ≡ old.across
   pub down : new.down ≡ old.down
-  pub pool : new.frames.pool ≡ old.frames.pool
-  pub place : new.frames.place ≡ old.frames.place
-  pub begun : new.frames.begun ≡ old.frames.begun
+  pub places : new.places ≡ old.places
+  pub rest : rest_of new.canvas ≡ rest_of old.canvas
 
 -- what is known of the macroblocks is what it was
 pub record KeepsSyntax (old new : Sequence) : Type 0 where

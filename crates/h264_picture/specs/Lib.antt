@@ -3,6 +3,7 @@ pub mod Context
 pub mod Buffer
 pub mod Lent
 pub mod Sound
+pub mod Purposes
 pub mod Holds
 pub mod Places
 pub mod Decoded

@@ -1,5 +1,5 @@
 -- A picture in the making: its samples so far. A working form.
-use Rattle.std.specs.Prelude.{◌≡◌, ℕ, ◌+◌, ◌<◌, ◌≤◌, List, length, get_or, Option, Some, None}
+use Rattle.std.specs.Prelude.{◌≡◌, ℕ, ◌+◌, ◌<◌, ◌≤◌, List, [], length, get_or, Option, Some, None}
 use Rattle.h264_plane.specs.Samples.{at}
 use Rattle.h264_plane.specs.Frames.{plane_of, frame_at}
 use Rattle.h264_plane.specs.declared.frame.Component.{Component}
@@ -9,6 +9,7 @@ use Rattle.h264_mbsyntax.specs.Macroblock.{predicted_qp}
 use Rattle.h264_vectors.specs.declared.slice.SliceContext.{SliceContext}
 use Rattle.h264_recon.specs.Inter.{Setting}
 use Rattle.h264_recon.specs.Placed.{ArePlaced, weights_by}
+use Rattle.h264_picture.specs.declared.canvas.Canvas.{Canvas}
 use Rattle.h264_picture.specs.declared.samples.SliceSamples.{SliceSamples}
 use Rattle.h264_picture.specs.declared.sequence.Sequence.{Sequence}
 use Rattle.h264_picture.specs.declared.slice.Slice.{Slice}
@@ -16,7 +17,7 @@ use Rattle.h264_picture.specs.declared.work.Work.{Work}
 use Rattle.h264_picture.specs.Decoded.{Parameters, IsDecoded}
 use Rattle.h264_picture.specs.Held.{IsHeld}
 use Rattle.h264_picture.specs.Holds.{HoldsIn, IsActive}
-use Rattle.h264_picture.specs.Sound.{IsPlace}
+use Rattle.h264_picture.specs.Sound.{IsPlaceIn}
 
 -- What the samples of a picture depend on beside its macroblocks: the parameters of its slices by their numbers, and the places of its reference
 -- pictures, counted from the first one of the sequence, by their numbers.
@@ -24,16 +25,30 @@ pub record Making : Type 0 where
   pub slices : ℕ → Parameters
   pub place : ℕ → ℕ
 
--- the size of the pictures of a sequence, and its frames as reference pictures, by their places
+-- the frames beside the one that is written
+abbrev pub pool_of : Option Canvas → List Frame
+pool_of None = []
+pool_of (Some c) = c.frames.pool
+
+-- the size of pictures, and frames as reference pictures, by their places
+abbrev pub setting_by : (across down : ℕ) → List Frame → Setting
+setting_by across down pool = record { across = across; down = down; reference = λ n p. at (plane_of p (frame_at pool n)) }
+
+-- those of a sequence
 abbrev pub setting_of : Sequence → Setting
-setting_of s = record { across = s.across; down = s.down; reference = λ n p. at (plane_of p (frame_at s.frames.pool n)) }
+setting_of s = setting_by s.across s.down (pool_of s.canvas)
 
 -- ---- a sequence
 
--- Its lines and the frame that is written hold the samples of these macroblocks; of nothing, where the samples are not asked for.
+-- lines and the frame that is written hold the samples of these macroblocks
+abbrev pub HasSamplesIn : Setting → Making → List CodedMacroblock → Option Canvas → Type 0
+HasSamplesIn k making picture None = ⊥
+HasSamplesIn k making picture (Some c) = IsHeld k making.place making.slices c.lines c.frames.frame picture
+
+-- Those of the sequence do; of nothing, where the samples are not asked for.
 abbrev pub HasSamples : Option Making → List CodedMacroblock → Sequence → Type 0
 HasSamples None picture s = Unit {0}
-HasSamples (Some making) picture s = IsHeld (setting_of s) making.place making.slices s.picture.lines s.frames.frame picture
+HasSamples (Some making) picture s = HasSamplesIn (setting_of s) making picture s.canvas
 
 -- the samples of this slice are made by that
 pub record MakesSlice (making : Making) (slice : Slice) : Type 0 where
@@ -60,7 +75,7 @@ pub record MakesSliceWith (making : Making) (slice : SliceContext) (samples : Sl
   pub offset : samples.filter.chroma_qp_index_offset ≡ slice.chroma_qp_index_offset
   pub offsets : (n : ℕ) → (making.slices n).filter.chroma_qp_index_offset ≡ samples.filter.chroma_qp_index_offset
   pub placed : (k n : ℕ) → k < 16 → get_or slice.references k None ≡ Some n → (get_or samples.places k 0 ≡ base + making.place n)
-      × IsPlace s.frames (making.place n)
+      × IsPlaceIn s.canvas (making.place n)
 
 abbrev pub MakesWith : Option Making → SliceContext → SliceSamples → ℕ → Sequence → Type 0
 MakesWith None slice samples base s = Unit {0}

@@ -1,7 +1,8 @@
 //! The frames of a sequence by place, one of which is written while the others are read.
 #![tactic(auto)]
 
-ghost use Rattle.std.specs.Prelude.{◌≡◌, ◌≢◌, ℕ, ◌%◌, ◌<◌, ◌≤◌, true, false, Some, None, IsTrue, is_some, length, IfOk};
+ghost use Rattle.std.specs.Prelude.{◌≡◌, ◌≢◌, ℕ, ◌%◌, ◌<◌, ◌≤◌, true, false, Some, None, length, IfOk};
+ghost use Rattle.std.specs.Option.{option_copied};
 
 use h264_plane::{Frame, MAX_SIDE, Pool};
 use std::alloc::{AllocError, Global};
@@ -77,7 +78,7 @@ impl Frames {
     pub(crate) fn end(&mut self)
         ensures count { length self.new.pool ≡ length self.old.pool }
         ensures place { self.new.place ≡ self.old.place }
-        ensures kept { KeepsLent self.old self.new }
+        ensures kept { KeepsLent (Some self.old) (Some self.new) }
         ensures size { (width height : ℕ) → AreFrames width height self.old → AreFrames width height self.new }
         ensures lent { lent_within self.new self.old.place ≡ Some self.old.frame }
         ensures ended { lent_within self.new self.old.place ≡ Some (frame_within self.old self.old.place) }
@@ -85,22 +86,19 @@ impl Frames {
         self.begun = false;
     }
 
-    /// How many there are.
-    pub(crate) fn len(&self) -> usize
-        ensures value { result ≡ length self.now.pool }
-        ensures bound { result ≤ 17 }
+    /// The frame at a place, if one is lent there.
+    pub(crate) fn frame(&self, place: usize) -> Option<&Frame>
+        ensures { option_copied result ≡ lent_within self.now place }
     {
-        self.pool.len()
-    }
-
-    /// The frame at a place.
-    pub(crate) fn frame(&self, place: usize) -> &Frame
-        requires { IsTrue (is_some (lent_within self.now place)) }
-        ensures { Some result.now ≡ lent_within self.now place }
-    {
-        if place == self.place {
-            return &self.frame;
+        if place >= self.pool.len() {
+            return None;
         }
-        self.pool.frame(place)
+        if place != self.place {
+            return Some(self.pool.frame(place));
+        }
+        if self.begun {
+            return None;
+        }
+        Some(&self.frame)
     }
 }

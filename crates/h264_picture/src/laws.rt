@@ -8,11 +8,12 @@ ghost use Rattle.h264_near.specs.Coded.{CodedMacroblock};
 ghost use Rattle.h264_recon.specs.Inter.{Setting};
 ghost use Rattle.h264_recon.specs.Constructed.{IsPossible};
 ghost use Rattle.h264_picture.specs.Decoded.{Parameters, macroblock_at, IsDecoded};
-ghost use Rattle.std.specs.Prelude.{Some};
+ghost use Rattle.std.specs.Prelude.{Some, None};
 ghost use Rattle.h264_plane.specs.declared.frame.Frame.{Frame};
 ghost use Rattle.h264_picture.specs.declared.work.Work.{Work};
 ghost use Rattle.h264_picture.specs.declared.frames.TheConstants.{PLACES};
-ghost use Rattle.h264_picture.specs.Places.{first_place, lent, HasBegun};
+ghost use Rattle.h264_picture.specs.declared.purpose.Purpose.TheVariants.{Verdict};
+ghost use Rattle.h264_picture.specs.Places.{first_place, lent, purpose_of, HasBegun};
 ghost use Rattle.h264_picture.specs.Making.{RefersTo};
 ghost use Rattle.h264_picture.specs.Sources.{Sources, IsDecodedFrom, AreShared};
 
@@ -43,4 +44,9 @@ pub fn sources_alone()
 /// The reference pictures of a picture that is begun are frames that the work lends, at places that are counted from the first one of the sequence.
 pub fn references_are_lent()
     ensures { (work : Work) (place n : ℕ) (f : Frame) → HasBegun place work → n < PLACES → lent work (first_place work + n) ≡ Some f → RefersTo work n f }
+{}
+
+/// Where pictures are decoded for the verdict alone, no frame is lent.
+pub fn nothing_is_lent()
+    ensures { (work : Work) → purpose_of work ≡ Verdict → (p : ℕ) → lent work p ≡ None }
 {}

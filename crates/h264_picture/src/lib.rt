@@ -5,12 +5,15 @@
 //! h264_mbsyntax says it with the range of the transform by h264_scale; no call in a slice takes memory.
 //! `slice_context` is what macroblocks take from the slice's header, its parameter sets and its reference list.
 //! The samples of each macroblock are made after its levels, in place in a frame of the sequence: after each the equations hold of
-//! the macroblocks so far (`in_place::go_on`).
-//! A `Sequence` has the memory, and in it the `Picture` that is decoded; a `Slice` is made where slice data begin, and lent to each macroblock.
+//! the macroblocks so far (`in_place::go_on`). For the verdict alone (`Purpose`) no sample is made, and there is no memory for one: of a
+//! macroblock's levels only the range of their transform is judged.
+//! A `Sequence` has the memory, and in it the `Picture` that is decoded and, where frames are made, their `Canvas`; a `Slice` is made where
+//! slice data begin, and lent to each macroblock.
 //! The allocator is lent to `Work::activate` alone; nothing that is kept has one, but for the `Vec`s of planes, lines and contexts.
 #![tactic(auto)]
 
 mod buffer;
+mod canvas;
 pub mod context;
 mod frames;
 pub mod in_place;
@@ -18,6 +21,7 @@ pub mod laws;
 mod making;
 mod picture;
 mod places;
+mod purpose;
 mod run;
 mod samples;
 mod sequence;
@@ -28,5 +32,6 @@ pub mod work;
 pub use buffer::buffer_size;
 pub use context::slice_context;
 pub use frames::PLACES;
+pub use purpose::Purpose;
 pub use samples::{SliceSamples, slice_samples};
 pub use work::Work;

@@ -23,6 +23,7 @@ use h264_mbsyntax::Macroblock as Read;
 use h264_near::{Near, Partition, Skipped};
 use h264_recon::{
     Available, Macroblock, Position, ReadLevels, SliceReferences, given, partition_of,
+    residual_fits,
 };
 use h264_vectors::SliceContext;
 
@@ -83,14 +84,15 @@ impl Sequence {
     ghost use Rattle.h264_picture.specs.Holds.{KeepsPlace, KeepsSyntax, HoldsIn};
     ghost use Rattle.h264_picture.specs.Making.{Making, HasSamples, MakesIn};
     ghost use Rattle.h264_picture.specs.Levels.{transform_fits, AreNone};
-    ghost use Rattle.h264_picture.specs.Sound.{ArePlaces};
+    ghost use Rattle.h264_picture.specs.Sound.{ArePlacesIn};
 
-    /// Makes the samples of the macroblock that was read in its place, if each value of its transform is in range.
+    /// Makes the samples of the macroblock that was read in its place, if each value of its transform is in range. Where no samples are made it
+    /// judges the range alone.
     #[inline(never)]
     pub(crate) fn make_read(&mut self, slice: &Slice) -> bool
         requires next { self.old.picture.next < self.old.size }
         requires qp { self.old.mb.qp ≤ 51 }
-        requires places { ArePlaces self.old.frames slice.now.places }
+        requires places { ArePlacesIn self.old.canvas slice.now.places }
         ensures same { KeepsPlace self.old self.new }
         ensures syntax { KeepsSyntax self.old self.new }
         ensures range { (coded : CodedMacroblock) → HoldsMacroblock self.old.mb coded → result ≡ transform_fits slice.now.context coded }
@@ -99,6 +101,10 @@ impl Sequence {
             HoldsMacroblock self.old.mb coded → coded.slice ≡ slice.now.context.number → IsPossible width slice.now.context picture coded.prediction →
             HasSamples making (picture ++ coded ∷ []) self.new }
     {
+        let offset = slice.context.chroma_qp_index_offset;
+        let Some(canvas) = &mut self.canvas else {
+            return residual_fits(&ReadLevels::new(&self.mb, offset));
+        };
         let (read, near) = (&self.mb, &self.picture.near);
         let references = SliceReferences {
             places: &slice.places,
@@ -120,17 +126,17 @@ impl Sequence {
             filter: &slice.filter,
         };
         let finish = Finish {
-            levels: ReadLevels::new(read, slice.context.chroma_qp_index_offset),
+            levels: ReadLevels::new(read, offset),
             coded,
         };
-        let (frame, pool) = (&mut self.frames.frame, &self.frames.pool);
-        go_on(&mut self.picture.lines, frame, &m, &finish, pool, position).is_ok()
+        let (frame, pool) = (&mut canvas.frames.frame, &canvas.frames.pool);
+        go_on(&mut canvas.lines, frame, &m, &finish, pool, position).is_ok()
     }
 
-    /// Makes the samples of a skipped macroblock in its place.
+    /// Makes the samples of a skipped macroblock in its place, where samples are made.
     pub(crate) fn make_skipped(&mut self, slice: &Slice, skipped: &Skipped)
         requires next { self.old.picture.next < self.old.size }
-        requires places { ArePlaces self.old.frames slice.now.places }
+        requires places { ArePlacesIn self.old.canvas slice.now.places }
         ensures same { KeepsPlace self.old self.new }
         ensures syntax { KeepsSyntax self.old self.new }
         ensures samples { (width size : ℕ) (making : Option Making) (picture : List CodedMacroblock) (coded : CodedMacroblock) →
@@ -138,6 +144,9 @@ impl Sequence {
             IsSkipped skipped.now coded → coded.slice ≡ slice.now.context.number → IsPossible width slice.now.context picture coded.prediction →
             AreNone (levels_of slice.now.context.chroma_qp_index_offset coded) → HasSamples making (picture ++ coded ∷ []) self.new }
     {
+        let Some(canvas) = &mut self.canvas else {
+            return;
+        };
         let references = SliceReferences {
             places: &slice.places,
             weights: &slice.weights,
@@ -148,9 +157,9 @@ impl Sequence {
             own: skipped,
             filter: &slice.filter,
         };
-        let (frame, pool) = (&mut self.frames.frame, &self.frames.pool);
+        let (frame, pool) = (&mut canvas.frames.frame, &canvas.frames.pool);
         go_on_skipped(
-            &mut self.picture.lines,
+            &mut canvas.lines,
             frame,
             &coded,
             &references,

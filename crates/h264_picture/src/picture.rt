@@ -2,15 +2,14 @@
 #![tactic(auto)]
 
 use h264_near::Near;
-use h264_recon::{Lines, Position};
+use h264_recon::Position;
 
-/// The picture that is decoded, as far as its next macroblock asks for it. Its memory is that of the sequence, and serves one picture after another.
+/// The picture that is decoded, as far as the syntax of its next macroblock asks for it. Its memory is that of the sequence, and serves one
+/// picture after another.
 #[derive(Drop)]
 pub(crate) struct Picture {
     /// The contexts of the macroblocks above and to the left of the next one.
     pub(crate) near: Near,
-    /// Their samples, before the deblocking filter.
-    pub(crate) lines: Lines,
     /// The address of the next macroblock.
     pub(crate) next: u32,
     /// Where it stands.

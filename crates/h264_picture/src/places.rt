@@ -2,8 +2,10 @@
 #![tactic(auto)]
 
 ghost use Rattle.std.specs.Prelude.{◌≡◌, ◌≢◌, ℕ, ◌-◌, ◌<◌, ◌≤◌, get_or, length};
-ghost use Rattle.h264_picture.specs.Sound.{IsPlace, ArePlaces};
+ghost use Rattle.h264_picture.specs.Sound.{IsPlace, ArePlaces, ArePlacesIn};
+ghost use Rattle.h264_picture.specs.declared.canvas.Canvas.{Canvas as CanvasModel};
 
+use crate::canvas::Canvas;
 use crate::frames::Frames;
 
 /// A place that is not this one.
@@ -31,7 +33,7 @@ fn place_within(frames: &Frames, place: u8, base: usize) -> u8
 }
 
 /// The places of sixteen frames.
-pub(crate) fn places_within(frames: &Frames, places: &[u8; 16], base: usize) -> [u8; 16]
+fn places_within(frames: &Frames, places: &[u8; 16], base: usize) -> [u8; 16]
     requires { 1 < length frames.now.pool }
     ensures stand { ArePlaces frames.now result }
     ensures values { (n : ℕ) → n < 16 → base ≤ get_or places.now n 0 → IsPlace frames.now (get_or places.now n 0 - base) →
@@ -42,4 +44,17 @@ pub(crate) fn places_within(frames: &Frames, places: &[u8; 16], base: usize) -> 
         own[n] = place_within(frames, places[n], base);
     }
     own
+}
+
+/// Likewise where there are frames; where there are none, no place is asked for.
+pub(crate) fn places_in(canvas: &Option<Canvas>, places: &[u8; 16], base: usize) -> [u8; 16]
+    requires { (c : CanvasModel) → canvas.now ≡ Some c → 1 < length c.frames.pool }
+    ensures stand { ArePlacesIn canvas.now result }
+    ensures values { (c : CanvasModel) → canvas.now ≡ Some c → (n : ℕ) → n < 16 → base ≤ get_or places.now n 0 →
+        IsPlace c.frames (get_or places.now n 0 - base) → get_or result n 0 ≡ get_or places.now n 0 - base }
+{
+    match canvas {
+        None => *places,
+        Some(canvas) => places_within(&canvas.frames, places, base),
+    }
 }

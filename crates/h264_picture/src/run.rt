@@ -17,7 +17,7 @@ impl Sequence {
     ghost use Rattle.h264_picture.specs.Levels.{transform_fits};
     ghost use Rattle.h264_picture.specs.Holds.{KeepsPlace};
     ghost use Rattle.h264_picture.specs.Making.{Making, HoldsMade, Reads};
-    ghost use Rattle.h264_picture.specs.Sound.{ArePlaces};
+    ghost use Rattle.h264_picture.specs.Sound.{ArePlacesIn};
 
     /// Reads macroblocks to the end of the slice data; so many are left in the picture.
     pub(crate) fn read_macroblocks<S: Elements>(
@@ -29,7 +29,7 @@ impl Sequence {
     ) -> Result<(), Stop>
         requires qp { self.old.mb.qp ≤ 51 }
         requires left { self.old.picture.next + left ≤ self.old.size }
-        requires places { ArePlaces self.old.frames slice.now.places }
+        requires places { ArePlacesIn self.old.canvas slice.now.places }
         requires room { HasRoom S.failures sink.old }
         ensures meets { (width size : ℕ) (making : Option Making) (picture : List CodedMacroblock) →
             Reads width size making slice.now picture self.old → Meets (span S.took S.failures sink.old sink.new)

@@ -66,7 +66,7 @@ impl Sequence {
     ghost use Rattle.h264_picture.specs.Levels.{transform_fits};
     ghost use Rattle.h264_picture.specs.Holds.{HoldsIn, IsWithin, Moves, KeepsPlace, RefersOn, RefersIf};
     ghost use Rattle.h264_picture.specs.Making.{Making, HasSamples, MakesIn, Reads};
-    ghost use Rattle.h264_picture.specs.Sound.{ArePlaces};
+    ghost use Rattle.h264_picture.specs.Sound.{ArePlacesIn};
     ghost use Rattle.h264_picture.specs.declared.slice.Slice.{Slice as SliceView};
 
     /// The next macroblock is the one after it.
@@ -129,7 +129,7 @@ impl Sequence {
     ) -> Result<Option<Standing>, Stop>
         requires qp { self.old.mb.qp ≤ 51 }
         requires left { self.old.picture.next + left ≤ self.old.size }
-        requires places { ArePlaces self.old.frames slice.now.places }
+        requires places { ArePlacesIn self.old.canvas slice.now.places }
         requires room { HasRoom S.failures sink.old }
         ensures meets { (width size : ℕ) (making : Option Making) (picture : List CodedMacroblock) →
             Reads width size making slice.now picture self.old → Meets (span S.took S.failures sink.old sink.new)
@@ -172,7 +172,7 @@ impl Sequence {
         requires some { skips.more < left }
         requires refers { has_picture_of slice.now.context 0 ≡ true }
         requires left { self.old.picture.next + left ≤ self.old.size }
-        requires places { ArePlaces self.old.frames slice.now.places }
+        requires places { ArePlacesIn self.old.canvas slice.now.places }
         ensures meets { (width size : ℕ) (making : Option Making) (picture : List CodedMacroblock) →
             Reads width size making slice.now picture self.old → Meets (span S.took S.failures sink.now sink.now)
             (syntax.Goes (λ p. Reads width size making slice.now p self.new) picture) (syntax.skip width slice.now.context picture skips.bit skips.more)
@@ -206,7 +206,7 @@ impl Sequence {
     ) -> Result<Option<Standing>, Stop>
         requires qp { self.old.mb.qp ≤ 51 }
         requires left { self.old.picture.next + left ≤ self.old.size }
-        requires places { ArePlaces self.old.frames slice.now.places }
+        requires places { ArePlacesIn self.old.canvas slice.now.places }
         requires room { HasRoom S.failures sink.old }
         ensures meets { (width size : ℕ) (making : Option Making) (picture : List CodedMacroblock) →
             Reads width size making slice.now picture self.old → Meets (span S.took S.failures sink.old sink.new)
@@ -246,7 +246,7 @@ impl Sequence {
     ) -> Result<Option<Standing>, Stop>
         requires qp { self.old.mb.qp ≤ 51 }
         requires left { self.old.picture.next + left ≤ self.old.size }
-        requires places { ArePlaces self.old.frames slice.now.places }
+        requires places { ArePlacesIn self.old.canvas slice.now.places }
         requires room { HasRoom S.failures sink.old }
         ensures meets { (width size : ℕ) (making : Option Making) (picture : List CodedMacroblock) →
             Reads width size making slice.now picture self.old → Meets (span S.took S.failures sink.old sink.new)
@@ -280,7 +280,7 @@ impl Sequence {
     ) -> Result<Option<Standing>, Stop>
         requires qp { self.old.mb.qp ≤ 51 }
         requires left { self.old.picture.next + left ≤ self.old.size }
-        requires places { ArePlaces self.old.frames slice.now.places }
+        requires places { ArePlacesIn self.old.canvas slice.now.places }
         requires room { HasRoom S.failures sink.old }
         ensures meets { (width size : ℕ) (making : Option Making) (picture : List CodedMacroblock) →
             Reads width size making slice.now picture self.old → Meets (span S.took S.failures sink.old sink.new)
@@ -314,7 +314,7 @@ impl Sequence {
         requires left { self.old.picture.next + left ≤ self.old.size }
         requires standing { IsWithin left standing }
         requires refers { RefersOn slice.now.context standing }
-        requires places { ArePlaces self.old.frames slice.now.places }
+        requires places { ArePlacesIn self.old.canvas slice.now.places }
         requires room { HasRoom S.failures sink.old }
         ensures meets { (width size : ℕ) (making : Option Making) (picture : List CodedMacroblock) →
             Reads width size making slice.now picture self.old → Meets (span S.took S.failures sink.old sink.new)

@@ -3,10 +3,13 @@
 
 ghost use Rattle.std.specs.Prelude.{◌≡◌, ◌%◌, ◌≤◌};
 ghost use Rattle.h264_base.specs.Call.{HasRoom, IsQuiet, span};
-ghost use Rattle.std.specs.Option.{option_map};
+ghost use Rattle.std.specs.Option.{option_and_then};
 ghost use Rattle.h264_picture.specs.declared.sequence.Sequence.{Sequence as SequenceModel};
+ghost use Rattle.h264_picture.specs.Lent.{frames_in};
+ghost use Rattle.h264_picture.specs.Purposes.{IsFor};
 
 use crate::frames::{Frames, PLACES};
+use crate::purpose::Purpose;
 use crate::samples::SliceSamples;
 use crate::sequence::Sequence;
 use h264_base::{Elements, Stop};
@@ -19,10 +22,12 @@ use std::mem;
 
 /// The place in which pictures are decoded, one after another.
 ///
-/// The frames of a sequence have the places from 0 on or from 17 on, by turns, so that a place names the same frame until the frames of its
-/// sequence are released.
+/// The pictures of a sequence have the places from 0 on or from 17 on, by turns, so that a place names the same picture until those of its
+/// sequence are released. Where frames are made, each place has one; where the verdict alone is asked for, none has.
 #[derive(Drop)]
 pub struct Work {
+    /// What its pictures are decoded for.
+    pub(crate) purpose: Purpose,
     /// The first place of the active sequence: 0 or 17.
     pub(crate) base: usize,
     pub(crate) active: Option<Sequence>,
@@ -30,16 +35,15 @@ pub struct Work {
     pub(crate) older: Option<Frames>,
 
     ghost within: { (base ≤ 17) × (base % 17 ≡ 0) },
+    ghost made: { IsFor purpose active older },
 }
 
-/// The frames of a sequence.
+/// The frames of a sequence, if it has them.
 fn frames_of(active: Option<Sequence>) -> Option<Frames>
-    ensures { result ≡ option_map (λ (s : SequenceModel). s.frames) active }
+    ensures { result ≡ option_and_then (λ (s : SequenceModel). frames_in s.canvas) active }
 {
-    match active {
-        None => None,
-        Some(sequence) => Some(sequence.frames),
-    }
+    let canvas = active?.canvas?;
+    Some(canvas.frames)
 }
 
 impl Work {
@@ -54,22 +58,25 @@ impl Work {
     ghost use Rattle.h264_sps.specs.Usable.{is_frame_size};
     ghost use Rattle.h264_picture.specs.Making.{Making, HoldsSamples, IsSliceOf, IsDecodedIn};
     ghost use Rattle.h264_picture.specs.Places.{first_place, is_active_place, places as places_of, lent, IsReleased, HasBegun, HasSize, KeepsOthers};
-    ghost use Rattle.h264_picture.specs.Places.{KeepsFrames, IsFrameOf};
+    ghost use Rattle.h264_picture.specs.Places.{purpose_of, MakesFrames, KeepsFrames, IsFrameOf};
 
-    /// A place for no pictures yet. It has no allocator.
-    pub fn new() -> Work
+    /// A place for no pictures yet, which will be decoded for this. It has no allocator.
+    pub fn new(purpose: Purpose) -> Work
+        ensures purpose { purpose_of result ≡ purpose }
         ensures none { (p : ℕ) → lent result p ≡ None }
         ensures released { IsReleased result }
     {
         Work {
+            purpose,
             base: 0,
             active: None,
             older: None,
         }
     }
 
-    /// Takes all memory of the pictures of a sequence: contexts, lines, and a frame more than its picture buffer holds. The frames that there were
-    /// keep their places until they are released; those that were not released before go. Memory: it was refused, and all is as before.
+    /// Takes all memory of the pictures of a sequence: contexts, and where frames are made lines and a frame more than its picture buffer holds. The
+    /// frames that there were keep their places until they are released; those that were not released before go. Memory: it was refused, and all is
+    /// as before.
     pub fn activate(&mut self, alloc: Global, sps: &Sps) -> Result<(), Stop>
         requires { is_frame_size sps.now.frame_size ≡ true }
         ensures serves { OnOk result (Serves sps.now.frame_size.width (sps.now.frame_size.width * sps.now.frame_size.height) self.new) }
@@ -78,8 +85,9 @@ impl Work {
         ensures kept { OnOk result (IsReleased self.old → KeepsFrames self.old self.new) }
         ensures older { OnOk result (IsReleased self.old → (p : ℕ) → lent self.old p ≢ None → is_active_place (first_place self.new) p ≡ false) }
         ensures err { IfErr result (λ e. (e ≡ Stop.Memory) × (self.new ≡ self.old)) }
+        ensures purpose { purpose_of self.new ≡ purpose_of self.old }
     {
-        let Ok(sequence) = Sequence::new(alloc, sps) else {
+        let Ok(sequence) = Sequence::new(alloc, self.purpose, sps) else {
             return Err(Stop::Memory);
         };
         self.older = frames_of(mem::replace(&mut self.active, Some(sequence)));
@@ -98,8 +106,16 @@ impl Work {
         ensures serves { (width size : ℕ) → Serves width size self.old → Serves width size self.new }
         ensures holds { (width size : ℕ) (picture : List CodedMacroblock) → HoldsMacroblocks width size picture self.old →
             HoldsMacroblocks width size picture self.new }
+        ensures purpose { purpose_of self.new ≡ purpose_of self.old }
     {
         self.older = None;
+    }
+
+    /// What its pictures are decoded for.
+    pub fn purpose(&self) -> Purpose
+        ensures { result ≡ purpose_of self.now }
+    {
+        self.purpose
     }
 
     /// The first place of the active sequence.
@@ -117,16 +133,17 @@ impl Work {
     {
         match &self.active {
             None => 0,
-            Some(sequence) => sequence.frames.len(),
+            Some(sequence) => sequence.places,
         }
     }
 
-    /// Begins a picture in the frame at this place, which is not lent until the picture's end: holds no macroblock.
+    /// Begins a picture at this place: holds no macroblock. Its frame, if frames are made, is not lent until the picture's end.
     pub fn begin(&mut self, place: usize)
         requires from { first_place self.old ≤ place }
         requires to { place < first_place self.old + places_of self.old }
         ensures holds { (width size : ℕ) → Serves width size self.old → HoldsMacroblocks width size [] self.new }
-        ensures samples { (width size : ℕ) (making : Making) → Serves width size self.old → HoldsSamples width size making [] self.new }
+        ensures samples { MakesFrames self.old → (width size : ℕ) (making : Making) → Serves width size self.old →
+            HoldsSamples width size making [] self.new }
         ensures begun { HasBegun place self.new }
         ensures none { lent self.new place ≡ None }
         ensures kept { KeepsOthers place self.old self.new }
@@ -134,6 +151,7 @@ impl Work {
         ensures places { places_of self.new ≡ places_of self.old }
         ensures size { (width height : ℕ) → HasSize width height self.old → HasSize width height self.new }
         ensures released { IsReleased self.old → IsReleased self.new }
+        ensures purpose { purpose_of self.new ≡ purpose_of self.old }
     {
         let k = place - self.base;
         match &mut self.active {
@@ -142,10 +160,11 @@ impl Work {
         }
     }
 
-    /// Ends the picture: its frame is lent again. That of a whole picture is the decoded picture (8).
+    /// Ends the picture: its frame, if frames are made, is lent again. That of a whole picture is the decoded picture (8).
     pub fn end(&mut self)
         ensures kept { KeepsFrames self.old self.new }
-        ensures ended { (width height place : ℕ) → HasSize width height self.old → HasBegun place self.old → IsFrameOf width height (lent self.new place) }
+        ensures ended { MakesFrames self.old → (width height place : ℕ) → HasSize width height self.old → HasBegun place self.old →
+            IsFrameOf width height (lent self.new place) }
         ensures decoded { (width size place : ℕ) (making : Making) (picture : List CodedMacroblock) → HoldsSamples width size making picture self.old →
             length picture ≡ size → HasBegun place self.old → IsDecodedIn self.old making picture (lent self.new place) }
         ensures holds { (width size : ℕ) (picture : List CodedMacroblock) → HoldsMacroblocks width size picture self.old → Serves width size self.new }
@@ -154,6 +173,7 @@ impl Work {
         ensures places { places_of self.new ≡ places_of self.old }
         ensures size { (width height : ℕ) → HasSize width height self.old → HasSize width height self.new }
         ensures released { IsReleased self.old → IsReleased self.new }
+        ensures purpose { purpose_of self.new ≡ purpose_of self.old }
     {
         match &mut self.active {
             None => {}
@@ -218,6 +238,7 @@ impl Work {
         ensures places { places_of self.new ≡ places_of self.old }
         ensures size { (width height : ℕ) → HasSize width height self.old → HasSize width height self.new }
         ensures released { IsReleased self.old → IsReleased self.new }
+        ensures purpose { purpose_of self.new ≡ purpose_of self.old }
     {
         let base = self.base;
         match &mut self.active {
@@ -232,18 +253,11 @@ impl FrameStore for Work {
 
     ghost lent = { lent_by_work };
 
-    fn frame(&self, place: usize) -> &Frame {
-        match &self.active {
-            None => {}
-            Some(sequence) => {
-                if self.base <= place && place - self.base < sequence.frames.len() {
-                    return sequence.frames.frame(place - self.base);
-                }
-            }
+    fn frame(&self, place: usize) -> Option<&Frame> {
+        if self.base <= place && place - self.base < PLACES {
+            let canvas = self.active.as_ref()?.canvas.as_ref()?;
+            return canvas.frames.frame(place - self.base);
         }
-        match &self.older {
-            None => unreachable!(),
-            Some(frames) => frames.frame(place - (PLACES - self.base)),
-        }
+        self.older.as_ref()?.frame(place - (PLACES - self.base))
     }
 }

@@ -1,4 +1,5 @@
-ghost use Rattle.std.specs.Prelude.{◌≡◌, ℕ, ◌<◌, IsTrue, is_some, Option, Some};
+ghost use Rattle.std.specs.Prelude.{◌≡◌, ℕ, Option};
+ghost use Rattle.std.specs.Option.{option_copied};
 ghost use Rattle.h264_plane.specs.declared.frame.Frame.{Frame as OneFrame};
 
 use crate::{Frame, Pool};
@@ -8,10 +9,9 @@ pub trait FrameStore {
     /// The frame at each place where there is one.
     ghost lent: { Self → ℕ → Option OneFrame };
 
-    /// The frame at a place.
-    fn frame(&self, place: usize) -> &Frame
-        requires { IsTrue (is_some (lent self.now place)) }
-        ensures { Some result.now ≡ lent self.now place };
+    /// The frame at a place, if one is lent there.
+    fn frame(&self, place: usize) -> Option<&Frame>
+        ensures { option_copied result ≡ lent self.now place };
 }
 
 impl FrameStore for Pool {
@@ -19,7 +19,10 @@ impl FrameStore for Pool {
 
     ghost lent = { lent_by };
 
-    fn frame(&self, place: usize) -> &Frame {
-        Pool::frame(self, place)
+    fn frame(&self, place: usize) -> Option<&Frame> {
+        if place < self.len() {
+            return Some(Pool::frame(self, place));
+        }
+        None
     }
 }

@@ -1,5 +1,6 @@
 -- The residual of a macroblock by the levels that it has.
-use Rattle.std.proofs.Common.{◌≡◌, ◌↔◌, ℕ, ◌+◌, ◌*◌, ◌/◌, ◌%◌, ◌<◌, Bool, true, false, ◌&&◌, IsTrue, IsOk, IfOk, Result, Ok, Err, List, [], get_or, replicate}
+use Rattle.std.proofs.Common.{◌≡◌, ◌≢◌, ◌↔◌, ℕ, zero, suc, ◌+◌, ◌*◌, ◌/◌, ◌%◌, ◌<◌, Bool}
+use Rattle.std.proofs.Common.{true, false, ◌&&◌, IsTrue, IsOk, IfOk, Result, Ok, Err, List, [], get_or, replicate}
 use Rattle.std.proofs.Common.{ℤ, pos, arith, refl, sym, ap, ◌∙◌}
 use Rattle.h264_plane.specs.Places.{index_of, column_of, row_of}
 use Rattle.h264_plane.specs.declared.frame.Component.TheVariants.{Y}
@@ -49,6 +50,10 @@ unfolding chroma_blocks
 coded_chroma t d d' ac b n is e =
     let some : (are_zero d && are_blank t) ≡ false = sym is ∙ n in
     rw (sym e, some) refl
+
+pub shown-some : (size n : ℕ) (l : List ℤ) → n ≢ 0 → shown size n l ≡ l
+shown-some size zero l h = absurd (h refl)
+shown-some size (suc n) l h = refl
 
 -- ---- luma blocks by the levels that were read
 
@@ -183,3 +188,9 @@ pcm_fits r e =
     let l = levels_in r in
     levels_whole l (ap (luma_fits l.qp) (pcm_luma r e) ∙ not_coded_luma_fits l.qp) (ap (chroma_fits l.qp_cb) (pcm_cb r e) ∙ not_coded_chroma_fits l.qp_cb)
     (ap (chroma_fits l.qp_cr) (pcm_cr r e) ∙ not_coded_chroma_fits l.qp_cr)
+
+-- ---- one plane after the other
+
+pub levels_last : (l : Levels) → luma_fits l.qp l.luma ≡ true → chroma_fits l.qp_cb l.cb ≡ true → levels_fit l ≡ chroma_fits l.qp_cr l.cr
+unfolding levels_fit
+levels_last l p q = rw (p, q) refl

@@ -1,5 +1,5 @@
 -- The levels of a coded macroblock, as its transform takes them (8.5). To be read beside the standard.
-use Rattle.std.specs.Prelude.{ℕ, ◌+◌, ◌*◌, ◌==◌, ◌&&◌, Bool, List, [], get_or, take, drop, ℤ, pos, if◌then◌else◌}
+use Rattle.std.specs.Prelude.{ℕ, ◌+◌, ◌*◌, ◌&&◌, Bool, List, [], get_or, take, drop, ℤ, pos, if◌then◌else◌}
 use Rattle.std.specs.Ordering.{int_eq}
 use Rattle.std.specs.List.{list_all}
 use Rattle.h264_tables.specs.ChromaQp.{chroma_qp_of}

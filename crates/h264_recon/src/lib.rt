@@ -18,6 +18,7 @@ mod intra;
 pub mod laws;
 mod macroblock;
 mod pcm;
+mod range;
 mod run;
 mod scaled;
 mod store;
@@ -31,6 +32,7 @@ pub use macroblock::{
     Available, IntraLuma, IntraModes, Macroblock, Motion, Motions, Position, Prediction,
     SliceReferences, Weighting,
 };
+pub use range::residual_fits;
 pub use scaled::ReadLevels;
 pub use store::{Lines, Samples, Store};
 pub use weights::SliceWeights;

@@ -78,7 +78,7 @@ fn plain_block(total: u8, levels: &[i16; 16], qp: u8) -> Result<Option<[i16; 16]
 
 /// The levels of the block of this number.
 #[inline(always)]
-fn levels_at<const N: usize>(levels: &[[i16; N]; 16], b: usize) -> &[i16; N]
+pub(crate) fn levels_at<const N: usize>(levels: &[[i16; N]; 16], b: usize) -> &[i16; N]
     requires { b < 16 }
     ensures { result.now ≡ get_or levels.now b (replicate N (pos 0)) }
 {

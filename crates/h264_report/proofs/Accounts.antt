@@ -4,11 +4,10 @@ use Rattle.std.specs.Io.KnownBytes.{Keeps}
 use Rattle.circular_buffer.specs.Buffer.{keep_last}
 use Rattle.h264_base.specs.Call.{Call, span}
 use Rattle.h264_base.specs.declared.mode.Target.{Target}
-use Rattle.h264_base.specs.declared.mode.Mode.TheVariants.{Full}
+use Rattle.h264_base.specs.declared.mode.Mode.{Mode}
+use Rattle.h264_base.specs.declared.mode.Mode.TheVariants as modes
 use Rattle.h264_base.specs.declared.stop.Stop.{Stop}
 use Rattle.h264_base.specs.declared.stop.Stop.TheVariants.{No, Outside, Memory, Read, Write}
-use Rattle.h264_plane.specs.Frames.{no_frame}
-use Rattle.h264_plane.specs.declared.frame.Frame.{Frame}
 use Rattle.h264_lines.specs.Objects.{Opening, bare}
 use Rattle.h264_lines.specs.Sent.{Sends, Takes, IsBlamed, LentWriter, lent, wrote}
 use Rattle.h264_lines.specs.Told.{lines_of, bytes_of, elements_of, HoldsCalls, LineSinkState, TookLines, TookFrames}
@@ -24,7 +23,8 @@ use Rattle.h264_lines.proofs.Sinks.{lined}
 use Rattle.h264_verify.specs.Verdict.{Judged}
 use Rattle.h264_base.specs.declared.summary.Summary.{Summary}
 use Rattle.h264_verify.specs.declared.state.Terms.{Terms}
-use Rattle.h264_verify.specs.Units.{terms_of}
+use Rattle.h264_verify.specs.Units.{terms_of, extent_by}
+use Rattle.h264_verify.specs.Telling.{Family}
 use Rattle.h264_verify.proofs.Verdicts.{judges-judged, none-judged}
 use Rattle.h264_verify.proofs.Accounts.{accounts, front-of}
 
@@ -33,11 +33,25 @@ use Rattle.h264_verify.proofs.Accounts.{accounts, front-of}
 module _ {terms : Terms} {bytes : List ℕ} where
   -- the same calls, up to a want of memory
   abbrev up-to-memory : (answer : Result Summary Stop) → Account terms bytes answer → Account terms bytes (Err Memory)
-  up-to-memory answer a = record { frames = a.frames; told = a.told; decoded = a.decoded; answers = front-of terms bytes a.told answer a.answers }
+  up-to-memory answer a = record {
+    frames = a.frames;
+    family = a.family;
+    told = a.told;
+    decoded = a.decoded;
+    answers = front-of (extent_by terms) bytes
+        a.told answer a.answers;
+  }
 
   -- and up to a write that failed
   abbrev up-to-write : (answer : Result Summary Stop) → Account terms bytes answer → Account terms bytes (Err Write)
-  up-to-write answer a = record { frames = a.frames; told = a.told; decoded = a.decoded; answers = front-of terms bytes a.told answer a.answers }
+  up-to-write answer a = record {
+    frames = a.frames;
+    family = a.family;
+    told = a.told;
+    decoded = a.decoded;
+    answers = front-of (extent_by terms) bytes
+        a.told answer a.answers;
+  }
 
   module _ {make : List Call → List ℕ} {start known : Option (List ℕ)} where
     -- What is told of a stream of which a writer took this.
@@ -88,7 +102,7 @@ module _ {terms : Terms} {bytes : List ℕ} where
     said-answer answer said (inr e) stays w = subst (λ a. Writes make terms bytes a start known) (sym e) (short answer (λ is. let d = sym e ∙ stays is in cc) w)
 
 -- What the writer after a sink took that had taken nothing.
-pub writes : {S : Type 0} {took : S → List Call → Type 0} {failures : S → ℕ} {terms : Terms} {bytes : List ℕ} {frames : ℕ → Frame} {s s' : S}
+pub writes : {S : Type 0} {took : S → List Call → Type 0} {failures : S → ℕ} {terms : Terms} {bytes : List ℕ} {frames : Family} {s s' : S}
     {answer said : Result Summary Stop} (make : List Call → List ℕ) (start known : Option (List ℕ)) (broke_off : Bool) →
     said ≡ told_of broke_off answer → Judged terms (span took failures s s') bytes frames [] answer → took s [] →
     ((calls : List Call) → took s' calls → HoldsCalls broke_off make start known calls) → Writes make terms bytes said start known
@@ -205,8 +219,16 @@ pub told-account : {terms : Terms} {bytes : List ℕ} (answer said : Result Summ
     (a : Account terms bytes answer) → (b : Account terms bytes said) × (calls_in b ≡ calls_in a)
 told-account {terms} {bytes} answer said (inl e) a = subst (λ x. (b : Account terms bytes x) × (calls_in b ≡ calls_in a)) (sym e) (a, refl)
 told-account {terms} {bytes} answer said (inr e) a =
-    subst (λ x. (b : Account terms bytes x) × (calls_in b ≡ calls_in a)) (sym e)
-    (record { frames = a.frames; told = a.told; decoded = a.decoded; answers = front-of terms bytes a.told answer a.answers }, refl)
+    subst (λ x. (b : Account terms bytes x) × (calls_in b ≡ calls_in a)) (sym e) (
+      record {
+        frames = a.frames;
+        family = a.family;
+        told = a.told;
+        decoded = a.decoded;
+        answers = front-of (extent_by terms) bytes a.told answer a.answers;
+      },
+      refl,
+    )
 
 -- and then what was held back was written
 pub kept : {make : List Call → List ℕ} {terms : Terms} {bytes : List ℕ} {answer : Result Summary Stop} {old mid new : Option (List ℕ)} →
@@ -234,10 +256,10 @@ module _ (es : List Element) where
 
   -- without them the last line stands alone
   pub takes-bare : (answer said : Result Summary Stop) (written : Bool) (old new : Option (List ℕ)) → is_no answer ≡ false → (said ≡ answer) ⊎
-      (said ≡ Err Memory) → Takes written old new (last_line Full said) → Takes written old new (trail_text es said ++ last_line Full said)
+      (said ≡ Err Memory) → Takes written old new (last_line modes.Full said) → Takes written old new (trail_text es said ++ last_line modes.Full said)
   takes-bare answer said written old new e t takes =
       let none : trail_text es said ≡ [] = ⊎_elim (λ same. ap (trail_text es) same ∙ bare-answer answer e) (λ memory. ap (trail_text es) memory) t in
-      subst (λ l. Takes written old new (l ++ last_line Full said)) (sym none) takes
+      subst (λ l. Takes written old new (l ++ last_line modes.Full said)) (sym none) takes
 
 pub not-read : {A : Type 0} (answer : Result Summary Stop) → is_no answer ≡ true → answer ≡ Err Read → A
 not-read answer e r = absurd (let d : false ≡ true = sym (ap is_no r) ∙ e in cc)
@@ -249,39 +271,40 @@ none-elements s e = e
 -- ---- the commands
 
 -- the lines and the last line
-pub listed : {terms : Terms} {listing : Listing} {bytes : List ℕ} (answer : Result Summary Stop) (ending : Ending) (old mid new : Option (List ℕ)) →
+pub listed : {mode : Mode} {target : Target} {listing : Listing} {bytes : List ℕ} (answer : Result Summary Stop) (ending : Ending)
+    (old mid new : Option (List ℕ)) →
     (ending.answer ≡ answer) ⊎ (ending.answer ≡ Err Memory) → (answer ≡ Err Write → ending.answer ≡ Err Write) →
-    Writes (lines_of bare listing 0) terms bytes answer old mid → Takes ending.written mid new (last_line terms.mode ending.answer) →
-    Lists terms listing bytes ending (wrote old new)
-listed {terms} {listing} answer ending old mid new e stays w t =
+    Writes (lines_of bare listing 0) (terms_of mode target) bytes answer old mid → Takes ending.written mid new (last_line mode ending.answer) →
+    Lists mode target listing bytes ending (wrote old new)
+listed {mode} answer ending old mid new e stays w t =
     let v = said-answer answer ending.answer e stays w in
     record {
       account = v.account;
       lines = v.text;
       are_lines = v.is_written;
-      text = takes-after ending.written new (last_line terms.mode ending.answer) v.sends t;
+      text = takes-after ending.written new (last_line mode ending.answer) v.sends t;
     }
 
 -- the last elements of what a sink took, and the last line
-pub checked : {S : Type 0} {target : Target} {took : S → List Call → Type 0} {failures : S → ℕ} {bytes : List ℕ} {frames : ℕ → Frame} {s s' : S}
+pub checked : {S : Type 0} {target : Target} {took : S → List Call → Type 0} {failures : S → ℕ} {bytes : List ℕ} {frames : Family} {s s' : S}
     {answer : Result Summary Stop} {ending : Ending} (trail : S → List Element) (old new : Option (List ℕ)) →
-    Judged (terms_of Full target) (span took failures s s') bytes frames [] answer → took s [] →
+    Judged (terms_of modes.Verdict target) (span took failures s s') bytes frames [] answer → took s [] →
     ((calls : List Call) → took s' calls → trail s' ≡ keep_last 16 (elements_of calls)) → (ending.answer ≡ answer) ⊎ (ending.answer ≡ Err Memory) →
-    Takes ending.written old new (trail_text (trail s') ending.answer ++ last_line Full ending.answer) → Checks target bytes ending (wrote old new)
+    Takes ending.written old new (trail_text (trail s') ending.answer ++ last_line modes.Full ending.answer) → Checks target bytes ending (wrote old new)
 checked {s' = s'} {answer = answer} {ending = ending} trail old new j none holds e t =
     let a = accounts j none in
     let b = told-account answer ending.answer e a.0 in
     let is : trail s' ≡ keep_last 16 (elements_of (calls_in b.0)) = holds (calls_in a.0) a.1 ∙ ap (λ calls. keep_last 16 (elements_of calls)) (sym b.1) in
-    record { account = b.0; text = subst (λ es. Takes ending.written old new (trail_text es ending.answer ++ last_line Full ending.answer)) is t }
+    record { account = b.0; text = subst (λ es. Takes ending.written old new (trail_text es ending.answer ++ last_line modes.Full ending.answer)) is t }
 
 -- there was no memory for a sink
 pub none-checked : (target : Target) (bytes : List ℕ) (ending : Ending) (old new : Option (List ℕ)) → ending.answer ≡ Err Memory →
-    Takes ending.written old new (last_line Full (Err Memory)) → Checks target bytes ending (wrote old new)
+    Takes ending.written old new (last_line modes.Full (Err Memory)) → Checks target bytes ending (wrote old new)
 none-checked target bytes ending old new e t =
     let none : ℕ = 0 in
     let took : Unit {0} → List Call → Type 0 = λ s calls. Unit {0} in
-    let j = judges-judged (terms_of Full target) took (λ s. none) bytes (λ k. no_frame) tt tt (Err Memory)
-    (none-judged (terms_of Full target) took (λ s. none) bytes (λ k. no_frame) tt) in
+    let j = judges-judged (terms_of modes.Verdict target) took (λ s. none) bytes None tt tt (Err Memory)
+    (none-judged (terms_of modes.Verdict target) took (λ s. none) bytes None tt tt) in
     let a = (accounts j tt).0 in
     let c : Checks target bytes (record { answer = Err Memory; written = ending.written }) (wrote old new) = record { account = a; text = t } in
     subst (λ x. Checks target bytes (record { answer = x; written = ending.written }) (wrote old new)) (sym e) c
@@ -289,7 +312,8 @@ none-checked target bytes ending old new e t =
 -- the frames, and the last line elsewhere
 pub decoded : {target : Target} {bytes : List ℕ} (answer : Result Summary Stop) (ending : Ending) (old mid new err_old err_new : Option (List ℕ)) →
     (ending.answer ≡ answer) ⊎ (ending.answer ≡ Err Memory) → (answer ≡ Err Write → ending.answer ≡ Err Write) →
-    Writes bytes_of (terms_of Full target) bytes answer old mid → Keeps mid new → Takes ending.written err_old err_new (last_line Full ending.answer) →
+    Writes bytes_of (terms_of modes.Full target) bytes answer old mid → Keeps mid new →
+    Takes ending.written err_old err_new (last_line modes.Full ending.answer) →
     Decodes target bytes ending (wrote old new) (wrote err_old err_new)
 decoded answer ending old mid new err_old err_new e stays w k t = record { frames = kept (said-answer answer ending.answer e stays w) k; text = t }
 

@@ -51,11 +51,11 @@ last_line mode answer = ended (verdict_text mode answer)
 -- ---- the commands
 
 -- The lines of a listing, and after them the last line.
-pub record Lists (terms : Terms) (listing : Listing) (bytes : List ℕ) (ending : Ending) (out : WriterSpan) : Type 0 where
-  pub account : Account terms bytes ending.answer
+pub record Lists (mode : Mode) (target : Target) (listing : Listing) (bytes : List ℕ) (ending : Ending) (out : WriterSpan) : Type 0 where
+  pub account : Account (terms_of mode target) bytes ending.answer
   pub lines : List ℕ
   pub are_lines : IsWritten (lines_of bare listing 0) ending.answer (calls_in account) lines
-  pub text : Takes ending.written out.old out.new (lines ++ last_line terms.mode ending.answer)
+  pub text : Takes ending.written out.old out.new (lines ++ last_line mode ending.answer)
 
 -- a rule is broken
 abbrev pub is_no : Result Summary Stop → Bool
@@ -75,9 +75,9 @@ trail_text es (Err Memory) = []
 trail_text es (Err Read) = []
 trail_text es (Err Write) = []
 
--- After a no the last 16 elements, the oldest first, and after them the last line; else the last line alone.
+-- The stream is judged without its frames. After a no the last 16 elements, the oldest first, and after them the last line; else the last line alone.
 pub record Checks (target : Target) (bytes : List ℕ) (ending : Ending) (out : WriterSpan) : Type 0 where
-  pub account : Account (terms_of modes.Full target) bytes ending.answer
+  pub account : Account (terms_of modes.Verdict target) bytes ending.answer
   pub text : Takes ending.written out.old out.new
       (trail_text (keep_last 16 (elements_of (calls_in account))) ending.answer ++ last_line modes.Full ending.answer)
 

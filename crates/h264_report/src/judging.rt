@@ -23,7 +23,7 @@ use h264_lines::sheet::{Pen, Sheet};
 use h264_lines::trail::Trail;
 use h264_lines::trail_sink::TrailSink;
 use h264_lines::yuv_sink::YuvSink;
-use h264_verify::{Source, Summary, Terms, run};
+use h264_verify::{Source, Summary, run};
 use std::alloc::Global;
 use std::marker::Brand;
 
@@ -140,7 +140,8 @@ pub fn put_answer<W: Device>(
 /// Judges a stream, and writes the lines of its calls through a pen.
 fn run_lines<'a, K: Sheet, R: Source, W: Device>(
     alloc: Global,
-    terms: Terms,
+    mode: Mode,
+    target: Target,
     listing: Listing,
     source: &mut R,
     pen: Pen<'a, W>,
@@ -153,8 +154,8 @@ fn run_lines<'a, K: Sheet, R: Source, W: Device>(
     requires listing { listing ≡ K.listing }
     ensures same_reference { result.0.out.ghost_name ≡ K.name }
     ensures lines { (bytes : List ℕ) → R.left source.old ≡ Some bytes →
-        Writes (lines_of K.opening K.listing 0) terms bytes result.1 K.start (W.contents result.0.out.now) }
-    ensures some { (bytes : List ℕ) × Writes (lines_of K.opening K.listing 0) terms bytes result.1 K.start (W.contents result.0.out.now) }
+        Writes (lines_of K.opening K.listing 0) (terms_of mode target) bytes result.1 K.start (W.contents result.0.out.now) }
+    ensures some { (bytes : List ℕ) × Writes (lines_of K.opening K.listing 0) (terms_of mode target) bytes result.1 K.start (W.contents result.0.out.now) }
     ensures read { IsErrOf result.1 Stop.Read → (R.failures source.new ≡ R.failures source.old + 1)
         ⊎ ((n : ℕ) → R.was_read source.old n → R.was_read source.new (n + 2 ^ 41)) }
     ensures read_told { (IsQuiet R.failures source.old source.new) ⊎ (IsErrOf result.1 Stop.Read ⊎ IsErrOf result.1 Stop.Write) }
@@ -162,7 +163,7 @@ fn run_lines<'a, K: Sheet, R: Source, W: Device>(
     ensures quiet { result.1 ≢ Err Stop.Write → W.has_failed result.0.out.now ≡ K.was_failed }
 {
     let mut sink: LineSink<'_, '_, W, K> = LineSink::new(alloc, listing, Form::Lines(""), pen);
-    let answer = run(alloc, source, &mut sink, terms.mode, terms.target);
+    let answer = run(alloc, source, &mut sink, mode, target);
     let broke_off = sink.broke_off();
     (sink.into_pen(), told_answer(answer, broke_off))
 }
@@ -170,15 +171,16 @@ fn run_lines<'a, K: Sheet, R: Source, W: Device>(
 /// Judges a stream, and writes the lines of its calls; the answer that is to be told.
 fn write_lines<R: Source, W: Device>(
     alloc: Global,
-    terms: Terms,
+    mode: Mode,
+    target: Target,
     listing: Listing,
     source: &mut R,
     out: &mut W,
 ) -> Result<Summary, Stop>
     requires { HasRoom R.failures source.old }
     ensures lines { (bytes : List ℕ) → R.left source.old ≡ Some bytes →
-        Writes (lines_of bare listing 0) terms bytes result (W.contents out.old) (W.contents out.new) }
-    ensures some { (bytes : List ℕ) × Writes (lines_of bare listing 0) terms bytes result (W.contents out.old) (W.contents out.new) }
+        Writes (lines_of bare listing 0) (terms_of mode target) bytes result (W.contents out.old) (W.contents out.new) }
+    ensures some { (bytes : List ℕ) × Writes (lines_of bare listing 0) (terms_of mode target) bytes result (W.contents out.old) (W.contents out.new) }
     ensures read { IsErrOf result Stop.Read → (R.failures source.new ≡ R.failures source.old + 1)
         ⊎ ((n : ℕ) → R.was_read source.old n → R.was_read source.new (n + 2 ^ 41)) }
     ensures read_told { (IsQuiet R.failures source.old source.new) ⊎ (IsErrOf result Stop.Read ⊎ IsErrOf result Stop.Write) }
@@ -186,23 +188,24 @@ fn write_lines<R: Source, W: Device>(
     ensures quiet { result ≢ Err Stop.Write → W.has_failed out.new ≡ W.has_failed out.old }
 {
     let pen = Pen { out };
-    let (_, answer) = run_lines::<Brand, R, W>(alloc, terms, listing, source, pen);
+    let (_, answer) = run_lines::<Brand, R, W>(alloc, mode, target, listing, source, pen);
     answer
 }
 
-/// Judges a stream by these terms, with a line for each call of the listing, and then the last line.
+/// Judges a stream so far, for this target, with a line for each call of the listing, and then the last line.
 ///
 /// The answer is Read where a read failed, or where the source was read 2^41 times; Write where the device failed within a line; Memory where memory
 /// was wanting.
 pub fn list<R: Source, W: Device>(
     alloc: Global,
-    terms: Terms,
+    mode: Mode,
+    target: Target,
     listing: Listing,
     source: &mut R,
     out: &mut W,
 ) -> Ending
     requires { HasRoom R.failures source.old }
-    ensures lists { OfBytes (R.left source.old) (λ bytes. Lists terms listing bytes result (wrote (W.contents out.old) (W.contents out.new))) }
+    ensures lists { OfBytes (R.left source.old) (λ bytes. Lists mode target listing bytes result (wrote (W.contents out.old) (W.contents out.new))) }
     ensures read { IsErrOf result.answer Stop.Read → (R.failures source.new ≡ R.failures source.old + 1)
         ⊎ ((n : ℕ) → R.was_read source.old n → R.was_read source.new (n + 2 ^ 41)) }
     // A read that failed is told as Read; or as Write, where a write failed too.
@@ -212,8 +215,8 @@ pub fn list<R: Source, W: Device>(
     ensures handed_over { result.written ≡ true → W.holds_back out.new ≡ false }
     ensures failed { result.written ≡ false → W.has_failed out.new ≡ true }
 {
-    let answer = write_lines(alloc, terms, listing, source, out);
-    put_answer(alloc, terms.mode, answer, out)
+    let answer = write_lines(alloc, mode, target, listing, source, out);
+    put_answer(alloc, mode, answer, out)
 }
 
 /// Whether a rule is broken.
@@ -261,7 +264,8 @@ fn put_trail<W: Device>(
     }
 }
 
-/// Judges a stream whole, for this target. After a no its last elements are written, the oldest first, and then the last line; else that alone.
+/// Judges a stream whole, for this target, and makes no frames. After a no its last elements are written, the oldest first, and then the last line; else
+/// that alone.
 ///
 /// The answer is Read where a read failed, or where the source was read 2^41 times; Memory where memory was wanting; never Write.
 pub fn check<R: Source, W: Device>(
@@ -284,7 +288,7 @@ pub fn check<R: Source, W: Device>(
     let Ok(mut sink) = TrailSink::new(alloc) else {
         return put_memory(out);
     };
-    let answer = run(alloc, source, &mut sink, Mode::Full, target);
+    let answer = run(alloc, source, &mut sink, Mode::Verdict, target);
     put_trail(alloc, sink.trail(), answer, out)
 }
 

@@ -3,8 +3,9 @@
 
 ghost use Rattle.std.specs.Prelude.{◌≡◌, ℕ, ◌+◌, ◌-◌, ◌<◌, ◌^◌, ◌⊎◌, Bool, true, List, [], Some, OnOk, IsErrOf};
 ghost use Rattle.h264_base.specs.Call.{HasRoom, IsQuiet, span};
-ghost use Rattle.h264_plane.specs.declared.frame.Frame.{Frame};
 ghost use Rattle.h264_verify.specs.Giving.{AreFirst};
+ghost use Rattle.h264_verify.specs.Modes.{purpose_for};
+ghost use Rattle.h264_verify.specs.Telling.{Family, IsFamilyFor};
 ghost use Rattle.h264_verify.specs.Units.{terms_of};
 ghost use Rattle.h264_verify.specs.Verdict.{Judged};
 ghost use Rattle.h264_strict.specs.StrictUnits.{TellsOfBytes};
@@ -36,10 +37,11 @@ fn judge_inside<'a, K: Inside, R: Source, S: FrameSink>(
     requires sink { HasRoom S.failures sink.old }
     requires source { HasRoom R.failures lent.source.now }
     ensures same_reference { result.0.source.ghost_name ≡ K.name }
-    ensures verdict { (bytes : List ℕ) → R.left lent.entry.source.now ≡ Some bytes → (frames : ℕ → Frame) →
+    ensures verdict { (bytes : List ℕ) → R.left lent.entry.source.now ≡ Some bytes → (frames : Family) → IsFamilyFor (purpose_for mode) frames →
         Judged (terms_of mode target) (span S.took S.failures sink.old sink.new) bytes frames [] result.1.answer }
     ensures units { (bytes : List ℕ) × (ended : Bool) × AreFirst (R.left lent.entry.source.now) bytes ended × OnOk result.1.answer (ended ≡ true)
-        × ((frames : ℕ → Frame) → Judged (terms_of mode target) (span S.took S.failures sink.old sink.new) bytes frames [] result.1.answer)
+        × ((frames : Family) → IsFamilyFor (purpose_for mode) frames →
+        Judged (terms_of mode target) (span S.took S.failures sink.old sink.new) bytes frames [] result.1.answer)
         × TellsOfBytes result.1.units.extent ended result.1.units.found result.1.units.lack bytes }
     ensures read { IsErrOf result.1.answer Stop.Read → (R.failures result.0.source.now ≡ R.failures lent.entry.source.now + 1)
         ⊎ ((n : ℕ) → R.was_read lent.entry.source.now n → R.was_read result.0.source.now (n + 2 ^ 41)) }
@@ -65,11 +67,12 @@ pub fn judge_strictly<R: Source, S: FrameSink>(
 ) -> StrictJudgement
     requires sink { HasRoom S.failures sink.old }
     requires source { HasRoom R.failures source.old }
-    ensures verdict { (bytes : List ℕ) → R.left source.old ≡ Some bytes → (frames : ℕ → Frame) →
+    ensures verdict { (bytes : List ℕ) → R.left source.old ≡ Some bytes → (frames : Family) → IsFamilyFor (purpose_for mode) frames →
         Judged (terms_of mode target) (span S.took S.failures sink.old sink.new) bytes frames [] result.answer }
     // The answer and what is told of units are on the same bytes, which are the first of the source's; and a yes comes after its end.
     ensures units { (bytes : List ℕ) × (ended : Bool) × AreFirst (R.left source.old) bytes ended × OnOk result.answer (ended ≡ true)
-        × ((frames : ℕ → Frame) → Judged (terms_of mode target) (span S.took S.failures sink.old sink.new) bytes frames [] result.answer)
+        × ((frames : Family) → IsFamilyFor (purpose_for mode) frames →
+        Judged (terms_of mode target) (span S.took S.failures sink.old sink.new) bytes frames [] result.answer)
         × TellsOfBytes result.units.extent ended result.units.found result.units.lack bytes }
     ensures read { IsErrOf result.answer Stop.Read → (R.failures source.new ≡ R.failures source.old + 1)
         ⊎ ((n : ℕ) → R.was_read source.old n → R.was_read source.new (n + 2 ^ 41)) }

@@ -5,6 +5,7 @@ pub mod Vectors
 pub mod Scaled
 pub mod Blocks
 pub mod Small
+pub mod Sizes
 pub mod Products
 pub mod Corners
 pub mod Whole

@@ -4,8 +4,6 @@ use Rattle.std.specs.Prelude.{IfNone, IfSome}
 use Rattle.h264_base.specs.Call.{Call, span}
 use Rattle.h264_base.specs.declared.stop.Stop.{Stop}
 use Rattle.h264_base.specs.declared.stop.Stop.TheVariants.{No, Outside, Memory, Read, Write}
-use Rattle.h264_plane.specs.Frames.{no_frame}
-use Rattle.h264_plane.specs.declared.frame.Frame.{Frame}
 use Rattle.h264_stream.specs.Decoding.{IsDecoding, HasDecoded, HasGrown}
 use Rattle.h264_stream.specs.Queue.{Waits, IsFilled, frames_of, told_of_frames}
 use Rattle.h264_verify.specs.Account.{Answers, Account, calls_in}
@@ -15,31 +13,33 @@ use Rattle.h264_stream.proofs.Queued.{waits-begun, waits-taken, waits-filled}
 use Rattle.h264_verify.proofs.AgreeingUnits.{calls-both, decoded-both}
 use Rattle.h264_verify.specs.Feeding.{WasFed, IsFed}
 use Rattle.h264_verify.specs.Progress.{Progress}
-use Rattle.h264_verify.specs.Telling.{Told, Tells, took_with, calls_of, AreDecoded}
+use Rattle.h264_verify.specs.Telling.{Told, Tells, Family, IsFamilyFor, took_with, calls_of, AreDecoded}
 use Rattle.h264_verify.specs.Verdict.{Judged, JudgedBy}
 use Rattle.h264_base.specs.declared.summary.Summary.{Summary}
 use Rattle.h264_verify.specs.declared.state.Terms.{Terms}
+use Rattle.h264_verify.specs.Units.{extent_by}
 use Rattle.h264_verify.proofs.Accounts.{taken}
+use Rattle.h264_verify.proofs.Purposes.{some-family, with-family}
 
 -- A sink that had taken nothing took some more of a stream.
-record Took {S : Type 0} (took : S → List Call → Type 0) (frames : ℕ → Frame) (s' : S) (more : List Told) : Type 0 where
+record Took {S : Type 0} (took : S → List Call → Type 0) (frames : Family) (s' : S) (more : List Told) : Type 0 where
   pub decoded : AreDecoded frames more
   pub calls : took s' (calls_of frames more)
 
 -- ---- and of a stream whose verdict has fallen
 
-record Answered {S : Type 0} (took : S → List Call → Type 0) (terms : Terms) (bytes : List ℕ) (frames : ℕ → Frame) (told : List Told) (s' : S)
+record Answered {S : Type 0} (took : S → List Call → Type 0) (terms : Terms) (bytes : List ℕ) (frames : Family) (told : List Told) (s' : S)
     (answer : Result Summary Stop) : Type 0 where
   pub more : List Told
   pub took_more : Took took frames s' more
-  pub answers : Answers terms bytes (told ++ more) answer
+  pub answers : Answers (extent_by terms) bytes (told ++ more) answer
 
-module _ {S : Type 0} (took : S → List Call → Type 0) (failures : S → ℕ) (terms : Terms) (bytes : List ℕ) (frames : ℕ → Frame) (told : List Told) (s s' : S)
+module _ {S : Type 0} (took : S → List Call → Type 0) (failures : S → ℕ) (terms : Terms) (bytes : List ℕ) (frames : Family) (told : List Told) (s s' : S)
     (none : took s []) where
   tells-took : (more : List Told) → Tells (took_with frames took) s s' more → Took took frames s' more
   tells-took more t = let a = taken frames took s s' more none t in record { decoded = a.0; calls = a.1 }
 
-  judged-answered : (answer : Result Summary Stop) → JudgedBy terms (span (took_with frames took) failures s s') bytes told answer →
+  judged-answered : (answer : Result Summary Stop) → JudgedBy (extent_by terms) (span (took_with frames took) failures s s') bytes told answer →
       Answered took terms bytes frames told s' answer
   judged-answered (Ok summary) j = record { more = j.0.more; took_more = tells-took j.0.more j.0.tells; answers = j.0.verdict }
   judged-answered (Err (No bit rule)) j = record { more = j.0.more; took_more = tells-took j.0.more j.0.tells; answers = j.0.verdict }
@@ -61,12 +61,18 @@ module _ {S : Type 0} (took : S → List Call → Type 0) (failures : S → ℕ)
   }
 
 -- the account of what was told before and of what was told then
-pub accounted : {S : Type 0} {took : S → List Call → Type 0} {failures : S → ℕ} {terms : Terms} {bytes : List ℕ} {frames : ℕ → Frame} {told : List Told}
+pub accounted : {S : Type 0} {took : S → List Call → Type 0} {failures : S → ℕ} {terms : Terms} {bytes : List ℕ} {frames : Family} {told : List Told}
     {s s' : S} {answer : Result Summary Stop} → Judged terms (span took failures s s') bytes frames told answer → AreDecoded frames told → took s [] →
     Account terms bytes answer
 accounted {S} {took} {failures} {terms} {bytes} {frames} {told} {s} {s'} {answer} j d none =
     let a = judged-answered took failures terms bytes j.made told s s' none answer j.judged in
-    record { frames = j.made; told = told ++ a.more; decoded = decoded-both j.made told a.more (j.same.decoded d) a.took_more.decoded; answers = a.answers }
+    record {
+      frames = j.made;
+      family = j.family;
+      told = told ++ a.more;
+      decoded = decoded-both j.made told a.more (j.same.decoded d) a.took_more.decoded;
+      answers = a.answers;
+    }
 
 -- ---- the answer that is told, where no device can fail
 
@@ -83,7 +89,7 @@ told-account (Err (No bit rule)) a = a
 told-account (Err (Outside bit feature)) a = a
 told-account (Err Memory) a = a
 told-account (Err Read) a = a
-told-account (Err Write) a = record { frames = a.frames; told = a.told; decoded = a.decoded; answers = a.answers }
+told-account (Err Write) a = record { frames = a.frames; family = a.family; told = a.told; decoded = a.decoded; answers = a.answers }
 
 pub never-read : (answer : Result Summary Stop) → (answer ≡ Err Read → ⊥) → told_of false answer ≡ Err Read → ⊥
 never-read (Ok summary) never e = cc
@@ -104,7 +110,7 @@ never-write (Err Write) e = let f = same-stop e in cc
 -- ---- with a queue
 
 -- what waits of what was told with these frames, and of what was told then
-waits-then : {n m : ℕ} {waiting later : List ShownFrame} (frames made : ℕ → Frame) (told more : List Told) → calls_of made told ≡ calls_of frames told →
+waits-then : {n m : ℕ} {waiting later : List ShownFrame} (frames made : Family) (told more : List Told) → calls_of made told ≡ calls_of frames told →
     Waits n waiting (calls_of frames told) → IsFilled n (told_of_frames waiting) m later (calls_of made more) → Waits m later (calls_of made (told ++ more))
 waits-then {n} {m} {waiting} {later} frames made told more same w f =
     subst (Waits m later) (sym (calls-both made told more))
@@ -120,7 +126,7 @@ answered-told (Err (Outside bit feature)) never a w =
 answered-told (Err Memory) never a w = record { account = a; waits = w; no_read = never-read (Err Memory) never; no_write = never-write (Err Memory) }
 answered-told (Err Read) never a w = absurd (never refl)
 answered-told (Err Write) never a w = record {
-  account = record { frames = a.frames; told = a.told; decoded = a.decoded; answers = a.answers };
+  account = record { frames = a.frames; family = a.family; told = a.told; decoded = a.decoded; answers = a.answers };
   waits = w;
   no_read = never-read (Err Write) never;
   no_write = never-write (Err Write);
@@ -145,6 +151,7 @@ module _ {S : Type 0} (out : S → ℕ) (items : S → List ShownFrame) (n : ℕ
         let account : Account terms whole answer =
         record {
           frames = j.made;
+          family = j.family;
           told = d.told ++ a.more;
           decoded = decoded-both j.made d.told a.more (j.same.decoded d.decoded) a.took_more.decoded;
           answers = a.answers;
@@ -177,9 +184,16 @@ module _ {S : Type 0} (out : S → ℕ) (items : S → List ShownFrame) (n : ℕ
         let t = taken f.made filled s s' f.more begun f.tells in record { calls = calls_of f.made f.more; filled = filled-there {s = s'} t.1 }
 
 -- before the first byte
-pub begins : {terms : Terms} {session : Progress} {n : ℕ} {waiting : List ShownFrame} → ((frames : ℕ → Frame) → WasFed terms session [] frames []) → n ≡ 0 →
+pub begins : {terms : Terms} {session : Progress} {n : ℕ} {waiting : List ShownFrame} →
+    ((frames : Family) → IsFamilyFor terms.purpose frames → WasFed terms session [] frames []) → n ≡ 0 →
     waiting ≡ [] → IsDecoding terms session [] n waiting
-begins fed none empty = record { frames = λ k. no_frame; told = []; fed = fed (λ k. no_frame); decoded = tt; waits = waits-begun none empty }
+begins {terms} fed none empty = record {
+  frames = some-family terms.purpose;
+  told = [];
+  fed = with-family terms.purpose fed;
+  decoded = tt;
+  waits = waits-begun none empty;
+}
 
 -- a frame is handed out, or none
 pub waits-after : {n m : ℕ} {waiting later : List ShownFrame} (calls : List Call) (r : Option ShownFrame) → IfSome r (λ f. waiting ≡ f ∷ later) →

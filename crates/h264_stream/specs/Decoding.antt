@@ -3,20 +3,19 @@ use Rattle.std.specs.Prelude.{◌≡◌, ℕ, List, Result, Err}
 use Rattle.h264_base.specs.Call.{Call}
 use Rattle.h264_base.specs.declared.stop.Stop.{Stop}
 use Rattle.h264_base.specs.declared.stop.Stop.TheVariants.{Read, Write}
-use Rattle.h264_plane.specs.declared.frame.Frame.{Frame}
 use Rattle.h264_stream.specs.Queue.{Waits, IsFilled, told_of_frames}
 use Rattle.h264_verify.specs.Account.{Account, calls_in}
 use Rattle.h264_stream.specs.declared.queue.ShownFrame.{ShownFrame}
 use Rattle.h264_verify.specs.Feeding.{WasFed}
 use Rattle.h264_verify.specs.Progress.{Progress}
-use Rattle.h264_verify.specs.Telling.{Told, calls_of, AreDecoded}
+use Rattle.h264_verify.specs.Telling.{Told, Family, calls_of, AreDecoded}
 use Rattle.h264_base.specs.declared.summary.Summary.{Summary}
 use Rattle.h264_verify.specs.declared.state.Terms.{Terms}
 
 -- The stream is judged so far. The session was fed these bytes, and the pictures are decoded. So many of the frames that they give were
 -- handed out, the first ones, and these wait, all others.
 pub record IsDecoding (terms : Terms) (session : Progress) (bytes : List ℕ) (handed_out : ℕ) (waiting : List ShownFrame) : Type 0 where
-  pub frames : ℕ → Frame
+  pub frames : Family
   pub told : List Told
   pub fed : WasFed terms session bytes frames told
   pub decoded : AreDecoded frames told

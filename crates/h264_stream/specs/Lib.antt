@@ -1,3 +1,5 @@
 pub mod Queue
 pub mod Decoding
 pub mod Given
+pub mod Whole
+pub mod Noted

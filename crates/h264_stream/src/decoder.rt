@@ -10,51 +10,79 @@ ghost use Rattle.h264_stream.specs.Queue.{told_of_frames};
 ghost use Rattle.h264_stream.specs.Decoding.{IsDecoding, HasDecoded, HasGrown};
 
 use crate::filling::{Before, Filling};
+use crate::info::StreamInfo;
+use crate::notes::Notes;
 use crate::queue::{FrameQueue, ShownFrame};
 use h264_base::{Mode, Stop, Target};
 use h264_lines::answer::told_answer;
+use h264_pages::pages::Page;
 use h264_verify::{Session, Summary};
 use std::alloc::Global;
 use std::marker::Brand;
 use std::mem;
 
-/// Judges the next piece of a stream, and puts its frames into a queue: the queue, and the answer where one is known.
-fn feed<K: Before>(
-    session: &mut Session,
-    piece: &[u8],
+/// What a piece of a stream left: the queue with its frames, the notes, and the answer where one is known.
+#[derive(Drop)]
+struct Fed {
     queue: FrameQueue,
-) -> (FrameQueue, Option<Result<Summary, Stop>>)
+    notes: Notes,
+    answer: Option<Result<Summary, Stop>>,
+}
+
+/// Judges the next piece of a stream, and puts its frames into a queue.
+fn feed<K: Before>(session: &mut Session, piece: &[u8], queue: FrameQueue, notes: Notes) -> Fed
     requires handed_out { queue.handed_out ≡ K.handed_out }
     requires waiting { told_of_frames queue.waiting.items ≡ K.waiting }
     ensures goes { (terms : Terms) (bytes : List ℕ) → IsDecoding terms session.old bytes queue.handed_out queue.waiting.items →
-        IfNone result.1 (IsDecoding terms session.new (bytes ++ piece.now) result.0.handed_out result.0.waiting.items) }
+        IfNone result.answer (IsDecoding terms session.new (bytes ++ piece.now) result.queue.handed_out result.queue.waiting.items) }
     ensures answers { (terms : Terms) (bytes : List ℕ) → IsDecoding terms session.old bytes queue.handed_out queue.waiting.items →
-        IfSome result.1 (λ answer. (later : List ℕ) →
-        HasDecoded terms ((bytes ++ piece.now) ++ later) answer result.0.handed_out result.0.waiting.items) }
+        IfSome result.answer (λ answer. (later : List ℕ) →
+        HasDecoded terms ((bytes ++ piece.now) ++ later) answer result.queue.handed_out result.queue.waiting.items) }
     ensures grows { (terms : Terms) (bytes : List ℕ) → IsDecoding terms session.old bytes queue.handed_out queue.waiting.items →
-        HasGrown queue.handed_out queue.waiting.items result.0.handed_out result.0.waiting.items }
+        HasGrown queue.handed_out queue.waiting.items result.queue.handed_out result.queue.waiting.items }
 {
-    let mut sink: Filling<K> = Filling::new(queue);
+    let mut sink: Filling<K> = Filling::new(queue, notes);
     let fed = session.feed(piece, &mut sink);
-    let filled = sink.into_queue();
+    let (queue, notes) = sink.into_parts();
     match fed {
-        Ok(()) => (filled, None),
-        Err(stop) => (filled, Some(told_answer(Err(stop), false))),
+        Ok(()) => Fed {
+            queue,
+            notes,
+            answer: None,
+        },
+        Err(stop) => Fed {
+            queue,
+            notes,
+            answer: Some(told_answer(Err(stop), false)),
+        },
     }
 }
 
-/// Judges the end of a stream, and puts its last frames into a queue: the queue, and the answer.
-fn conclude<K: Before>(session: Session, queue: FrameQueue) -> (FrameQueue, Result<Summary, Stop>)
+/// What the end of a stream left: the queue with its last frames, the notes, and the answer.
+#[derive(Drop)]
+struct Concluded {
+    queue: FrameQueue,
+    notes: Notes,
+    answer: Result<Summary, Stop>,
+}
+
+/// Judges the end of a stream, and puts its last frames into a queue.
+fn conclude<K: Before>(session: Session, queue: FrameQueue, notes: Notes) -> Concluded
     requires handed_out { queue.handed_out ≡ K.handed_out }
     requires waiting { told_of_frames queue.waiting.items ≡ K.waiting }
     ensures answers { (terms : Terms) (bytes : List ℕ) → IsDecoding terms session bytes queue.handed_out queue.waiting.items →
-        HasDecoded terms bytes result.1 result.0.handed_out result.0.waiting.items }
+        HasDecoded terms bytes result.answer result.queue.handed_out result.queue.waiting.items }
     ensures grows { (terms : Terms) (bytes : List ℕ) → IsDecoding terms session bytes queue.handed_out queue.waiting.items →
-        HasGrown queue.handed_out queue.waiting.items result.0.handed_out result.0.waiting.items }
+        HasGrown queue.handed_out queue.waiting.items result.queue.handed_out result.queue.waiting.items }
 {
-    let mut sink: Filling<K> = Filling::new(queue);
+    let mut sink: Filling<K> = Filling::new(queue, notes);
     let answer = told_answer(session.finish(&mut sink), false);
-    (sink.into_queue(), answer)
+    let (queue, notes) = sink.into_parts();
+    Concluded {
+        queue,
+        notes,
+        answer,
+    }
 }
 
 /// Judges the next piece of a stream, and puts its frames into a queue: the answer where one is known.
@@ -62,6 +90,7 @@ fn feed_queue(
     session: &mut Session,
     piece: &[u8],
     queue: &mut FrameQueue,
+    notes: &mut Notes,
 ) -> Option<Result<Summary, Stop>>
     ensures goes { (terms : Terms) (bytes : List ℕ) → IsDecoding terms session.old bytes queue.old.handed_out queue.old.waiting.items →
         IfNone result (IsDecoding terms session.new (bytes ++ piece.now) queue.new.handed_out queue.new.waiting.items) }
@@ -71,21 +100,27 @@ fn feed_queue(
     ensures grows { (terms : Terms) (bytes : List ℕ) → IsDecoding terms session.old bytes queue.old.handed_out queue.old.waiting.items →
         HasGrown queue.old.handed_out queue.old.waiting.items queue.new.handed_out queue.new.waiting.items }
 {
-    let (filled, answer) = feed::<Brand>(session, piece, queue.take_all());
-    *queue = filled;
-    answer
+    let fed = feed::<Brand>(session, piece, queue.take_all(), notes.take_all());
+    *queue = fed.queue;
+    *notes = fed.notes;
+    fed.answer
 }
 
 /// Judges the end of a stream, and puts its last frames into a queue: the answer.
-fn conclude_queue(session: Session, queue: &mut FrameQueue) -> Result<Summary, Stop>
+fn conclude_queue(
+    session: Session,
+    queue: &mut FrameQueue,
+    notes: &mut Notes,
+) -> Result<Summary, Stop>
     ensures answers { (terms : Terms) (bytes : List ℕ) → IsDecoding terms session bytes queue.old.handed_out queue.old.waiting.items →
         HasDecoded terms bytes result queue.new.handed_out queue.new.waiting.items }
     ensures grows { (terms : Terms) (bytes : List ℕ) → IsDecoding terms session bytes queue.old.handed_out queue.old.waiting.items →
         HasGrown queue.old.handed_out queue.old.waiting.items queue.new.handed_out queue.new.waiting.items }
 {
-    let (filled, answer) = conclude::<Brand>(session, queue.take_all());
-    *queue = filled;
-    answer
+    let concluded = conclude::<Brand>(session, queue.take_all(), notes.take_all());
+    *queue = concluded.queue;
+    *notes = concluded.notes;
+    concluded.answer
 }
 
 /// How far a decoder is.
@@ -106,11 +141,15 @@ pub enum Standing {
 pub struct Decoder {
     standing: Standing,
     queue: FrameQueue,
+    notes: Notes,
 }
 
 impl Decoder {
     ghost use Rattle.std.specs.Prelude.{◌≤◌, vec_len, vec_capacity};
     ghost use Rattle.h264_stream.specs.Given.{IsGiven, HasAnswered};
+    ghost use Rattle.h264_stream.specs.Noted.{verdict_object, IsInfo};
+    ghost use Rattle.h264_pages.specs.Pages.{text_on};
+    ghost use Rattle.std.specs.Prelude.{None, MatchOption};
     ghost use Rattle.h264_stream.specs.declared.decoder.Standing.TheVariants.{Fallen};
 
     /// A decoder before the first byte, of a stream that is judged so far and for this target. Memory: it was refused.
@@ -123,7 +162,22 @@ impl Decoder {
         Ok(Decoder {
             standing: Standing::Running(session),
             queue: FrameQueue::new(alloc),
+            notes: Notes::new(alloc),
         })
+    }
+
+    /// A decoder as `new` gives it, whose verdict is explained with its place: `object` says where it stands and what was found there. It notes each element,
+    /// which takes up to 30 % more time, 100 kB, and 80 bytes for each picture. Memory: it was refused.
+    pub fn explaining(alloc: Global, mode: Mode, target: Target) -> Result<Decoder, Stop>
+        ensures given { IfOk result (λ d. IsGiven (terms_of mode target) d []) }
+        ensures handed_out { IfOk result (λ d. d.queue.handed_out ≡ 0) }
+        ensures err { IfErr result (λ e. e ≡ Stop.Memory) }
+    {
+        let decoder = Decoder::new(alloc, mode, target)?;
+        match Notes::explaining(alloc) {
+            Ok(notes) => Ok(Decoder { notes, ..decoder }),
+            Err(_) => Err(Stop::Memory),
+        }
     }
 
     /// Decodes the next bytes. None: the stream goes on. Else the answer, however it goes on.
@@ -139,10 +193,13 @@ impl Decoder {
     {
         let answer = match &mut self.standing {
             Standing::Fallen(answer) => return Some(*answer),
-            Standing::Running(session) => match feed_queue(session, piece, &mut self.queue) {
-                None => return None,
-                Some(answer) => answer,
-            },
+            Standing::Running(session) => {
+                self.notes.note_bytes(piece);
+                match feed_queue(session, piece, &mut self.queue, &mut self.notes) {
+                    None => return None,
+                    Some(answer) => answer,
+                }
+            }
         };
         self.standing = Standing::Fallen(answer);
         Some(answer)
@@ -162,7 +219,8 @@ impl Decoder {
                 return answer;
             }
             Standing::Running(session) => {
-                let answer = conclude_queue(session, &mut self.queue);
+                self.notes.note_end();
+                let answer = conclude_queue(session, &mut self.queue, &mut self.notes);
                 self.standing = Standing::Fallen(answer);
                 return answer;
             }
@@ -195,5 +253,25 @@ impl Decoder {
             HasAnswered terms self.new bytes answer }
     {
         self.queue.give_back(frame);
+    }
+
+    /// What the sequence parameter set of the slice that was read last says of the stream. None: no slice was read.
+    pub fn info(&self) -> Option<StreamInfo>
+        ensures { MatchOption self.now.notes.active (result ≡ None) (λ set. IfSome result (IsInfo set)) }
+    {
+        let set = self.notes.active()?;
+        Some(StreamInfo::of(&set))
+    }
+
+    /// The object of JSON of the answer (docs/OUTPUT.md), without `file`. None: the stream goes on, or there is no memory for it.
+    pub fn object(&self, alloc: Global) -> Option<Page>
+        ensures answered { (answer : Result Summary Stop) → self.now.standing ≡ Fallen answer →
+            IfSome result (λ page. (more : List ℕ) × (text_on page ≡ verdict_object answer more)) }
+        ensures running { (terms : Terms) (bytes : List ℕ) → IsGiven terms self.now bytes → result ≡ None }
+    {
+        match &self.standing {
+            Standing::Fallen(answer) => self.notes.object(alloc, *answer),
+            Standing::Running(_) => None,
+        }
     }
 }

@@ -3,6 +3,7 @@
 
 ghost use Rattle.std.specs.Prelude.{◌≡◌, ◌+◌, ◌-◌, ◌<◌, ◌^◌, [], OnOk, OnErr};
 
+use crate::notes::Notes;
 use crate::queue::FrameQueue;
 use h264_base::{ElementName, Elements, Failed, SliceType};
 use h264_dpb::{FrameOut, Rectangle};
@@ -30,10 +31,11 @@ impl Before for Brand {
     ghost waiting = { [] };
 }
 
-/// Puts each frame of a stream into a queue, and passes over all else. A call fails where memory is refused; its frame is not in the queue then.
+/// Puts each frame of a stream into a queue, and notes what is noted of the rest. A call fails where memory is refused; its frame is not in the queue then.
 #[derive(Drop)]
 pub(crate) struct Filling<K: Before> {
     queue: FrameQueue,
+    notes: Notes,
     /// How many calls failed.
     failures: u64,
     before: PhantomData<K>,
@@ -41,23 +43,24 @@ pub(crate) struct Filling<K: Before> {
 
 impl<K: Before> Filling<K> {
     /// A sink that was told nothing, with no failure.
-    pub(crate) fn new(queue: FrameQueue) -> Filling<K>
+    pub(crate) fn new(queue: FrameQueue, notes: Notes) -> Filling<K>
         ensures queue { result.queue ≡ queue }
         ensures failures { result.failures ≡ 0 }
     {
         Filling {
             queue,
+            notes,
             failures: 0,
             before: PhantomData,
         }
     }
 
-    /// Gives the queue back.
-    pub(crate) fn into_queue(self) -> FrameQueue
-        ensures { result ≡ self.queue }
+    /// Gives the queue and the notes back.
+    pub(crate) fn into_parts(self) -> (FrameQueue, Notes)
+        ensures { result.0 ≡ self.queue }
     {
-        let Filling { queue, .. } = self;
-        queue
+        let Filling { queue, notes, .. } = self;
+        (queue, notes)
     }
 
     /// Counts a failure.
@@ -78,7 +81,10 @@ impl<K: Before> Elements for Filling<K> {
 
     ghost failures = { λ s. s.failures };
 
-    fn element(&mut self, _name: ElementName, _bit: u64, _value: i64) -> Result<(), Failed> {
+    fn element(&mut self, name: ElementName, bit: u64, value: i64) -> Result<(), Failed> {
+        if !self.notes.note_element(name, bit, value) {
+            return self.fail();
+        }
         Ok(())
     }
 }
@@ -86,7 +92,10 @@ impl<K: Before> Elements for Filling<K> {
 impl<K: Before> FrameOut for Filling<K> {
     fn frame(&mut self, count: i32, frame: &Frame, rectangle: Rectangle) -> Result<(), Failed> {
         match self.queue.add(count, frame, rectangle) {
-            Ok(()) => Ok(()),
+            Ok(()) => {
+                self.notes.note_frame();
+                Ok(())
+            }
             Err(_) => self.fail(),
         }
     }
@@ -95,11 +104,16 @@ impl<K: Before> FrameOut for Filling<K> {
 impl<K: Before> FrameSink for Filling<K> {
     fn unit(
         &mut self,
-        _byte: u64,
-        _nal_unit_type: NalUnitType,
-        _nal_ref_idc: u8,
-        _length: u64,
+        byte: u64,
+        nal_unit_type: NalUnitType,
+        nal_ref_idc: u8,
+        length: u64,
     ) -> Result<(), Failed> {
+        self.notes
+            .note_unit(byte, nal_unit_type, nal_ref_idc, length);
+        if self.notes.is_short() {
+            return self.fail();
+        }
         Ok(())
     }
 

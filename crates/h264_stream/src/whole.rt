@@ -5,6 +5,7 @@ ghost use Rattle.std.specs.Prelude.{◌≡◌, [], IsErrOf};
 ghost use Rattle.h264_base.specs.declared.stop.Stop.{Stop};
 ghost use Rattle.h264_verify.specs.Account.{Account};
 ghost use Rattle.h264_verify.specs.Units.{terms_of};
+ghost use Rattle.h264_stream.specs.Whole.{without_frames};
 
 use h264_base::{ElementName, Elements, Failed, Mode, SliceType, Stop, Target};
 use h264_dpb::{FrameOut, Rectangle};
@@ -55,13 +56,25 @@ impl FrameSink for NoSink {
     }
 }
 
-/// The verdict on a stream, judged so far and for this target; or Memory, where it was refused. It is never Read or Write.
+/// The mode that judges as far as this one, and makes no frames.
+fn without_frames(mode: Mode) -> Mode
+    ensures { result ≡ without_frames mode }
+{
+    match mode {
+        Mode::Units => Mode::Units,
+        Mode::Headers => Mode::Headers,
+        Mode::Verdict => Mode::Verdict,
+        Mode::Full => Mode::Verdict,
+    }
+}
+
+/// The verdict on a stream, judged so far and for this target; or Memory, where it was refused. It is never Read or Write. No frames are made.
 pub fn judge_bytes(alloc: Global, bytes: &[u8], mode: Mode, target: Target) -> Result<Summary, Stop>
-    ensures verdict { Account (terms_of mode target) bytes.now result }
+    ensures verdict { Account (terms_of (without_frames mode) target) bytes.now result }
     ensures no_read { IsErrOf result Stop.Read → ⊥ }
     ensures no_write { IsErrOf result Stop.Write → ⊥ }
 {
-    let mut session = match Session::new(alloc, mode, target) {
+    let mut session = match Session::new(alloc, without_frames(mode), target) {
         Ok(session) => session,
         Err(stop) => return Err(stop),
     };

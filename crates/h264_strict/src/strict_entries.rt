@@ -204,7 +204,7 @@ const ENTRIES: [StrictEntry; EARLY_RULES] = [
         rule: StrictRule::FrameNumRepeated,
         breaks: "A picture that is no IDR picture has PrevRefFrameNum as its frame_num. A reference picture that does is a no of FrameNum.",
         bit: "The first bit of its first slice's unit.",
-        cause: "The encoder raises frame_num after a reference picture by one picture too late. Each picture after one has another \
+        cause: "The encoder increments frame_num one picture too late after a reference picture. Each picture after one has another \
             frame_num, one that is no reference too.",
         example: "a non-reference picture with the frame_num of the reference picture before it",
     },

@@ -1,28 +1,46 @@
 -- Two families with the same first frames tell the same of the first pictures.
-use Rattle.std.proofs.Common.{◌≡◌, ℕ, ◌≤◌, List, [], ◌∷◌, ◌++◌, map, length, Result, Ok, Err, refl, ap, sym, ◌∙◌, subst, arith}
+use Rattle.std.proofs.Common.{◌≡◌, ℕ, ◌<◌, ◌≤◌, List, [], ◌∷◌, ◌++◌, map, length}
+use Rattle.std.proofs.Common.{Some, None, Result, Ok, Err, refl, ap, sym, ◌∙◌, subst, arith, append_assoc}
 use Rattle.h264_base.specs.declared.stop.Stop.{Stop}
 use Rattle.h264_base.specs.declared.stop.Stop.TheVariants.{No, Outside, Memory, Read, Write}
 use Rattle.h264_base.specs.Call.{Call, span}
 use Rattle.h264_plane.specs.declared.frame.Frame.{Frame}
 use Rattle.h264_dpb.specs.Shown.{frame_call}
-use Rattle.h264_dpb.specs.Kept.{shown_call}
+use Rattle.h264_dpb.specs.declared.entry.Entry.{Entry}
+use Rattle.h264_dpb.specs.Turns.{Shown}
 use Rattle.h264_verify.specs.Pictures.{CodedPicture}
 use Rattle.h264_verify.specs.Decoding.{slices_of, IsDecoded}
-use Rattle.h264_verify.specs.Telling.{Told, Said, Decodes, Shows, calls_of, HasFrame, AreDecoded, took_with, Tells, TellsFront, Agree, AreOf}
+use Rattle.h264_verify.specs.Telling.{Told, Said, Decodes, Shows, calls_to_show, calls_of, HasFrame}
+use Rattle.h264_verify.specs.Telling.{AreDecoded, took_with, Tells, TellsFront, Agree, AreOf, Family}
 use Rattle.h264_verify.specs.Outcome.{Outcome, Plays, PlaysBy}
 use Rattle.h264_verify.proofs.Saying.{tells-said}
 use Rattle.h264_verify.proofs.Agreeing.{each-slice, refers-agree}
 
 -- ---- families
 
-pub agree-less : (m n : ℕ) (frames others : ℕ → Frame) → m ≤ n → Agree n frames others → Agree m frames others
-agree-less m n frames others h a = λ k l. a k (omega (arith, h, l))
+pub agree-none : (n : ℕ) (f : Family) → Agree n f f
+agree-none n None = tt
+agree-none n (Some f) = λ k h. refl
 
-pub agree-back : (n : ℕ) (frames others : ℕ → Frame) → Agree n frames others → Agree n others frames
-agree-back n frames others a = λ k l. sym (a k l)
+pub agree-less : (m n : ℕ) (frames others : Family) → m ≤ n → Agree n frames others → Agree m frames others
+agree-less m n None None h a = tt
+agree-less m n None (Some others) h a = absurd a
+agree-less m n (Some frames) None h a = absurd a
+agree-less m n (Some frames) (Some others) h a = λ k l. a k (omega (arith, h, l))
 
-pub agree-then : (n : ℕ) (frames others more : ℕ → Frame) → Agree n frames others → Agree n others more → Agree n frames more
-agree-then n frames others more a b = λ k l. a k l ∙ b k l
+pub agree-back : (n : ℕ) (frames others : Family) → Agree n frames others → Agree n others frames
+agree-back n None None a = tt
+agree-back n None (Some others) a = absurd a
+agree-back n (Some frames) None a = absurd a
+agree-back n (Some frames) (Some others) a = λ k l. sym (a k l)
+
+pub agree-then : (n : ℕ) (frames others more : Family) → Agree n frames others → Agree n others more → Agree n frames more
+agree-then n None None None a b = tt
+agree-then n None None (Some more) a b = absurd b
+agree-then n None (Some others) more a b = absurd a
+agree-then n (Some frames) None more a b = absurd a
+agree-then n (Some frames) (Some others) None a b = absurd b
+agree-then n (Some frames) (Some others) (Some more) a b = λ k l. a k l ∙ b k l
 
 -- ---- what is of the first pictures
 
@@ -46,10 +64,13 @@ of-more m n (Shows e ∷ told) l h = (omega (arith, l, h.0), of-more m n told l 
 
 -- ---- decoded pictures
 
-pub decoded-agree : (n : ℕ) (frames others : ℕ → Frame) (p : CodedPicture) (ps : List CodedPicture) → length (p ∷ ps) ≤ n → Agree n frames others →
+pub decoded-agree : (n : ℕ) (frames others : Family) (p : CodedPicture) (ps : List CodedPicture) → length (p ∷ ps) ≤ n → Agree n frames others →
     HasFrame frames (p ∷ ps) → HasFrame others (p ∷ ps)
-decoded-agree n frames others p ps l a h =
-    let a' : Agree (length ps) frames others = λ k m. a k (omega (arith, l, m)) in
+decoded-agree n None None p ps l a h = tt
+decoded-agree n None (Some others) p ps l a h = absurd a
+decoded-agree n (Some frames) None p ps l a h = absurd a
+decoded-agree n (Some frames) (Some others) p ps l a h =
+    let a' : Agree (length ps) (Some frames) (Some others) = λ k m. a k (omega (arith, l, m)) in
     let d : IsDecoded others p ps (frames (length ps)) = record {
       size = h.size;
       place = h.place;
@@ -63,15 +84,22 @@ decoded-agree n frames others p ps l a h =
 
 -- ---- what is told
 
-pub calls-agree : (n : ℕ) (frames others : ℕ → Frame) (told : List Told) → Agree n frames others → AreOf n told → calls_of frames told ≡ calls_of others told
+show-agree : (n : ℕ) (frames others : Family) (e : Entry Shown) → Agree n frames others → e.of.picture < n →
+    calls_to_show frames (e ∷ []) ≡ calls_to_show others (e ∷ [])
+show-agree n None None e a h = refl
+show-agree n None (Some others) e a h = absurd a
+show-agree n (Some frames) None e a h = absurd a
+show-agree n (Some frames) (Some others) e a h = ap (λ (f : Frame). frame_call e.count f e.of.rectangle ∷ []) (a e.of.picture h)
+
+pub calls-agree : (n : ℕ) (frames others : Family) (told : List Told) → Agree n frames others → AreOf n told → calls_of frames told ≡ calls_of others told
 calls-agree n frames others [] a h = refl
 calls-agree n frames others (Said call ∷ told) a h = ap (λ (l : List Call). call ∷ l) (calls-agree n frames others told a h.1)
 calls-agree n frames others (Decodes ps ∷ told) a h = calls-agree n frames others told a h.1
 calls-agree n frames others (Shows e ∷ told) a h =
-    ap (λ (f : Frame). frame_call e.count f e.of.rectangle ∷ calls_of frames told) (a e.of.picture h.0)
-    ∙ ap (λ (l : List Call). shown_call others e ∷ l) (calls-agree n frames others told a h.1)
+    ap (λ (l : List Call). l ++ calls_of frames told) (show-agree n frames others e a h.0)
+    ∙ ap (λ (l : List Call). calls_to_show others (e ∷ []) ++ l) (calls-agree n frames others told a h.1)
 
-pub decoded-told-agree : (n : ℕ) (frames others : ℕ → Frame) (told : List Told) → Agree n frames others → AreOf n told → AreDecoded frames told →
+pub decoded-told-agree : (n : ℕ) (frames others : Family) (told : List Told) → Agree n frames others → AreOf n told → AreDecoded frames told →
     AreDecoded others told
 decoded-told-agree n frames others [] a h d = tt
 decoded-told-agree n frames others (Said call ∷ told) a h d = decoded-told-agree n frames others told a h.1 d
@@ -80,19 +108,20 @@ decoded-told-agree n frames others (Decodes (p ∷ ps) ∷ told) a h d =
     (decoded-agree n frames others p ps h.0 a d.0, decoded-told-agree n frames others told a h.1 d.1)
 decoded-told-agree n frames others (Shows e ∷ told) a h d = decoded-told-agree n frames others told a h.1 d
 
-pub calls-both : (frames : ℕ → Frame) (xs ys : List Told) → calls_of frames (xs ++ ys) ≡ calls_of frames xs ++ calls_of frames ys
+pub calls-both : (frames : Family) (xs ys : List Told) → calls_of frames (xs ++ ys) ≡ calls_of frames xs ++ calls_of frames ys
 calls-both frames [] ys = refl
 calls-both frames (Said call ∷ xs) ys = ap (λ (l : List Call). call ∷ l) (calls-both frames xs ys)
 calls-both frames (Decodes ps ∷ xs) ys = calls-both frames xs ys
-calls-both frames (Shows e ∷ xs) ys = ap (λ (l : List Call). shown_call frames e ∷ l) (calls-both frames xs ys)
+calls-both frames (Shows e ∷ xs) ys = ap (λ (l : List Call). calls_to_show frames (e ∷ []) ++ l) (calls-both frames xs ys)
+    ∙ sym (append_assoc (calls_to_show frames (e ∷ [])) (calls_of frames xs) (calls_of frames ys))
 
-pub decoded-both : (frames : ℕ → Frame) (xs ys : List Told) → AreDecoded frames xs → AreDecoded frames ys → AreDecoded frames (xs ++ ys)
+pub decoded-both : (frames : Family) (xs ys : List Told) → AreDecoded frames xs → AreDecoded frames ys → AreDecoded frames (xs ++ ys)
 decoded-both frames [] ys h k = k
 decoded-both frames (Said call ∷ xs) ys h k = decoded-both frames xs ys h k
 decoded-both frames (Decodes ps ∷ xs) ys h k = (h.0, decoded-both frames xs ys h.1 k)
 decoded-both frames (Shows e ∷ xs) ys h k = decoded-both frames xs ys h k
 
-pub decoded-last : (frames : ℕ → Frame) (xs ys : List Told) → AreDecoded frames (xs ++ ys) → AreDecoded frames ys
+pub decoded-last : (frames : Family) (xs ys : List Told) → AreDecoded frames (xs ++ ys) → AreDecoded frames ys
 decoded-last frames [] ys h = h
 decoded-last frames (Said call ∷ xs) ys h = decoded-last frames xs ys h
 decoded-last frames (Decodes ps ∷ xs) ys h = decoded-last frames xs ys h.1
@@ -100,16 +129,16 @@ decoded-last frames (Shows e ∷ xs) ys h = decoded-last frames xs ys h
 
 -- ---- what a sink was told
 
-none-said : (frames : ℕ → Frame) → took_with frames (λ (l k : List Call). k ≡ l) [] []
+none-said : (frames : Family) → took_with frames (λ (l k : List Call). k ≡ l) [] []
 unfolding took_with
 none-said frames = (tt, refl)
 
 -- calls, as they are
-as-said : (frames : ℕ → Frame) (calls : List Call) → took_with frames (λ (l k : List Call). k ≡ l) calls (map Said calls)
+as-said : (frames : Family) (calls : List Call) → took_with frames (λ (l k : List Call). k ≡ l) calls (map Said calls)
 as-said frames calls = (tells-said frames (λ (l k : List Call). k ≡ l) [] calls calls
     (record { told = λ before e. ap (λ (l : List Call). l ++ calls) e })).told [] (none-said frames)
 
-module _ {S : Type 0} (took : S → List Call → Type 0) (n : ℕ) (frames others : ℕ → Frame) where
+module _ {S : Type 0} (took : S → List Call → Type 0) (n : ℕ) (frames others : Family) where
   -- Before it, the calls may have been made as they are, with no frames.
   pub tells-agree : (s s' : S) (more : List Told) → Agree n frames others → AreOf n more → Tells (took_with frames took) s s' more →
       Tells (took_with others took) s s' more

@@ -9,7 +9,7 @@ use Rattle.h264_header.specs.declared.header.Operation.TheVariants.{UnmarkShortT
 use Rattle.h264_header.specs.declared.header.Operation.TheVariants.{MakeCurrentLongTerm}
 use Rattle.h264_header.specs.declared.header.MarkingOperation.{MarkingOperation}
 use Rattle.h264_header.specs.declared.header.Marking.{Marking}
-use Rattle.h264_header.specs.declared.header.Marking.TheVariants as mode
+use Rattle.h264_header.specs.declared.header.Marking.TheVariants as depth
 use Rattle.h264_header.specs.Marking.{number_of}
 use Rattle.h264_marking.specs.declared.frame.ReferenceFrame.{ReferenceFrame}
 use Rattle.h264_marking.specs.declared.frame.Term.TheVariants.{Long}
@@ -159,14 +159,14 @@ joined-holds n c picture bit os refs next (Ok marks) a is h =
 pub marked-holds : (n : ℕ) (c : Numbering) (picture bit : ℕ) (marking : Marking) (refs next : References) → marked c picture bit marking refs ≡ Ok next →
     IsAmong n next.frames → (picture == n || is_held (names refs) n) ≡ true
 unfolding marked
-marked-holds n c picture bit (mode.Idr no_output long_term) refs next is h =
+marked-holds n c picture bit (depth.Idr no_output long_term) refs next is h =
     let same : idr_references c picture long_term ≡ next = cc in
     or-on (picture == n) false _ (λ e. cc) (subst (λ (r : References). IsAmong n r.frames) (sym same) h)
-marked-holds n c picture bit mode.SlidingWindow refs next is h =
+marked-holds n c picture bit depth.SlidingWindow refs next is h =
     let s = then-some (λ frames. with_own c picture (with_frames (marks_of refs) frames)) (slide c refs.frames) next
     (from-ok (slid_and_joined c picture refs) bit next is) in
     or-on (picture == n) _ _ (λ k. slid-holds n c refs.frames s.0 s.1 k) (own-holds n c picture (with_frames (marks_of refs) s.0) next s.2 h)
-marked-holds n c picture bit (mode.Adaptive operations) refs next is h = joined-holds n c picture bit operations.items refs next _ refl is h
+marked-holds n c picture bit (depth.Adaptive operations) refs next is h = joined-holds n c picture bit operations.items refs next _ refl is h
 
 -- ---- where nothing else is held: after an IDR picture and operation 5
 
@@ -232,6 +232,6 @@ joined-bare n c picture bit os refs next (Ok marks) a t is h =
 pub reset-holds : (n : ℕ) (c : Numbering) (picture bit : ℕ) (marking : Marking) (refs next : References) → marked c picture bit marking refs ≡ Ok next →
     resets_by marking ≡ true → IsAmong n next.frames → (picture == n) ≡ true
 unfolding marked
-reset-holds n c picture bit (mode.Idr no_output long_term) refs next is t h = cc
-reset-holds n c picture bit mode.SlidingWindow refs next is t h = cc
-reset-holds n c picture bit (mode.Adaptive operations) refs next is t h = joined-bare n c picture bit operations.items refs next _ refl t is h
+reset-holds n c picture bit (depth.Idr no_output long_term) refs next is t h = cc
+reset-holds n c picture bit depth.SlidingWindow refs next is t h = cc
+reset-holds n c picture bit (depth.Adaptive operations) refs next is t h = joined-bare n c picture bit operations.items refs next _ refl t is h

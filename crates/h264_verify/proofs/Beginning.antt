@@ -8,29 +8,33 @@ use Rattle.h264_sps.specs.declared.sps.Sps.{Sps}
 use Rattle.h264_picture.specs.Buffer.{buffer_size}
 use Rattle.h264_picture.specs.Making.{Making, HoldsSamples}
 use Rattle.h264_picture.specs.Holds.{HoldsMacroblocks, Serves}
-use Rattle.h264_picture.specs.Places.{lent, first_place, places, is_active_place, HasBegun, HasSize, IsReleased, KeepsOthers, KeepsFrames as KeepsLent}
+use Rattle.h264_picture.specs.Places.{lent, first_place, places, is_active_place, HasBegun}
+use Rattle.h264_picture.specs.Places.{HasSize, IsReleased, KeepsOthers, KeepsFrames as KeepsLent, MakesFrames, purpose_of}
 use Rattle.h264_dpb.specs.declared.output.Output.{Output}
 use Rattle.h264_dpb.specs.declared.entry.Entry.{Entry}
 use Rattle.h264_dpb.specs.declared.entry.Placed.{Placed}
-use Rattle.h264_dpb.specs.Kept.{Each, IsAtPlace, IsOrdered, is_occupied, size_of}
+use Rattle.h264_dpb.specs.Kept.{Each, IsAtPlace, IsOrdered, is_occupied, size_of, HasFrames}
 use Rattle.h264_dpb.specs.Numbered.{is_taken}
 use Rattle.h264_verify.specs.declared.decoder.Decoder.{Decoder}
 use Rattle.h264_verify.specs.declared.decoder.Format.{Format}
 use Rattle.h264_verify.specs.Pictures.{CodedSlice, CodedPicture}
-use Rattle.h264_verify.specs.Keeping.{format_of, HasFormat, IsSettled, IsSized, IsRoomFor, AreOlder, KeepsFrames, EntersFrames, EntersSome, EntersBy}
+use Rattle.h264_verify.specs.Keeping.{format_of, HasFormat, IsSettled, IsSized, IsRoomFor, AreOlder}
+use Rattle.h264_verify.specs.Keeping.{KeepsFrames, EntersFrames, EntersSome, EntersBy, IsPlaced, HasFreePlace}
 use Rattle.h264_verify.specs.Keeping.{BegunFrames, BeginsFrames}
 use Rattle.h264_verify.proofs.Filling.{sized}
 use Rattle.h264_verify.proofs.Lending.{some-not, output-kept, holds-serves}
+use Rattle.h264_verify.proofs.Purposes.{family-kept, some-of, some-made, some-map, lent-made}
+use Rattle.h264_verify.specs.Telling.{Family, IsFamilyFor}
 
 -- a slice that begins no picture finds what was kept
-pub goes-on : (frames : ℕ → Frame) (on : Bool) (s : CodedSlice) (pictures : List CodedPicture) (d : Decoder) (begins : Bool) → begins ≡ false →
+pub goes-on : (frames : Family) (on : Bool) (s : CodedSlice) (pictures : List CodedPicture) (d : Decoder) (begins : Bool) → begins ≡ false →
     (begins ≡ false → on ≡ true) → EntersBy frames begins s on pictures d → BeginsFrames frames begins s pictures d
 goes-on frames on s pictures d true e live k = cc
 goes-on frames on s [] d false e live k = absurd k
 goes-on frames on s (p ∷ ps) d false e live k = subst (λ (x : Bool). KeepsFrames frames x false (p ∷ ps) d) (live e) k
 
 -- and one that begins a picture has a place for it
-pub begins-now : {X E : Type 0} (frames : ℕ → Frame) (on : Bool) (s : CodedSlice) (pictures : List CodedPicture) (old new : Decoder) (begins : Bool)
+pub begins-now : {X E : Type 0} (frames : Family) (on : Bool) (s : CodedSlice) (pictures : List CodedPicture) (old new : Decoder) (begins : Bool)
     (r : Result X E) → begins ≡ true → (EntersFrames frames s pictures old → OnOk r (BegunFrames frames s pictures new)) →
     EntersBy frames begins s on pictures old → OnOk r (BeginsFrames frames begins s pictures new)
 begins-now frames on s pictures old new true r e f k = f k
@@ -45,18 +49,19 @@ settled-if old new o o' k e r out f = record {
 }
 
 -- A picture was begun at a place where no frame of the buffer stands.
-module _ (frames : ℕ → Frame) (s : CodedSlice) (pictures : List CodedPicture) (old mid new : Decoder) (sps : Sps) (place : ℕ)
+module _ (frames : Family) (s : CodedSlice) (pictures : List CodedPicture) (old mid new : Decoder) (sps : Sps) (place : ℕ)
     (k : EntersFrames frames s pictures old) (sps-is : s.sps ≡ sps)
     (room : IsRoomFor (format_of sps) mid.work) (format : mid.format ≡ Some (format_of sps)) (kept : KeepsLent old.work mid.work)
     (others : old.format ≡ Some (format_of sps) → mid ≡ old) (output : mid.output ≡ old.output)
     (out : new.output ≡ mid.output) (same : new.format ≡ mid.format) (at : new.place ≡ place) where
   pub begun-frames : is_active_place (first_place mid.work) place ≡ true → first_place new.work ≡ first_place mid.work →
-      is_occupied place mid.output ≡ false → ((width size : ℕ) → Serves width size mid.work → HoldsMacroblocks width size [] new.work) →
-      ((width size : ℕ) (making : Making) → Serves width size mid.work → HoldsSamples width size making [] new.work) →
+      (MakesFrames mid.work → is_occupied place mid.output ≡ false) → ((width size : ℕ) → Serves width size mid.work →
+      HoldsMacroblocks width size [] new.work) →
+      (MakesFrames mid.work → (width size : ℕ) (making : Making) → Serves width size mid.work → HoldsSamples width size making [] new.work) →
       HasBegun place new.work → KeepsOthers place mid.work new.work → places new.work ≡ places mid.work →
       ((width height : ℕ) → HasSize width height mid.work → HasSize width height new.work) → (IsReleased mid.work → IsReleased new.work) →
-      BegunFrames frames s pictures new
-  begun-frames active first free holds samples begun others-kept places-are size released =
+      purpose_of new.work ≡ purpose_of mid.work → purpose_of mid.work ≡ purpose_of old.work → BegunFrames frames s pictures new
+  begun-frames active first free holds samples begun others-kept places-are size released purpose purpose-mid =
       let width = s.sps.frame_size.width in
       let count = s.sps.frame_size.width * s.sps.frame_size.height in
       let serves : Serves width count mid.work =
@@ -68,12 +73,16 @@ module _ (frames : ℕ → Frame) (s : CodedSlice) (pictures : List CodedPicture
       let fits : IsRoomFor (format_of s.sps) new.work =
       record { serves = holds-serves width count [] new.work (holds width count serves); size = size _ _ sized; places = places-are ∙ all } in
       record {
-        output = output-kept frames _ _ old new k.output (out ∙ output) lent-on (subst (λ (o : Option Format). HasFormat o new.work) (sym (same ∙ is)) fits);
+        output = output-kept frames _ _ old new k.output (out ∙ output) (purpose ∙ purpose-mid) lent-on
+            (subst (λ (o : Option Format). HasFormat o new.work) (sym (same ∙ is)) fits);
         picture = record {
           begun = subst (λ (p : ℕ). HasBegun p new.work) (sym at) begun;
-          active = subst (λ (p : ℕ). is_active_place (first_place new.work) p ≡ true) (sym at)
-              (subst (λ (b : ℕ). is_active_place b place ≡ true) (sym first) active);
-          free = subst (λ (o : Output). is_occupied new.place o ≡ false) (sym out) (subst (λ (p : ℕ). is_occupied p mid.output ≡ false) (sym at) free);
+          placed = some-map (λ f. MakesFrames mid.work) (λ f. IsPlaced new) frames (λ f m. record {
+            active = subst (λ (p : ℕ). is_active_place (first_place new.work) p ≡ true) (sym at)
+                (subst (λ (b : ℕ). is_active_place b place ≡ true) (sym first) active);
+            free = subst (λ (o : Output). is_occupied new.place o ≡ false) (sym out)
+                (subst (λ (p : ℕ). is_occupied p mid.output ≡ false) (sym at) (free m));
+          }) (some-made frames mid.work family);
           format = same ∙ is;
           settled = λ not.
               let e = others (k.format not ∙ ap (λ (x : Sps). Some (format_of x)) sps-is) in
@@ -83,17 +92,22 @@ module _ (frames : ℕ → Frame) (s : CodedSlice) (pictures : List CodedPicture
             holds = holds width count serves;
             numbers = tt;
             sets = tt;
-            references = tt;
-            samples = λ making m. samples width count making serves;
+            frames_are = some-map (λ f. MakesFrames mid.work) _ frames
+                (λ f m. record { references = tt; samples = λ making n. samples m width count making serves })
+                (some-made frames mid.work family);
           };
         };
       }
     where
+      family : IsFamilyFor (purpose_of mid.work) frames
+      family = family-kept frames old.work mid.work purpose-mid k.output.made
+
       lent-on : (p : ℕ) → is_taken old.output.buffer.entries p ≡ true → lent old.work p ≢ None → lent new.work p ≡ lent old.work p
       lent-on p t n =
           let first = kept p n in
           let apart : p ≢ place = λ e. let f : is_occupied p old.output ≡ false =
-          subst (λ (q : ℕ). is_occupied q old.output ≡ false) (sym e) (subst (λ (o : Output). is_occupied place o ≡ false) output free) in
+          subst (λ (q : ℕ). is_occupied q old.output ≡ false) (sym e) (subst (λ (o : Output). is_occupied place o ≡ false) output
+          (free (purpose-mid ∙ lent-made frames old.work k.output.made p n))) in
           let g : true ≡ false = sym t ∙ f in cc in
           others-kept p apart (λ e. n (sym first ∙ e)) ∙ first
 
@@ -129,20 +143,26 @@ module _ (old mid : Decoder) (sps : Sps) (k : EntersSome old) (room : IsRoomFor 
   pub in-order : IsOrdered (length k.pictures) mid.output
   in-order = subst (λ (o : Output). IsOrdered (length k.pictures) o) (sym output) k.keeps.output.ordered
 
-  pub is-fresh : AreOlder old.work mid.work → is_occupied (first_place mid.work) mid.output ≡ false
-  is-fresh older = subst (λ (o : Output). is_occupied (first_place mid.work) o ≡ false) (sym output)
-      (not-taken k.frames (lent old.work) (first_place mid.work) old.output.buffer.entries k.keeps.output.frames_are.each older)
+  pub is-fresh : MakesFrames old.work → AreOlder old.work mid.work → is_occupied (first_place mid.work) mid.output ≡ false
+  is-fresh m older = subst (λ (o : Output). is_occupied (first_place mid.work) o ≡ false) (sym output)
+      (some-of (is_occupied (first_place mid.work) old.output ≡ false) k.frames old.work k.keeps.output.made m
+      (some-map (λ f. HasFrames f (lent old.work) old.output) (λ f. is_occupied (first_place mid.work) old.output ≡ false) k.frames
+      (λ f h. not-taken f (lent old.work) (first_place mid.work) old.output.buffer.entries h.each older) k.keeps.output.frames_are))
 
   pub some-place : 0 < places mid.work
   some-place = let p = room.places in omega (arith, p)
 
-  pub always-place : (r : Option ℕ) (first count : ℕ) → first ≡ first_place mid.work → count ≡ places mid.work →
-      ((next : ℕ) → IsOrdered next mid.output → size_of mid.output < count → IsTrue (is_some r)) →
-      (is_occupied first mid.output ≡ false → 0 < count → IsTrue (is_some r)) → IsSized mid.format mid.output ⊎ AreOlder old.work mid.work →
-      IsTrue (is_some r)
-  always-place r first count f c small fresh (inl s) = small (length k.pictures) in-order (let l = is-small s in omega (arith, c, l))
-  always-place r first count f c small fresh (inr older) =
-      fresh (subst (λ (n : ℕ). is_occupied n mid.output ≡ false) (sym f) (is-fresh older)) (let l = some-place in omega (arith, c, l))
+  pub always-place : MakesFrames old.work → IsSized mid.format mid.output ⊎ AreOlder old.work mid.work → HasFreePlace mid
+  always-place m (inl s) = inl (length k.pictures, in-order, is-small s)
+  always-place m (inr older) = inr (is-fresh m older)
+
+-- so one of the places is found
+pub some-free : (d : Decoder) (r : Option ℕ) (first count : ℕ) → first ≡ first_place d.work → count ≡ places d.work → 0 < places d.work →
+    ((next : ℕ) → IsOrdered next d.output → size_of d.output < count → IsTrue (is_some r)) →
+    (is_occupied first d.output ≡ false → 0 < count → IsTrue (is_some r)) → HasFreePlace d → IsTrue (is_some r)
+some-free d r first count f c some small fresh (inl h) = small h.0 h.1 (let l = h.2 in omega (arith, c, l))
+some-free d r first count f c some small fresh (inr free) =
+    fresh (subst (λ (n : ℕ). is_occupied n d.output ≡ false) (sym f) free) (omega (arith, c, some))
 
 pub none-some : {A : Type 0} (o : Option A) → o ≡ None → IsTrue (is_some o) → ⊥
 none-some None e t = cc

@@ -1,9 +1,9 @@
 -- What the verdict says of predictions and of the buffer, at each picture of a stream.
 use Rattle.std.proofs.Common.{◌≡◌, ℕ, Bool, true, false, List, [], ◌∷◌, ◌++◌, refl, sym, ◌∙◌, subst, arith, append_assoc}
-use Rattle.h264_verify.specs.Units.{terms_of}
+use Rattle.h264_verify.specs.Units.{extent_at}
 use Rattle.h264_base.specs.declared.mode.Target.{Target}
-use Rattle.h264_base.specs.declared.mode.Mode.{Mode}
-use Rattle.h264_base.specs.declared.mode.Mode.TheVariants as modes
+use Rattle.h264_verify.specs.declared.state.Depth.{Depth}
+use Rattle.h264_verify.specs.declared.state.Depth.TheVariants as depths
 use Rattle.h264_base.specs.declared.summary.Summary.{Summary}
 use Rattle.h264_verify.specs.Telling.{Told}
 use Rattle.h264_verify.specs.History.{History}
@@ -45,7 +45,7 @@ ends-within p ps s room =
 
 -- ---- of units that are legal
 
-module _ (target : Target) (before : History) (told : List Told) (l : AreLegal (terms_of modes.Full target) before told) (later : List CodedPicture)
+module _ (target : Target) (before : History) (told : List Told) (l : AreLegal (extent_at depths.Full target) before told) (later : List CodedPicture)
     (p : CodedPicture) (ps : List CodedPicture) where
   newest : runs_of before ≡ later ++ p ∷ ps → (e : Bool) × AreSound e (p ∷ ps)
   newest e = sound-at (has_ended (goes_on before) false) later p ps
@@ -68,8 +68,8 @@ module _ (target : Target) (before : History) (told : List Told) (l : AreLegal (
 
 -- ---- of a stream whose end is legal too
 
-module _ (target : Target) (units : History) (first last : List Told) (bit : ℕ) (l : AreLegal (terms_of modes.Full target) units first)
-    (end : AreMet (end_steps modes.Full units bit) last) where
+module _ (target : Target) (units : History) (first last : List Told) (bit : ℕ) (l : AreLegal (extent_at depths.Full target) units first)
+    (end : AreMet (end_steps depths.Full units bit) last) where
   is-decodable : (later : List CodedPicture) (p : CodedPicture) (ps : List CodedPicture) → runs_of units ≡ later ++ p ∷ ps → IsDecodable p ps
   is-decodable later p ps e = record {
     predicted = legal-predicted target units first l later p ps e;
@@ -84,17 +84,17 @@ module _ (target : Target) (units : History) (first last : List Told) (bit : ℕ
   each-decodable later (p ∷ ps) e = (is-decodable later p ps e, each-decodable (later ++ p ∷ []) ps (e ∙ sym (append_assoc later (p ∷ []) ps)))
 
 -- its pictures, where slice data are read
-pub are-decodable : (mode : Mode) (target : Target) (units : History) (first last : List Told) (bit : ℕ) → AreLegal (terms_of mode target) units first →
-    AreMet (end_steps mode units bit) last → AreDecodable mode (runs_of units)
-are-decodable modes.Units target units first last bit l e = tt
-are-decodable modes.Headers target units first last bit l e = tt
-are-decodable modes.Full target units first last bit l e = each-decodable target units first last bit l e [] (runs_of units) refl
+pub are-decodable : (depth : Depth) (target : Target) (units : History) (first last : List Told) (bit : ℕ) → AreLegal (extent_at depth target) units first →
+    AreMet (end_steps depth units bit) last → AreDecodable depth (runs_of units)
+are-decodable depths.Units target units first last bit l e = tt
+are-decodable depths.Headers target units first last bit l e = tt
+are-decodable depths.Full target units first last bit l e = each-decodable target units first last bit l e [] (runs_of units) refl
 
 -- one of them
 pub decodable-at : (later : List CodedPicture) (p : CodedPicture) (ps : List CodedPicture) → EachIsDecodable (later ++ p ∷ ps) → IsDecodable p ps
 decodable-at [] p ps d = d.0
 decodable-at (q ∷ later) p ps d = decodable-at later p ps d.1
 
-pub whole-decodable : (target : Target) (bytes : List ℕ) (told : List Told) (summary : Summary) (h : Holds (terms_of modes.Full target) bytes told summary)
+pub whole-decodable : (target : Target) (bytes : List ℕ) (told : List Told) (summary : Summary) (h : Holds (extent_at depths.Full target) bytes told summary)
     (later : List CodedPicture) (p : CodedPicture) (ps : List CodedPicture) → runs_of h.units ≡ later ++ p ∷ ps → IsDecodable p ps
 whole-decodable target bytes told summary h later p ps e = decodable-at later p ps (subst EachIsDecodable e h.pictures)

@@ -3,8 +3,8 @@ use Rattle.std.proofs.Common.{◌≡◌, ℕ, ◌*◌, Bool, true, false, List, 
 use Rattle.std.proofs.Common.{◌==◌, ◌≤◌, arith, if◌then◌else◌}
 use Rattle.std.proofs.lemmas.List.{append-nil}
 use Rattle.h264_base.specs.Call.{span}
-use Rattle.h264_base.specs.declared.mode.Mode.{Mode}
-use Rattle.h264_base.specs.declared.mode.Mode.TheVariants as modes
+use Rattle.h264_verify.specs.declared.state.Depth.{Depth}
+use Rattle.h264_verify.specs.declared.state.Depth.TheVariants as depths
 use Rattle.h264_base.specs.declared.stop.Stop.{Stop}
 use Rattle.h264_base.specs.declared.stop.Stop.TheVariants.{No}
 use Rattle.h264_verify.specs.Telling.{Told, Said, said_of, AreOf}
@@ -36,7 +36,7 @@ use Rattle.h264_verify.specs.Keeping.{ended_pictures, close_steps}
 use Rattle.h264_verify.specs.Order.{whole_at, whole_picture, whole_steps}
 use Rattle.h264_verify.specs.Demands.{Demand}
 use Rattle.h264_base.specs.declared.summary.Summary.{Summary}
-use Rattle.h264_verify.specs.declared.state.Terms.{Terms}
+use Rattle.h264_verify.specs.declared.state.Extent.{Extent}
 use Rattle.h264_verify.specs.Units.{unit_call, slice_unit, other_content, picture_demand, summary_of}
 use Rattle.h264_units.specs.UnitHeader.{is_slice}
 use Rattle.h264_verify.specs.Order.{content, content_steps, data_course, content_course, frames_at, end_steps}
@@ -92,130 +92,131 @@ module _ {A B : Type 0} (body : Body) (f : A → B) where
       as-seen (run g body i).elements (run g body i).answer
 
 -- what was read is judged, and nothing is read after it
-module _ {A : Type 0} (mode : Mode) (before : History) (unit : NalUnit) (f : A → Content)
-    (none : (x : A) (bit : ℕ) → course_outcome (body_of unit) (data_course mode before unit (f x) bit) ≡ gives (f x)) where
+module _ {A : Type 0} (depth : Depth) (before : History) (unit : NalUnit) (f : A → Content)
+    (none : (x : A) (bit : ℕ) → course_outcome (body_of unit) (data_course depth before unit (f x) bit) ≡ gives (f x)) where
   abbrev one_more : Content → History
   one_more found = record { unit = unit; content = found } ∷ before
 
   plain-by : (told : List Told) (a : Result (A × ℕ) Stop) →
-      joined_on mode before unit (outcome told (seen f a)) ≡ joined mode before unit (outcome told (value_of a) >>= λ x. gives (f x))
+      joined_on depth before unit (outcome told (seen f a)) ≡ joined depth before unit (outcome told (value_of a) >>= λ x. gives (f x))
   unfolding ◌>>=◌
   plain-by told (Ok x) =
-      ap (λ (o : Outcome Content). with_calls told (steps_outcome (content_steps mode before unit (f x.0)) >>= λ _. o >>= λ found. gives (one_more found)))
+      ap (λ (o : Outcome Content). with_calls told (steps_outcome (content_steps depth before unit (f x.0)) >>= λ _. o >>= λ found. gives (one_more found)))
       (none x.0 x.1)
-      ∙ ap (λ (l : List Told). with_calls l (steps_outcome (content_steps mode before unit (f x.0)) >>= λ _. gives (one_more (f x.0)))) (sym (append-nil told))
+      ∙ ap (λ (l : List Told). with_calls l (steps_outcome (content_steps depth before unit (f x.0)) >>= λ _. gives (one_more (f x.0)))) (sym (append-nil told))
   plain-by told (Err e) = refl
 
-  plain : (g : Grammar A) → joined_on mode before unit (structure_from (◌bind◌ g (λ x. Done (f x))) (body_of unit) 0) ≡
-      joined mode before unit (structure_outcome g (body_of unit) >>= λ x. gives (f x))
-  plain g = ap (λ (o : Outcome (Content × ℕ)). joined_on mode before unit o) (structure-seen (body_of unit) f g 0) ∙
+  plain : (g : Grammar A) → joined_on depth before unit (structure_from (◌bind◌ g (λ x. Done (f x))) (body_of unit) 0) ≡
+      joined depth before unit (structure_outcome g (body_of unit) >>= λ x. gives (f x))
+  plain g = ap (λ (o : Outcome (Content × ℕ)). joined_on depth before unit o) (structure-seen (body_of unit) f g 0) ∙
       plain-by (structure_from g (body_of unit) 0).calls (structure_from g (body_of unit) 0).answer
 
 module _ (before : History) (unit : NalUnit) where
-  abbrev on : Mode → Grammar Content → Outcome History
-  on mode g = joined_on mode before unit (structure_from g (body_of unit) 0)
+  abbrev on : Depth → Grammar Content → Outcome History
+  on depth g = joined_on depth before unit (structure_from g (body_of unit) 0)
 
-  passed-is : (mode : Mode) → on mode (Done contents.Passed) ≡ joined mode before unit (gives contents.Passed)
+  passed-is : (depth : Depth) → on depth (Done contents.Passed) ≡ joined depth before unit (gives contents.Passed)
   unfolding ◌>>=◌ run course_outcome
-  passed-is mode = refl
+  passed-is depth = refl
 
-  none-sps : (mode : Mode) (set : Sps) (bit : ℕ) → course_outcome (body_of unit) (data_course mode before unit (contents.OfSps set) bit) ≡
+  none-sps : (depth : Depth) (set : Sps) (bit : ℕ) → course_outcome (body_of unit) (data_course depth before unit (contents.OfSps set) bit) ≡
       gives (contents.OfSps set)
   unfolding course_outcome
-  none-sps mode set bit = refl
+  none-sps depth set bit = refl
 
-  none-pps : (mode : Mode) (set : Pps) (bit : ℕ) → course_outcome (body_of unit) (data_course mode before unit (contents.OfPps set) bit) ≡
+  none-pps : (depth : Depth) (set : Pps) (bit : ℕ) → course_outcome (body_of unit) (data_course depth before unit (contents.OfPps set) bit) ≡
       gives (contents.OfPps set)
   unfolding course_outcome
-  none-pps mode set bit = refl
+  none-pps depth set bit = refl
 
-  none-header : (h : Header) (bit : ℕ) → course_outcome (body_of unit) (data_course modes.Headers before unit (contents.OfSlice h []) bit) ≡
+  none-header : (h : Header) (bit : ℕ) → course_outcome (body_of unit) (data_course depths.Headers before unit (contents.OfSlice h []) bit) ≡
       gives (contents.OfSlice h [])
   unfolding course_outcome
   none-header h bit = refl
 
-  sps-is : (terms : Terms) → on terms.mode (◌bind◌ (sps terms.target) (λ set. Done (contents.OfSps set))) ≡
-      joined terms.mode before unit (sps_outcome terms.target unit)
+  sps-is : (extent : Extent) → on extent.depth (◌bind◌ (sps extent.target) (λ set. Done (contents.OfSps set))) ≡
+      joined extent.depth before unit (sps_outcome extent.target unit)
   unfolding sps_outcome
-  sps-is terms = plain terms.mode before unit contents.OfSps (none-sps terms.mode) (sps terms.target)
+  sps-is extent = plain extent.depth before unit contents.OfSps (none-sps extent.depth) (sps extent.target)
 
-  pps-is : (terms : Terms) → on terms.mode (◌bind◌ (pps terms.target) (λ set. Done (contents.OfPps set))) ≡
-      joined terms.mode before unit (pps_outcome terms.target unit)
+  pps-is : (extent : Extent) → on extent.depth (◌bind◌ (pps extent.target) (λ set. Done (contents.OfPps set))) ≡
+      joined extent.depth before unit (pps_outcome extent.target unit)
   unfolding pps_outcome
-  pps-is terms = plain terms.mode before unit contents.OfPps (none-pps terms.mode) (pps terms.target)
+  pps-is extent = plain extent.depth before unit contents.OfPps (none-pps extent.depth) (pps extent.target)
 
-  header-is : on modes.Headers (header_content before unit) ≡ joined modes.Headers before unit (slice_outcome before unit)
+  header-is : on depths.Headers (header_content before unit) ≡ joined depths.Headers before unit (slice_outcome before unit)
   unfolding slice_outcome
-  header-is = plain modes.Headers before unit (λ h. contents.OfSlice h []) none-header (header (sets_of (maps_of before)) (slice_unit unit))
+  header-is = plain depths.Headers before unit (λ h. contents.OfSlice h []) none-header (header (sets_of (maps_of before)) (slice_unit unit))
 
-  whole-is : on modes.Full (header_content before unit) ≡ whole_slice before unit
+  whole-is : on depths.Full (header_content before unit) ≡ whole_slice before unit
   unfolding whole_slice
   whole-is = refl
 
-  other-by : (b : Bool) (mode : Mode) (slice : Outcome History) → on mode (header_content before unit) ≡ slice →
-      on mode (if b then header_content before unit else Done contents.Passed) ≡ (if b then slice else joined mode before unit (gives contents.Passed))
-  other-by true mode slice e = e
-  other-by false mode slice e = passed-is mode
+  other-by : (b : Bool) (depth : Depth) (slice : Outcome History) → on depth (header_content before unit) ≡ slice →
+      on depth (if b then header_content before unit else Done contents.Passed) ≡ (if b then slice else joined depth before unit (gives contents.Passed))
+  other-by true depth slice e = e
+  other-by false depth slice e = passed-is depth
 
-  other-is : (mode : Mode) (kind : ℕ) → on mode (other_content mode kind before unit) ≡ joined_other mode kind before unit
+  other-is : (depth : Depth) (kind : ℕ) → on depth (other_content depth kind before unit) ≡ joined_other depth kind before unit
   unfolding joined_other
-  other-is modes.Units kind = passed-is modes.Units
-  other-is modes.Headers kind = other-by (is_slice kind) modes.Headers (joined modes.Headers before unit (slice_outcome before unit)) header-is
-  other-is modes.Full kind = other-by (is_slice kind) modes.Full (whole_slice before unit) whole-is
+  other-is depths.Units kind = passed-is depths.Units
+  other-is depths.Headers kind = other-by (is_slice kind) depths.Headers (joined depths.Headers before unit (slice_outcome before unit)) header-is
+  other-is depths.Full kind = other-by (is_slice kind) depths.Full (whole_slice before unit) whole-is
 
-  content-by : (a b : Bool) (terms : Terms) (kind : ℕ) →
-      on terms.mode (if a then ◌bind◌ (sps terms.target)
-      (λ set. Done (contents.OfSps set)) else (if b then ◌bind◌ (pps terms.target) (λ set. Done (contents.OfPps set)) else other_content terms.mode kind
-      before unit)) ≡ (if a then joined terms.mode before unit
-      (sps_outcome terms.target unit) else (if b then joined terms.mode before unit (pps_outcome terms.target unit) else joined_other terms.mode kind before
+  content-by : (a b : Bool) (extent : Extent) (kind : ℕ) →
+      on extent.depth (if a then ◌bind◌ (sps extent.target)
+      (λ set. Done (contents.OfSps set)) else (if b then ◌bind◌ (pps extent.target) (λ set. Done (contents.OfPps set)) else other_content extent.depth kind
+      before unit)) ≡ (if a then joined extent.depth before unit
+      (sps_outcome extent.target unit) else (if b then joined extent.depth before unit (pps_outcome extent.target unit) else joined_other extent.depth kind
+      before
       unit))
-  content-by true b terms kind = sps-is terms
-  content-by false true terms kind = pps-is terms
-  content-by false false terms kind = other-is terms.mode kind
+  content-by true b extent kind = sps-is extent
+  content-by false true extent kind = pps-is extent
+  content-by false false extent kind = other-is extent.depth kind
 
-  content-is : (terms : Terms) (kind : ℕ) → on terms.mode (content terms kind before unit) ≡ joined_by terms kind before unit
+  content-is : (extent : Extent) (kind : ℕ) → on extent.depth (content extent kind before unit) ≡ joined_by extent kind before unit
   unfolding content joined_by
-  content-is terms kind = content-by (kind == 7) (kind == 8) terms kind
+  content-is extent kind = content-by (kind == 7) (kind == 8) extent kind
 
   -- what is in a unit, by its course and by its parts
-  content-joined : (terms : Terms) → (course_outcome (body_of unit) (content_course terms before unit) >>= λ found. gives
-      (record { unit = unit; content = found } ∷ before)) ≡ joined_by terms (nal_unit_type (header_of unit)) before unit
+  content-joined : (extent : Extent) → (course_outcome (body_of unit) (content_course extent before unit) >>= λ found. gives
+      (record { unit = unit; content = found } ∷ before)) ≡ joined_by extent (nal_unit_type (header_of unit)) before unit
   unfolding course_outcome
-  content-joined terms =
+  content-joined extent =
       let join : Content → Outcome History = λ found. gives (record { unit = unit; content = found } ∷ before) in
-      let read = structure_from (content terms (nal_unit_type (header_of unit)) before unit) (body_of unit) 0 in
-      bind-assoc read (λ x. steps_outcome (content_steps terms.mode before unit x.0) >>= λ _. course_outcome (body_of unit)
-      (data_course terms.mode before unit x.0 x.1)) join
-      ∙ bind-same read (λ x. (steps_outcome (content_steps terms.mode before unit x.0) >>= λ _. course_outcome (body_of unit)
-      (data_course terms.mode before unit x.0 x.1)) >>= join)
-      (λ x. steps_outcome (content_steps terms.mode before unit x.0) >>= λ _. course_outcome (body_of unit) (data_course terms.mode before unit x.0 x.1)
-      >>= join) (λ x. bind-assoc (steps_outcome (content_steps terms.mode before unit x.0))
-      (λ _. course_outcome (body_of unit) (data_course terms.mode before unit x.0 x.1)) join)
-      ∙ content-is terms (nal_unit_type (header_of unit))
+      let read = structure_from (content extent (nal_unit_type (header_of unit)) before unit) (body_of unit) 0 in
+      bind-assoc read (λ x. steps_outcome (content_steps extent.depth before unit x.0) >>= λ _. course_outcome (body_of unit)
+      (data_course extent.depth before unit x.0 x.1)) join
+      ∙ bind-same read (λ x. (steps_outcome (content_steps extent.depth before unit x.0) >>= λ _. course_outcome (body_of unit)
+      (data_course extent.depth before unit x.0 x.1)) >>= join)
+      (λ x. steps_outcome (content_steps extent.depth before unit x.0) >>= λ _. course_outcome (body_of unit) (data_course extent.depth before unit x.0 x.1)
+      >>= join) (λ x. bind-assoc (steps_outcome (content_steps extent.depth before unit x.0))
+      (λ _. course_outcome (body_of unit) (data_course extent.depth before unit x.0 x.1)) join)
+      ∙ content-is extent (nal_unit_type (header_of unit))
 
 -- What comes of a unit, step by step.
-pub by-steps : (terms : Terms) (before : History) (unit : NalUnit) → unit_outcome terms before unit ≡ unit_by_steps terms before unit
+pub by-steps : (extent : Extent) (before : History) (unit : NalUnit) → unit_outcome extent before unit ≡ unit_by_steps extent before unit
 unfolding unit_outcome unit_by_steps course_outcome
-by-steps terms before unit =
+by-steps extent before unit =
     let call = Said (unit_call unit.from (header_of unit) (length unit.body)) in
     let hs = header_demands (8 * unit.from) (header_of unit) in
-    let cs = whole_at terms.mode (nal_unit_type (header_of unit)) before ++
-    (needs (closing_at (nal_unit_type (header_of unit)) before) ++ frames_at terms.mode (nal_unit_type (header_of unit)) before) in
-    let o = course_outcome (body_of unit) (content_course terms before unit) in
+    let cs = whole_at extent.depth (nal_unit_type (header_of unit)) before ++
+    (needs (closing_at (nal_unit_type (header_of unit)) before) ++ frames_at extent.depth (nal_unit_type (header_of unit)) before) in
+    let o = course_outcome (body_of unit) (content_course extent before unit) in
     let join : Content → Outcome History = λ found. gives (record { unit = unit; content = found } ∷ before) in
     ap (λ (q : Outcome History). answers (emulation_checked unit.from unit.body) >>= λ _. q)
     (bind-assoc (steps_outcome (needs hs)) (λ _. tells call >>= λ _. steps_outcome cs >>= λ _. o) join
     ∙ ap (λ (q : Outcome History). steps_outcome (needs hs) >>= λ _. q)
     (bind-assoc (tells call) (λ _. steps_outcome cs >>= λ _. o) join ∙
     ap (λ (q : Outcome History). tells call >>= λ _. q)
-    (bind-assoc (steps_outcome cs) (λ _. o) join ∙ ap (λ (q : Outcome History). steps_outcome cs >>= λ _. q) (content-joined before unit terms)))
-    ∙ ap (λ (q : Outcome (Unit {0})). q >>= λ _. tells call >>= λ _. steps_outcome cs >>= λ _. joined_by terms (nal_unit_type (header_of unit)) before unit)
+    (bind-assoc (steps_outcome cs) (λ _. o) join ∙ ap (λ (q : Outcome History). steps_outcome cs >>= λ _. q) (content-joined before unit extent)))
+    ∙ ap (λ (q : Outcome (Unit {0})). q >>= λ _. tells call >>= λ _. steps_outcome cs >>= λ _. joined_by extent (nal_unit_type (header_of unit)) before unit)
     (needs-judged hs))
 
-pub plays-course : {S X : Type 0} (took : S → List Told → Type 0) (failures : S → ℕ) (view : X → History) (terms : Terms) (before : History) (unit : NalUnit)
-    (s s' : S) (r : Result X Stop) → Plays (span took failures s s') view (unit_by_steps terms before unit) r →
-    Plays (span took failures s s') view (unit_outcome terms before unit) r
-plays-course took failures view terms before unit s s' r p = subst (λ o. Plays (span took failures s s') view o r) (sym (by-steps terms before unit)) p
+pub plays-course : {S X : Type 0} (took : S → List Told → Type 0) (failures : S → ℕ) (view : X → History) (extent : Extent) (before : History) (unit : NalUnit)
+    (s s' : S) (r : Result X Stop) → Plays (span took failures s s') view (unit_by_steps extent before unit) r →
+    Plays (span took failures s s') view (unit_outcome extent before unit) r
+plays-course took failures view extent before unit s s' r p = subst (λ o. Plays (span took failures s s') view o r) (sym (by-steps extent before unit)) p
 
 -- no fewer pictures have ended once the newest has
 pub ended-grows : (on ends : Bool) (pictures : List CodedPicture) → length (ended_pictures on false pictures) ≤ length (ended_pictures on ends pictures)
@@ -225,10 +226,10 @@ ended-grows true false (p ∷ ps) = omega arith
 ended-grows false ends (p ∷ ps) = omega arith
 
 -- what the end of a picture tells, if it ends
-frames-of : (ends : Bool) (mode : Mode) (before : History) →
-    AreOf (length (ended_pictures (may_go_on before) ends (runs_of before))) (steps_outcome (if ends then closing_frames mode before else [])).calls
-frames-of true mode before = closing-of mode before
-frames-of false mode before = tt
+frames-of : (ends : Bool) (depth : Depth) (before : History) →
+    AreOf (length (ended_pictures (may_go_on before) ends (runs_of before))) (steps_outcome (if ends then closing_frames depth before else [])).calls
+frames-of true depth before = closing-of depth before
+frames-of false depth before = tt
 
 of-either : (n : ℕ) (b : Bool) (o : Outcome (Unit {0})) (e : Stop) → AreOf n o.calls → AreOf n (if b then o else answers (Err e)).calls
 of-either n true o e h = h
@@ -248,61 +249,61 @@ of-open : (n : ℕ) (on : Bool) (pictures : List CodedPicture) (steps : List Ste
 of-open n true pictures steps h = of-picture n pictures steps h
 of-open n false pictures steps h = h
 
-of-whole : (n : ℕ) (mode : Mode) (before : History) (steps : List Step) → AreOf n (steps_outcome steps).calls →
-    AreOf n (steps_outcome (whole_steps mode before ++ steps)).calls
-of-whole n modes.Units before steps h = h
-of-whole n modes.Headers before steps h = h
-of-whole n modes.Full before steps h = of-open n (may_go_on before) (runs_of before) steps h
+of-whole : (n : ℕ) (depth : Depth) (before : History) (steps : List Step) → AreOf n (steps_outcome steps).calls →
+    AreOf n (steps_outcome (whole_steps depth before ++ steps)).calls
+of-whole n depths.Units before steps h = h
+of-whole n depths.Headers before steps h = h
+of-whole n depths.Full before steps h = of-open n (may_go_on before) (runs_of before) steps h
 
-of-ended : (n : ℕ) (ends : Bool) (mode : Mode) (before : History) (steps : List Step) → AreOf n (steps_outcome steps).calls →
-    AreOf n (steps_outcome ((if ends then whole_steps mode before else []) ++ steps)).calls
-of-ended n true mode before steps h = of-whole n mode before steps h
-of-ended n false mode before steps h = h
+of-ended : (n : ℕ) (ends : Bool) (depth : Depth) (before : History) (steps : List Step) → AreOf n (steps_outcome steps).calls →
+    AreOf n (steps_outcome ((if ends then whole_steps depth before else []) ++ steps)).calls
+of-ended n true depth before steps h = of-whole n depth before steps h
+of-ended n false depth before steps h = h
 
-pub closing-all : (ends : Bool) (mode : Mode) (before : History) →
-    AreOf (length (ended_pictures (may_go_on before) ends (runs_of before))) (steps_outcome (close_steps mode ends before)).calls
-closing-all ends mode before =
+pub closing-all : (ends : Bool) (depth : Depth) (before : History) →
+    AreOf (length (ended_pictures (may_go_on before) ends (runs_of before))) (steps_outcome (close_steps depth ends before)).calls
+closing-all ends depth before =
     let n = length (ended_pictures (may_go_on before) ends (runs_of before)) in
-    of-ended n ends mode before _ (of-needs n (if ends then closing_demands before else []) _ (frames-of ends mode before))
+    of-ended n ends depth before _ (of-needs n (if ends then closing_demands before else []) _ (frames-of ends depth before))
 
 -- The end of the input, part by part.
-module _ {S : Type 0} (took : S → List Told → Type 0) (failures : S → ℕ) (mode : Mode) (before : History) (bit : ℕ) where
+module _ {S : Type 0} (took : S → List Told → Type 0) (failures : S → ℕ) (depth : Depth) (before : History) (bit : ℕ) where
   abbrev after_last : List Step
-  after_last = needs (picture_demand mode before bit ∷ []) ++ last_frames mode (runs_of before)
+  after_last = needs (picture_demand depth before bit ∷ []) ++ last_frames depth (runs_of before)
 
   three : (xs ys zs ts : List Step) → (xs ++ (ys ++ zs)) ++ ts ≡ xs ++ (ys ++ (zs ++ ts))
   three xs ys zs ts = append_assoc xs (ys ++ zs) ts ∙ ap (λ (l : List Step). xs ++ l) (append_assoc ys zs ts)
 
-  end-is : steps_outcome (end_steps mode before bit) ≡ (steps_outcome (close_steps mode true before) >>= λ _. steps_outcome after_last)
-  end-is = ap steps_outcome (sym (three (whole_steps mode before) (needs (closing_demands before)) (closing_frames mode before) after_last)) ∙
-      steps-append (close_steps mode true before) after_last
+  end-is : steps_outcome (end_steps depth before bit) ≡ (steps_outcome (close_steps depth true before) >>= λ _. steps_outcome after_last)
+  end-is = ap steps_outcome (sym (three (whole_steps depth before) (needs (closing_demands before)) (closing_frames depth before) after_last)) ∙
+      steps-append (close_steps depth true before) after_last
 
   -- it stops while the last picture ends
-  pub end-stops : (s s' : S) (e : Stop) → Plays {X = Unit {0}} (span took failures s s') (λ u. u) (steps_outcome (close_steps mode true before)) (Err e) →
-      Plays {X = Summary} (span took failures s s') (λ u. u) (end_outcome mode before bit) (Err e)
+  pub end-stops : (s s' : S) (e : Stop) → Plays {X = Unit {0}} (span took failures s s') (λ u. u) (steps_outcome (close_steps depth true before)) (Err e) →
+      Plays {X = Summary} (span took failures s s') (λ u. u) (end_outcome depth before bit) (Err e)
   unfolding end_outcome
-  end-stops s s' e p = plays-stops {X = Unit {0}} took failures (λ u. u) (λ u. u) (steps_outcome (end_steps mode before bit)) _ s s' e
+  end-stops s s' e p = plays-stops {X = Unit {0}} took failures (λ u. u) (λ u. u) (steps_outcome (end_steps depth before bit)) _ s s' e
       (plays-as took failures (λ u. u) _ _ s s' (Err e) end-is
-      (plays-stops took failures (λ u. u) (λ u. u) (steps_outcome (close_steps mode true before)) _ s s' e p))
+      (plays-stops took failures (λ u. u) (λ u. u) (steps_outcome (close_steps depth true before)) _ s s' e p))
 
-  module _ (s s1 s2 : S) (z : Unit {0}) (ended : Plays (span took failures s s1) (λ (u : Unit {0}). u) (steps_outcome (close_steps mode true before)) (Ok z))
+  module _ (s s1 s2 : S) (z : Unit {0}) (ended : Plays (span took failures s s1) (λ (u : Unit {0}). u) (steps_outcome (close_steps depth true before)) (Ok z))
     where
       end-steps : (r : Result (Unit {0}) Stop) → Plays (span took failures s1 s2) (λ u. u) (steps_outcome after_last) r →
-          Plays (span took failures s s2) (λ u. u) (steps_outcome (end_steps mode before bit)) r
+          Plays (span took failures s s2) (λ u. u) (steps_outcome (end_steps depth before bit)) r
       end-steps r p = plays-as took failures (λ u. u) _ _ s s2 r end-is
-          (plays-on took failures (λ u. u) (λ u. u) (steps_outcome (close_steps mode true before)) (λ _. steps_outcome after_last) s s1 s2 z r ended p)
+          (plays-on took failures (λ u. u) (λ u. u) (steps_outcome (close_steps depth true before)) (λ _. steps_outcome after_last) s s1 s2 z r ended p)
 
       -- it stops after that
       pub end-broken : (e : Stop) → Plays {X = Unit {0}} (span took failures s1 s2) (λ u. u) (steps_outcome after_last) (Err e) →
-          Plays {X = Summary} (span took failures s s2) (λ u. u) (end_outcome mode before bit) (Err e)
+          Plays {X = Summary} (span took failures s s2) (λ u. u) (end_outcome depth before bit) (Err e)
       unfolding end_outcome
-      end-broken e p = plays-stops {X = Unit {0}} took failures (λ u. u) (λ u. u) (steps_outcome (end_steps mode before bit)) _ s s2 e (end-steps (Err e) p)
+      end-broken e p = plays-stops {X = Unit {0}} took failures (λ u. u) (λ u. u) (steps_outcome (end_steps depth before bit)) _ s s2 e (end-steps (Err e) p)
 
       -- all rules are met
       pub end-gives : (v : Unit {0}) (summary : Summary) → Plays (span took failures s1 s2) (λ (u : Unit {0}). u) (steps_outcome after_last) (Ok v) →
-          summary ≡ summary_of mode before → Plays (span took failures s s2) (λ u. u) (end_outcome mode before bit) (Ok summary)
+          summary ≡ summary_of depth before → Plays (span took failures s s2) (λ u. u) (end_outcome depth before bit) (Ok summary)
       unfolding end_outcome
       end-gives v summary p e =
-          subst (λ (w : Summary). Plays (span took failures s s2) (λ u. u) (end_outcome mode before bit) (Ok w)) (sym e)
-          (plays-on took failures (λ (u : Unit {0}). u) (λ u. u) (steps_outcome (end_steps mode before bit)) (λ _. gives (summary_of mode before)) s s2 s2 v
-          (Ok (summary_of mode before)) (end-steps (Ok v) p) (gives-plays took failures (λ u. u) (summary_of mode before) s2))
+          subst (λ (w : Summary). Plays (span took failures s s2) (λ u. u) (end_outcome depth before bit) (Ok w)) (sym e)
+          (plays-on took failures (λ (u : Unit {0}). u) (λ u. u) (steps_outcome (end_steps depth before bit)) (λ _. gives (summary_of depth before)) s s2 s2 v
+          (Ok (summary_of depth before)) (end-steps (Ok v) p) (gives-plays took failures (λ u. u) (summary_of depth before) s2))

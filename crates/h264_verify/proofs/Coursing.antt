@@ -1,8 +1,8 @@
 -- What a course has told, wherever it stops: a property of calls that its parts keep.
 use Rattle.std.proofs.Common.{ℕ, ◌*◌, List, [], ◌∷◌, ◌++◌, length, inl, inr, Result, Err, sym, subst}
-use Rattle.h264_verify.specs.Units.{terms_of}
+use Rattle.h264_verify.specs.Units.{extent_at}
 use Rattle.h264_base.specs.declared.mode.Target.{Target}
-use Rattle.h264_base.specs.declared.mode.Mode.TheVariants as modes
+use Rattle.h264_verify.specs.declared.state.Depth.TheVariants as depths
 use Rattle.h264_base.specs.declared.stop.Stop.{Stop}
 use Rattle.h264_base.specs.Body.{Body}
 use Rattle.h264_base.specs.Call.{Call}
@@ -54,22 +54,22 @@ module _ (Q : List Told → Type 0) where
     pub rules : (ds : List Demand) → Keeps (needs ds)
     pub said : (call : Call) → Keeps (Tells (Said call) ∷ [])
     pub ends : Keeps (end_steps_at before unit)
-    pub slice : (h : Header) → Keeps (slice_steps modes.Full before unit h)
+    pub slice : (h : Header) → Keeps (slice_steps depths.Full before unit h)
 
-  content-keeps : (before : History) (unit : NalUnit) → UnitKeeps before unit → (found : Content) → Keeps (content_steps modes.Full before unit found)
+  content-keeps : (before : History) (unit : NalUnit) → UnitKeeps before unit → (found : Content) → Keeps (content_steps depths.Full before unit found)
   content-keeps before unit k (contents.OfSps set) = k.rules []
   content-keeps before unit k (contents.OfPps set) = k.rules []
   content-keeps before unit k (contents.OfSlice h ms) = k.slice h
   content-keeps before unit k contents.Passed = k.rules []
 
-  data-keeps : (before : History) (unit : NalUnit) (found : Content) (bit : ℕ) → AreKept (data_course modes.Full before unit found bit)
+  data-keeps : (before : History) (unit : NalUnit) (found : Content) (bit : ℕ) → AreKept (data_course depths.Full before unit found bit)
   data-keeps before unit (contents.OfSps set) bit = tt
   data-keeps before unit (contents.OfPps set) bit = tt
   data-keeps before unit (contents.OfSlice h ms) bit = λ found end. tt
   data-keeps before unit contents.Passed bit = tt
 
   pub unit-keeps : (target : Target) (before : History) (unit : NalUnit) → UnitKeeps before unit →
-      AreKept (unit_course (terms_of modes.Full target) before unit)
+      AreKept (unit_course (extent_at depths.Full target) before unit)
   unit-keeps target before unit k = (
     k.rules (header_demands (8 * unit.from) (header_of unit)),
     (
@@ -79,7 +79,7 @@ module _ (Q : List Told → Type 0) where
   )
 
   pub stop-keeps : IsClosed → (target : Target) (before : History) (unit : NalUnit) → UnitKeeps before unit →
-      (stop : Stop) (calls : List Told) → IsStop (terms_of modes.Full target) before unit stop calls → Q calls
+      (stop : Stop) (calls : List Told) → IsStop (extent_at depths.Full target) before unit stop calls → Q calls
   stop-keeps c target before unit k stop calls (AtBytes place fault e n) = subst Q (sym n) c.none
   stop-keeps c target before unit k stop calls (InCourse sound runs) =
-      course-keeps c (body_of unit) (unit_course (terms_of modes.Full target) before unit) (unit-keeps target before unit k) calls (Err stop) runs
+      course-keeps c (body_of unit) (unit_course (extent_at depths.Full target) before unit) (unit-keeps target before unit k) calls (Err stop) runs

@@ -1,9 +1,9 @@
 -- Each picture of whose end is told has met its marking before: the buffer stays within its places.
 use Rattle.std.proofs.Common.{◌≡◌, ℕ, ◌*◌, Bool, true, false, IsTrue, List, [], ◌∷◌, ◌++◌, length, inl, inr, Option, Some, None, Result, Ok, Err, sym, subst}
 use Rattle.std.proofs.Common.{if◌then◌else◌}
-use Rattle.h264_verify.specs.Units.{terms_of}
+use Rattle.h264_verify.specs.Units.{extent_at}
 use Rattle.h264_base.specs.declared.mode.Target.{Target}
-use Rattle.h264_base.specs.declared.mode.Mode.TheVariants as modes
+use Rattle.h264_verify.specs.declared.state.Depth.TheVariants as depths
 use Rattle.h264_base.specs.declared.stop.Stop.{Stop}
 use Rattle.h264_base.specs.Body.{Body}
 use Rattle.h264_base.specs.Grammar.{Element}
@@ -126,7 +126,7 @@ needs-end : (ds : List Demand) → StepsEnd (needs ds)
 needs-end [] = tt
 needs-end (d ∷ ds) = λ t. needs-end ds
 
-frames-end : (written : List (Entry Shown)) → StepsEnd (told_frames modes.Full written)
+frames-end : (written : List (Entry Shown)) → StepsEnd (told_frames depths.Full written)
 frames-end [] = tt
 frames-end (e ∷ written) = frames-end written
 
@@ -134,20 +134,20 @@ missing-on-end : (o : Option References) (next : References → List Step) → (
 missing-on-end None next f = tt
 missing-on-end (Some held) next f = f held
 
-missing-end : (bit : ℕ) (n : Numbering) (numbers : List ℕ) (refs : References) (b : Buffered Shown) → StepsEnd (missing_steps modes.Full bit n numbers refs b)
+missing-end : (bit : ℕ) (n : Numbering) (numbers : List ℕ) (refs : References) (b : Buffered Shown) → StepsEnd (missing_steps depths.Full bit n numbers refs b)
 missing-end bit n [] refs b = tt
 missing-end bit n (number ∷ numbers) refs b = λ t.
     missing-on-end (filled (record n { frame_num = number }) refs)
-    (λ held. told_frames modes.Full (missing_turn held b).written ++ missing_steps modes.Full bit n numbers held (missing_turn held b).buffer)
-    (λ held. ends-both (told_frames modes.Full (missing_turn held b).written) (missing_steps modes.Full bit n numbers held (missing_turn held b).buffer)
+    (λ held. told_frames depths.Full (missing_turn held b).written ++ missing_steps depths.Full bit n numbers held (missing_turn held b).buffer)
+    (λ held. ends-both (told_frames depths.Full (missing_turn held b).written) (missing_steps depths.Full bit n numbers held (missing_turn held b).buffer)
     (frames-end (missing_turn held b).written) (missing-end bit n numbers held (missing_turn held b).buffer))
 
-rules-end : (begins due : Bool) (maps : Maps) (pictures : List CodedPicture) (s : CodedSlice) → StepsEnd (rules_of modes.Full begins due maps pictures s)
+rules-end : (begins due : Bool) (maps : Maps) (pictures : List CodedPicture) (s : CodedSlice) → StepsEnd (rules_of depths.Full begins due maps pictures s)
 rules-end true due maps pictures s = λ a b c d e f.
     let n = numbering_of s.sps s.header in
     let prev = prev_ref_frame_num_of pictures in
     let refs = held_after pictures in
-    let steps = missing_steps modes.Full s.header.frame_num.bit n (missing_before (record { first = s; later = [] }) pictures) refs
+    let steps = missing_steps depths.Full s.header.frame_num.bit n (missing_before (record { first = s; later = [] }) pictures) refs
     (after_all pictures).buffer in
     let number = needs (new_num_demand (is_idr s.header) (is_reference s.header) s.header.frame_num.bit prev n refs ∷ []) in
     ends-both (steps ++ number) _ (ends-both steps number
@@ -155,11 +155,11 @@ rules-end true due maps pictures s = λ a b c d e f.
     (λ g h i j. tt)
 rules-end false due maps pictures s = λ a b c d e f g h. tt
 
-by-end : (before : History) (unit : NalUnit) (h : Header) (o : Option (Pps × Sps)) → StepsEnd (steps_by modes.Full o before unit h)
+by-end : (before : History) (unit : NalUnit) (h : Header) (o : Option (Pps × Sps)) → StepsEnd (steps_by depths.Full o before unit h)
 by-end before unit h None = tt
 by-end before unit h (Some sets) =
     let s = with_sets unit h [] sets in
-    ends-both (rules_of modes.Full (begins_at before h) (is_idr_due before) (maps_of before) (runs_of before) s)
+    ends-both (rules_of depths.Full (begins_at before h) (is_idr_due before) (maps_of before) (runs_of before) s)
     (Tells (Said (slice_call (joined_to (begins_at before h) s (runs_of before)) s)) ∷ [])
     (rules-end (begins_at before h) (is_idr_due before) (maps_of before) (runs_of before) s) tt
 
@@ -174,38 +174,38 @@ if-end false steps h = tt
 
 -- the end of the picture that may go on, once its marking is met
 closes-end : (on : Bool) (pictures : List CodedPicture) → AreSound (has_ended on false) pictures → EachRoom pictures →
-    Met (needs (if on then end_of_picture pictures else [])) → StepsEnd (if on then end_frames modes.Full pictures else [])
+    Met (needs (if on then end_of_picture pictures else [])) → StepsEnd (if on then end_frames depths.Full pictures else [])
 closes-end false pictures s r m = tt
 closes-end true [] s r m = tt
 closes-end true (p ∷ ps) s r m = (ends-within p ps (closes-sound true (p ∷ ps) s m) r.0, frames-end (ended_turn p ps (within_newest (p ∷ ps)).buffer).written)
 
 -- ---- after legal units
 
-module _ (target : Target) (before : History) (first : List Told) (l : AreLegal (terms_of modes.Full target) before first) where
-  closing-end : Met (needs (closing_demands before)) → StepsEnd (closing_frames modes.Full before)
+module _ (target : Target) (before : History) (first : List Told) (l : AreLegal (extent_at depths.Full target) before first) where
+  closing-end : Met (needs (closing_demands before)) → StepsEnd (closing_frames depths.Full before)
   closing-end m = closes-end (goes_on before) (runs_of before) (stands target before first l).sound (legal-room target before first l) m
 
-  whole-steps-end : StepsEnd (whole_steps modes.Full before)
+  whole-steps-end : StepsEnd (whole_steps depths.Full before)
   whole-steps-end = whole-end (goes_on before) (runs_of before)
 
-  if-closing : (b : Bool) → Met (needs (if b then closing_demands before else [])) → StepsEnd (if b then closing_frames modes.Full before else [])
+  if-closing : (b : Bool) → Met (needs (if b then closing_demands before else [])) → StepsEnd (if b then closing_frames depths.Full before else [])
   if-closing true m = closing-end m
   if-closing false m = tt
 
   at-end : (unit : NalUnit) → StepsEnd (end_steps_at before unit)
   at-end unit =
       let kind = nal_unit_type (header_of unit) in
-      ends-both (whole_at modes.Full kind before) (needs (closing_at kind before) ++ frames_at modes.Full kind before)
-      (if-end (ends_picture kind) (whole_steps modes.Full before) whole-steps-end)
-      (ends-after (needs (closing_at kind before)) (frames_at modes.Full kind before) (needs-end (closing_at kind before)) (if-closing (ends_picture kind)))
+      ends-both (whole_at depths.Full kind before) (needs (closing_at kind before) ++ frames_at depths.Full kind before)
+      (if-end (ends_picture kind) (whole_steps depths.Full before) whole-steps-end)
+      (ends-after (needs (closing_at kind before)) (frames_at depths.Full kind before) (needs-end (closing_at kind before)) (if-closing (ends_picture kind)))
 
-  slice-end : (unit : NalUnit) (h : Header) → StepsEnd (slice_steps modes.Full before unit h)
+  slice-end : (unit : NalUnit) (h : Header) → StepsEnd (slice_steps depths.Full before unit h)
   slice-end unit h =
       let b = begins_at before h in
       let closing = needs (if b then closing_demands before else []) in
-      let shows = if b then closing_frames modes.Full before else [] in
-      let own = steps_by modes.Full (sets_at before h) before unit h in
-      ends-both (if b then whole_steps modes.Full before else []) (closing ++ (shows ++ own)) (if-end b (whole_steps modes.Full before) whole-steps-end)
+      let shows = if b then closing_frames depths.Full before else [] in
+      let own = steps_by depths.Full (sets_at before h) before unit h in
+      ends-both (if b then whole_steps depths.Full before else []) (closing ++ (shows ++ own)) (if-end b (whole_steps depths.Full before) whole-steps-end)
       (ends-after closing (shows ++ own) (needs-end (if b then closing_demands before else []))
       (λ m. ends-both shows own (if-closing b m) (by-end before unit h (sets_at before h))))
 
@@ -214,41 +214,41 @@ module _ (target : Target) (before : History) (first : List Told) (l : AreLegal 
     rules = λ ds. all-keeps (needs ds) (needs-end ds);
     said = λ call. all-keeps (Tells (Said call) ∷ []) tt;
     ends = all-keeps (end_steps_at before unit) (at-end unit);
-    slice = λ h. all-keeps (slice_steps modes.Full before unit h) (slice-end unit h);
+    slice = λ h. all-keeps (slice_steps depths.Full before unit h) (slice-end unit h);
   }
 
-  input-end : (bit : ℕ) → StepsEnd (end_steps modes.Full before bit)
+  input-end : (bit : ℕ) → StepsEnd (end_steps depths.Full before bit)
   input-end bit =
-      let shown = needs (picture_demand modes.Full before bit ∷ []) ++ last_frames modes.Full (runs_of before) in
-      ends-both (whole_steps modes.Full before) (needs (closing_demands before) ++ (closing_frames modes.Full before ++ shown)) whole-steps-end
-      (ends-after (needs (closing_demands before)) (closing_frames modes.Full before ++ shown) (needs-end (closing_demands before))
-      (λ m. ends-both (closing_frames modes.Full before) shown (closing-end m) (λ t. frames-end (last_turn (after_all (runs_of before)).buffer).written)))
+      let shown = needs (picture_demand depths.Full before bit ∷ []) ++ last_frames depths.Full (runs_of before) in
+      ends-both (whole_steps depths.Full before) (needs (closing_demands before) ++ (closing_frames depths.Full before ++ shown)) whole-steps-end
+      (ends-after (needs (closing_demands before)) (closing_frames depths.Full before ++ shown) (needs-end (closing_demands before))
+      (λ m. ends-both (closing_frames depths.Full before) shown (closing-end m) (λ t. frames-end (last_turn (after_all (runs_of before)).buffer).written)))
 
   after-all : (units : List NalUnit) (tail : Tail) (end : ℕ) (stop : Stop) (calls : List Told) →
-      IsStopAfter (terms_of modes.Full target) before (remainder units tail end) stop calls → EndAll calls
+      IsStopAfter (extent_at depths.Full target) before (remainder units tail end) stop calls → EndAll calls
   after-all units tail end stop calls (AtNext unit later e h) = stop-keeps EndAll all-closed target before unit (unit-all unit) stop calls h
   after-all units tail end stop calls (AtTail e h n) = none-all calls n
-  after-all units tail end stop calls (AtEnd e t h) = stop-all (end_steps modes.Full before (8 * end)) (input-end (8 * end)) calls stop h
+  after-all units tail end stop calls (AtEnd e t h) = stop-all (end_steps depths.Full before (8 * end)) (input-end (8 * end)) calls stop h
 
-legal-all : (target : Target) (before : History) (calls : List Told) → AreLegal (terms_of modes.Full target) before calls → EndAll calls
+legal-all : (target : Target) (before : History) (calls : List Told) → AreLegal (extent_at depths.Full target) before calls → EndAll calls
 legal-all target [] calls l = none-all calls l
 legal-all target (r ∷ before) calls l =
     subst EndAll (sym l.4)
     (all-both l.0 l.1 (legal-all target before l.0 l.2)
-    (course-keeps EndAll all-closed (body_of r.unit) (unit_course (terms_of modes.Full target) before r.unit)
+    (course-keeps EndAll all-closed (body_of r.unit) (unit_course (extent_at depths.Full target) before r.unit)
     (unit-keeps EndAll target before r.unit (unit-all target before l.0 l.2 r.unit)) l.1 (Ok r.content) l.3.runs))
 
 verdict-all : (target : Target) (bytes : List ℕ) (calls : List Told) (answer : Result Summary Stop) →
-    Verdict (terms_of modes.Full target) bytes calls answer → EndAll calls
+    Verdict (extent_at depths.Full target) bytes calls answer → EndAll calls
 verdict-all target bytes calls (Ok summary) h =
     subst EndAll (sym h.calls_are) (all-both h.first h.last (legal-all target h.units h.first h.legal)
-    (met-all (end_steps modes.Full h.units (8 * length bytes)) (input-end target h.units h.first h.legal (8 * length bytes)) h.last h.end))
+    (met-all (end_steps depths.Full h.units (8 * length bytes)) (input-end target h.units h.first h.legal (8 * length bytes)) h.last h.end))
 verdict-all target bytes calls (Err stop) h =
     subst EndAll (sym h.calls_are) (all-both h.first h.last (legal-all target h.before h.first h.legal)
     (after-all target h.before h.first h.legal h.units h.tail (length bytes) stop h.last h.stops))
 
 -- each picture of whose end is told
 pub told-ends : (target : Target) (bytes : List ℕ) (calls : List Told) (answer : Result Summary Stop) →
-    Verdict (terms_of modes.Full target) bytes calls answer →
+    Verdict (extent_at depths.Full target) bytes calls answer →
     (first later : List Told) (p : CodedPicture) (ps : List CodedPicture) → calls ≡ first ++ Decodes (p ∷ ps) ∷ later → EndsWithin p ps
 told-ends target bytes calls answer v first later p ps e = all-at first later (p ∷ ps) (subst EndAll e (verdict-all target bytes calls answer v))

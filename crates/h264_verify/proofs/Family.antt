@@ -1,8 +1,8 @@
 -- A stream has one family of frames.
-use Rattle.std.proofs.Common.{ℕ, Bool, true, false, List, [], ◌∷◌, length, inl, inr, sym, subst}
-use Rattle.h264_verify.specs.Units.{terms_of}
+use Rattle.std.proofs.Common.{ℕ, Bool, true, false, List, [], ◌∷◌, length, inl, inr, sym, subst, Some}
+use Rattle.h264_verify.specs.Units.{extent_at}
 use Rattle.h264_base.specs.declared.mode.Target.{Target}
-use Rattle.h264_base.specs.declared.mode.Mode.TheVariants as modes
+use Rattle.h264_verify.specs.declared.state.Depth.TheVariants as depths
 use Rattle.h264_sps.specs.declared.sps.FrameSize.{FrameSize}
 use Rattle.h264_plane.specs.declared.frame.Frame.{Frame}
 use Rattle.h264_base.specs.declared.summary.Summary.{Summary}
@@ -28,7 +28,8 @@ module _ (frames others : ℕ → Frame) where
       (subst (λ z. HaveSameSamples frames others (length ps) z) h.1 s.0)
   same-at (p ∷ ps) s n size (inr h) = same-at ps s.1 n size h
 
-  pub same-on : (pictures : List CodedPicture) → AreRead pictures → HaveFrames frames pictures → HaveFrames others pictures → AreSameOn frames others pictures
+  pub same-on : (pictures : List CodedPicture) → AreRead pictures → HaveFrames (Some frames) pictures → HaveFrames (Some others) pictures →
+      AreSameOn frames others pictures
   same-on [] r h k = tt
   same-on (p ∷ ps) r h k =
       let rest = same-on ps r.1 h.1 k.1 in (
@@ -43,16 +44,17 @@ module _ (frames others : ℕ → Frame) where
   ended-read false (p ∷ ps) r = r
 
   -- of the pictures that have ended in units that are legal
-  pub legal-family : (target : Target) (before : History) (calls : List Told) → AreLegal (terms_of modes.Full target) before calls → AreDecoded frames calls →
-      AreDecoded others calls → AreSameOn frames others (ended_pictures (goes_on before) false (runs_of before))
+  pub legal-family : (target : Target) (before : History) (calls : List Told) → AreLegal (extent_at depths.Full target) before calls →
+      AreDecoded (Some frames) calls →
+      AreDecoded (Some others) calls → AreSameOn frames others (ended_pictures (goes_on before) false (runs_of before))
   legal-family target before calls l d e =
       let s = stands target before calls l in
-      same-on (ended_pictures (goes_on before) false (runs_of before)) (ended-read (goes_on before) (runs_of before) s.read) (s.frames frames d)
-      (s.frames others e)
+      same-on (ended_pictures (goes_on before) false (runs_of before)) (ended-read (goes_on before) (runs_of before) s.read) (s.frames (Some frames) d)
+      (s.frames (Some others) e)
 
   -- of all pictures of a stream
-  pub one-family : (target : Target) (bytes : List ℕ) (calls : List Told) (summary : Summary) (h : Holds (terms_of modes.Full target) bytes calls summary) →
-      AreDecoded frames calls → AreDecoded others calls → AreSameOn frames others (runs_of h.units)
+  pub one-family : (target : Target) (bytes : List ℕ) (calls : List Told) (summary : Summary) (h : Holds (extent_at depths.Full target) bytes calls summary) →
+      AreDecoded (Some frames) calls → AreDecoded (Some others) calls → AreSameOn frames others (runs_of h.units)
   one-family target bytes calls summary h d e =
-      same-on (runs_of h.units) (stands target h.units h.first h.legal).read (all-frames target bytes calls summary h frames d)
-      (all-frames target bytes calls summary h others e)
+      same-on (runs_of h.units) (stands target h.units h.first h.legal).read (all-frames target bytes calls summary h (Some frames) d)
+      (all-frames target bytes calls summary h (Some others) e)

@@ -1,17 +1,16 @@
 -- The frame of a picture that ends.
 use Rattle.std.proofs.Common.{◌≡◌, ℕ, Bool, true, false, List, [], ◌∷◌, length, Option, Some, None, Result, Ok, refl, subst, sym, ap, ◌∙◌, if◌then◌else◌, Err}
 use Rattle.std.proofs.Common.{◌==◌, eqb-true, ◌<◌, ◌≤◌, ◌^◌, arith}
-use Rattle.h264_base.specs.declared.mode.Mode.{Mode}
-use Rattle.h264_base.specs.declared.mode.Mode.TheVariants as modes
+use Rattle.h264_verify.specs.declared.state.Depth.{Depth}
+use Rattle.h264_verify.specs.declared.state.Depth.TheVariants as depths
 use Rattle.h264_base.specs.Call.{Call, span}
 use Rattle.h264_base.specs.declared.stop.Stop.{Stop}
-use Rattle.h264_plane.specs.declared.frame.Frame.{Frame}
 use Rattle.h264_dpb.specs.declared.ended.Ended.{Ended}
 use Rattle.h264_marking.specs.Frames.{References}
 use Rattle.h264_verify.specs.declared.decoder.Decoder.{Decoder}
 use Rattle.h264_verify.specs.declared.slices.Slices.{Slices}
 use Rattle.h264_verify.specs.declared.picture.OpenPicture.{OpenPicture}
-use Rattle.h264_verify.specs.Telling.{took_with, frame_span}
+use Rattle.h264_verify.specs.Telling.{took_with, frame_span, Family}
 use Rattle.h264_verify.specs.History.{History}
 use Rattle.h264_verify.specs.Pictures.{CodedPicture, last_slice, picture_size, bit_after, goes_on, open_of, runs_of, held_after}
 use Rattle.h264_verify.specs.Buffering.{ended_picture, end_frames}
@@ -30,6 +29,7 @@ use Rattle.h264_verify.specs.Steps.{Step}
 use Rattle.h264_dpb.specs.Ending.{ended_of}
 use Rattle.h264_verify.specs.StepOutcome.{steps_outcome}
 use Rattle.h264_verify.specs.Framing.{EndsFrames, closing}
+use Rattle.h264_verify.proofs.AgreeingUnits.{agree-none}
 use Rattle.h264_verify.proofs.Playing.{gives-plays}
 use Rattle.h264_verify.proofs.Made.{MakesNone, some-made, full-made, quiet-made}
 
@@ -49,11 +49,11 @@ is-open true (p ∷ ps) kept o e h k = record { p = p; ps = ps; goes = refl; are
 
 -- nothing goes on
 pub none-open : (on : Bool) (pictures : List CodedPicture) (kept : Option OpenPicture) → kept ≡ None → HoldsOpen (open_of on pictures) kept →
-    (frames : ℕ → Frame) (d : Decoder) → KeepsFrames frames on false pictures d → KeepsFrames frames on true pictures d ×
-    ((if on then end_frames modes.Full pictures else []) ≡ [])
+    (frames : Family) (d : Decoder) → KeepsFrames frames on false pictures d → KeepsFrames frames on true pictures d ×
+    ((if on then end_frames depths.Full pictures else []) ≡ [])
 none-open on [] kept e h frames d k = (record { format = tt; output = k.output; picture = k.picture }, by on)
   where
-    by : (b : Bool) → (if b then end_frames modes.Full [] else []) ≡ []
+    by : (b : Bool) → (if b then end_frames depths.Full [] else []) ≡ []
     by true = refl
     by false = refl
 none-open true (p ∷ ps) kept e h frames d k = absurd (subst (HoldsOpen (Some p)) e h)
@@ -90,7 +90,7 @@ ended-among p ps e held is h s r =
 pub some-end : (slices : Slices) (decoder : Option Decoder) (d : Decoder) (o : OpenPicture) → decoder ≡ Some d → slices.picture ≡ Some o →
     KeepsSomeFrames true slices decoder → KeepsSomeEnd o.ended slices.held d
 some-end slices decoder d o is e k =
-    let frames = some-made _ k.mode decoder d is k.keeps in
+    let frames = some-made _ k.depth decoder d is k.keeps in
     let i = is-open (goes_on k.before) (runs_of k.before) slices.picture o e k.slices_are.kept.picture k.slices_are.kept.end in
     record {
       frames = k.frames;
@@ -104,20 +104,20 @@ some-end slices decoder d o is e k =
     }
 
 -- the picture that goes on has ended
-module _ {S : Type 0} (took : S → List Call → Type 0) (failures : S → ℕ) (frames : ℕ → Frame) (new : Option Decoder) (s s' : S) (r : Result (Unit {0}) Stop)
+module _ {S : Type 0} (took : S → List Call → Type 0) (failures : S → ℕ) (frames : Family) (new : Option Decoder) (s s' : S) (r : Result (Unit {0}) Stop)
   where
     pub ends-open : (on : Bool) (pictures : List CodedPicture) (o : OpenPicture) (i : IsOpen on pictures o) →
-        EndsFrames modes.Full (frame_span took failures frames s s') (closing true true (i.p ∷ i.ps))
-        (steps_outcome (end_frames modes.Full (i.p ∷ i.ps))) new r →
-        EndsFrames modes.Full (frame_span took failures frames s s') (closing on true pictures)
-        (steps_outcome (if on then end_frames modes.Full pictures else [])) new r
+        EndsFrames depths.Full (frame_span took failures frames s s') (closing true true (i.p ∷ i.ps))
+        (steps_outcome (end_frames depths.Full (i.p ∷ i.ps))) new r →
+        EndsFrames depths.Full (frame_span took failures frames s s') (closing on true pictures)
+        (steps_outcome (if on then end_frames depths.Full pictures else [])) new r
     ends-open on pictures o i h =
-        subst (λ (b : Bool). EndsFrames modes.Full (frame_span took failures frames s s') (closing b true pictures)
-        (steps_outcome (if b then end_frames modes.Full pictures else [])) new r) (sym i.goes)
-        (subst (λ (ps : List CodedPicture). EndsFrames modes.Full (frame_span took failures frames s s') (closing true true ps)
-        (steps_outcome (end_frames modes.Full ps)) new r) (sym i.are) h)
+        subst (λ (b : Bool). EndsFrames depths.Full (frame_span took failures frames s s') (closing b true pictures)
+        (steps_outcome (if b then end_frames depths.Full pictures else [])) new r) (sym i.goes)
+        (subst (λ (ps : List CodedPicture). EndsFrames depths.Full (frame_span took failures frames s s') (closing true true ps)
+        (steps_outcome (end_frames depths.Full ps)) new r) (sym i.are) h)
 
-pub keeps-open : (frames : ℕ → Frame) (on : Bool) (pictures : List CodedPicture) (o : OpenPicture) (d : Decoder) (i : IsOpen on pictures o) →
+pub keeps-open : (frames : Family) (on : Bool) (pictures : List CodedPicture) (o : OpenPicture) (d : Decoder) (i : IsOpen on pictures o) →
     KeepsFrames frames on false pictures d → KeepsFrames frames true false (i.p ∷ i.ps) d
 keeps-open frames on pictures o d i k = subst (λ (ps : List CodedPicture). KeepsFrames frames true false ps d) i.are
     (subst (λ (b : Bool). KeepsFrames frames b false pictures d) i.goes k)
@@ -139,18 +139,18 @@ is-whole on pictures o i e =
     (subst (λ (b : Bool). answers {A = Unit {0}} (Ok tt) ≡ steps_outcome (if b then whole_picture pictures else [])) i.goes e))
 
 -- nothing ends
-pub none-ends : {S : Type 0} (took : S → List Call → Type 0) (failures : S → ℕ) (frames : ℕ → Frame) (d : Decoder) (s : S) (on : Bool)
+pub none-ends : {S : Type 0} (took : S → List Call → Type 0) (failures : S → ℕ) (frames : Family) (d : Decoder) (s : S) (on : Bool)
     (pictures : List CodedPicture) (kept : Option OpenPicture) → kept ≡ None → HoldsOpen (open_of on pictures) kept → KeepsFrames frames on false pictures d →
-    EndsFrames modes.Full (frame_span took failures frames s s) (closing on true pictures) (steps_outcome (if on then end_frames modes.Full pictures else []))
+    EndsFrames depths.Full (frame_span took failures frames s s) (closing on true pictures) (steps_outcome (if on then end_frames depths.Full pictures else []))
     (Some d) (Ok tt)
 none-ends took failures frames d s on pictures kept e h k =
     let n = none-open on pictures kept e h frames d k in
     record {
       made = frames;
-      same = λ i j. refl;
+      same = agree-none _ frames;
       plays = subst (λ (steps : List Step). Plays (span (took_with frames took) failures s s) (λ (x : Unit {0}). x) (steps_outcome steps) (Ok tt)) (sym n.1)
           (gives-plays (took_with frames took) failures (λ (x : Unit {0}). x) tt s);
-      keeps = full-made _ modes.Full d refl n.0;
+      keeps = full-made _ depths.Full d refl n.0;
     }
 
 -- the number of a picture that ends is below that of pictures
@@ -165,28 +165,28 @@ few-end slices o decoder e k h =
 
 -- ---- where no frames are made
 
-quiet-steps : (m : Mode) → MakesNone m → (on : Bool) (pictures : List CodedPicture) → (if on then end_frames m pictures else []) ≡ []
-quiet-steps modes.Units q true [] = refl
-quiet-steps modes.Units q true (p ∷ ps) = refl
-quiet-steps modes.Units q false pictures = refl
-quiet-steps modes.Headers q true [] = refl
-quiet-steps modes.Headers q true (p ∷ ps) = refl
-quiet-steps modes.Headers q false pictures = refl
-quiet-steps modes.Full q on pictures = absurd q
+quiet-steps : (m : Depth) → MakesNone m → (on : Bool) (pictures : List CodedPicture) → (if on then end_frames m pictures else []) ≡ []
+quiet-steps depths.Units q true [] = refl
+quiet-steps depths.Units q true (p ∷ ps) = refl
+quiet-steps depths.Units q false pictures = refl
+quiet-steps depths.Headers q true [] = refl
+quiet-steps depths.Headers q true (p ∷ ps) = refl
+quiet-steps depths.Headers q false pictures = refl
+quiet-steps depths.Full q on pictures = absurd q
 
-pub quiet-ends : {S : Type 0} (mode : Mode) → MakesNone mode →
-    (took : S → List Call → Type 0) (failures : S → ℕ) (frames : ℕ → Frame) (decoder : Option Decoder) → decoder ≡ None →
+pub quiet-ends : {S : Type 0} (depth : Depth) → MakesNone depth →
+    (took : S → List Call → Type 0) (failures : S → ℕ) (frames : Family) (decoder : Option Decoder) → decoder ≡ None →
     (s : S) (on ends : Bool) (pictures : List CodedPicture) →
-    EndsFrames mode (frame_span took failures frames s s) (closing on ends pictures)
-    (steps_outcome (if ends then (if on then end_frames mode pictures else []) else [])) decoder (Ok tt)
-quiet-ends mode q took failures frames decoder n s on ends pictures = record {
+    EndsFrames depth (frame_span took failures frames s s) (closing on ends pictures)
+    (steps_outcome (if ends then (if on then end_frames depth pictures else []) else [])) decoder (Ok tt)
+quiet-ends depth q took failures frames decoder n s on ends pictures = record {
   made = frames;
-  same = λ i j. refl;
+  same = agree-none _ frames;
   plays = subst (λ (steps : List Step). Plays (span (took_with frames took) failures s s) (λ (x : Unit {0}). x) (steps_outcome steps) (Ok tt))
       (sym (none ends)) (gives-plays (took_with frames took) failures (λ (x : Unit {0}). x) tt s);
-  keeps = quiet-made _ mode decoder n q;
+  keeps = quiet-made _ depth decoder n q;
 }
   where
-    none : (b : Bool) → (if b then (if on then end_frames mode pictures else []) else []) ≡ []
-    none true = quiet-steps mode q on pictures
+    none : (b : Bool) → (if b then (if on then end_frames depth pictures else []) else []) ≡ []
+    none true = quiet-steps depth q on pictures
     none false = refl

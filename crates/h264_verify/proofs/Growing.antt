@@ -3,8 +3,8 @@ use Rattle.std.proofs.Common.{◌≡◌, ℕ, ◌+◌, ◌<◌, ◌≤◌, ◌*�
 use Rattle.std.proofs.Common.{None, Result, Ok, Err, refl, ap, sym, subst, arith, if◌then◌else◌}
 use Rattle.std.specs.Option.{is_some, option_map}
 use Rattle.std.proofs.lemmas.Bool.Decides.{nat_tests}
-use Rattle.h264_base.specs.declared.mode.Mode.{Mode}
-use Rattle.h264_base.specs.declared.mode.Mode.TheVariants as modes
+use Rattle.h264_verify.specs.declared.state.Depth.{Depth}
+use Rattle.h264_verify.specs.declared.state.Depth.TheVariants as depths
 use Rattle.h264_base.specs.declared.rule.Rule.{Rule}
 use Rattle.h264_base.specs.declared.rule.Rule.TheVariants.{CodeWord, Trailing}
 use Rattle.h264_base.specs.declared.element_name.ElementName.{ElementName}
@@ -60,7 +60,7 @@ use Rattle.h264_verify.specs.Order.{whole_picture, whole_steps, whole_at}
 use Rattle.h264_verify.specs.Slices.{is_idr_due, new_num_demand, first_mb_demands}
 use Rattle.h264_verify.specs.Order.{gap_rules, first_slice_rules, rules_of, steps_by, slice_steps}
 use Rattle.h264_verify.specs.Data.{slice_data_at}
-use Rattle.h264_verify.specs.declared.state.Terms.{Terms}
+use Rattle.h264_verify.specs.declared.state.Extent.{Extent}
 use Rattle.h264_verify.specs.Units.{unit_call, slice_unit, header_or_passed, other_content}
 use Rattle.h264_units.specs.UnitHeader.{is_slice}
 use Rattle.h264_verify.specs.Order.{content, content_steps, data_course, frames_at, content_course, unit_course, end_steps}
@@ -197,44 +197,44 @@ steps-of n (Needs d ∷ steps) h = by d.met (steps-of n steps h)
     by false k = tt
 steps-of n (Tells t ∷ steps) h = (h.0, steps-of n steps h.1)
 
-written-of : (n : ℕ) (mode : Mode) (written : List (Entry Shown)) → Each (IsFirst n) written → StepsOf n (told_frames mode written)
-written-of n modes.Units written h = tt
-written-of n modes.Headers written h = tt
-written-of n modes.Full [] h = tt
-written-of n modes.Full (e ∷ written) h = (h.0, written-of n modes.Full written h.1)
+written-of : (n : ℕ) (depth : Depth) (written : List (Entry Shown)) → Each (IsFirst n) written → StepsOf n (told_frames depth written)
+written-of n depths.Units written h = tt
+written-of n depths.Headers written h = tt
+written-of n depths.Full [] h = tt
+written-of n depths.Full (e ∷ written) h = (h.0, written-of n depths.Full written h.1)
 
-picture-of : (n : ℕ) (mode : Mode) (pictures : List CodedPicture) → length pictures ≤ n → StepsOf n (told_picture mode pictures)
-picture-of n modes.Units pictures h = tt
-picture-of n modes.Headers pictures h = tt
-picture-of n modes.Full pictures h = (h, tt)
+picture-of : (n : ℕ) (depth : Depth) (pictures : List CodedPicture) → length pictures ≤ n → StepsOf n (told_picture depth pictures)
+picture-of n depths.Units pictures h = tt
+picture-of n depths.Headers pictures h = tt
+picture-of n depths.Full pictures h = (h, tt)
 
 -- the end of the newest picture tells of the pictures so far
-pub end-frames-of : (mode : Mode) (pictures : List CodedPicture) → StepsOf (length pictures) (end_frames mode pictures)
-end-frames-of mode [] = tt
-end-frames-of mode (p ∷ ps) =
-    steps-both (length (p ∷ ps)) (told_picture mode (p ∷ ps)) _
-    (picture-of (length (p ∷ ps)) mode (p ∷ ps) (omega arith))
-    (written-of (length (p ∷ ps)) mode _ (ended-of p ps (within_newest (p ∷ ps)).buffer (within-of p ps).1).0)
+pub end-frames-of : (depth : Depth) (pictures : List CodedPicture) → StepsOf (length pictures) (end_frames depth pictures)
+end-frames-of depth [] = tt
+end-frames-of depth (p ∷ ps) =
+    steps-both (length (p ∷ ps)) (told_picture depth (p ∷ ps)) _
+    (picture-of (length (p ∷ ps)) depth (p ∷ ps) (omega arith))
+    (written-of (length (p ∷ ps)) depth _ (ended-of p ps (within_newest (p ∷ ps)).buffer (within-of p ps).1).0)
 
 -- those of missing numbers
-pub gap-of : (n : ℕ) (mode : Mode) (bit : ℕ) (current : Numbering) (numbers : List ℕ) (refs : References) (b : Buffered Shown) → Each (IsFirst n) b.entries →
-    StepsOf n (missing_steps mode bit current numbers refs b)
-gap-of n mode bit current [] refs b h = tt
-gap-of n mode bit current (number ∷ numbers) refs b h = by (filled (record current { frame_num = number }) refs) (gap-of n mode bit current numbers)
+pub gap-of : (n : ℕ) (depth : Depth) (bit : ℕ) (current : Numbering) (numbers : List ℕ) (refs : References) (b : Buffered Shown) → Each (IsFirst n) b.entries →
+    StepsOf n (missing_steps depth bit current numbers refs b)
+gap-of n depth bit current [] refs b h = tt
+gap-of n depth bit current (number ∷ numbers) refs b h = by (filled (record current { frame_num = number }) refs) (gap-of n depth bit current numbers)
   where
     by : (o : Option References) → ((held : References) (left : Buffered Shown) → Each (IsFirst n) left.entries →
-        StepsOf n (missing_steps mode bit current numbers held left)) →
-        StepsOf n (missing_on o (λ held. told_frames mode (missing_turn held b).written ++
-        missing_steps mode bit current numbers held (missing_turn held b).buffer))
+        StepsOf n (missing_steps depth bit current numbers held left)) →
+        StepsOf n (missing_on o (λ held. told_frames depth (missing_turn held b).written ++
+        missing_steps depth bit current numbers held (missing_turn held b).buffer))
     by None more = tt
     by (Some held) more =
         let one = missing-of n held b h in
-        steps-both n (told_frames mode (missing_turn held b).written) _ (written-of n mode (missing_turn held b).written one.0)
+        steps-both n (told_frames depth (missing_turn held b).written) _ (written-of n depth (missing_turn held b).written one.0)
         (more held (missing_turn held b).buffer one.1)
 
 -- and those that are left at the end of the input
-pub last-of : (mode : Mode) (pictures : List CodedPicture) → StepsOf (length pictures) (last_frames mode pictures)
-last-of mode pictures = written-of (length pictures) mode _ (flush-of (length pictures) true 1 (after_all pictures).buffer (after-of pictures).1).0
+pub last-of : (depth : Depth) (pictures : List CodedPicture) → StepsOf (length pictures) (last_frames depth pictures)
+last-of depth pictures = written-of (length pictures) depth _ (flush-of (length pictures) true 1 (after_all pictures).buffer (after-of pictures).1).0
 
 -- ---- the end of the picture that may go on
 
@@ -243,13 +243,14 @@ all-ended on [] = refl
 all-ended true (p ∷ ps) = refl
 all-ended false (p ∷ ps) = refl
 
-pub closing-steps : (mode : Mode) (before : History) → StepsOf (length (runs_of before)) (closing_frames mode before)
-closing-steps mode before = steps-if (length (runs_of before)) (goes_on before) (end_frames mode (runs_of before)) [] (end-frames-of mode (runs_of before)) tt
+pub closing-steps : (depth : Depth) (before : History) → StepsOf (length (runs_of before)) (closing_frames depth before)
+closing-steps depth before = steps-if (length (runs_of before)) (goes_on before) (end_frames depth (runs_of before)) []
+    (end-frames-of depth (runs_of before)) tt
 
-pub closing-of : (mode : Mode) (before : History) →
-    AreOf (length (ended_pictures (goes_on before) true (runs_of before))) (steps_outcome (closing_frames mode before)).calls
-closing-of mode before = subst (λ (ps : List CodedPicture). AreOf (length ps) (steps_outcome (closing_frames mode before)).calls)
-    (sym (all-ended (goes_on before) (runs_of before))) (steps-of (length (runs_of before)) (closing_frames mode before) (closing-steps mode before))
+pub closing-of : (depth : Depth) (before : History) →
+    AreOf (length (ended_pictures (goes_on before) true (runs_of before))) (steps_outcome (closing_frames depth before)).calls
+closing-of depth before = subst (λ (ps : List CodedPicture). AreOf (length ps) (steps_outcome (closing_frames depth before)).calls)
+    (sym (all-ended (goes_on before) (runs_of before))) (steps-of (length (runs_of before)) (closing_frames depth before) (closing-steps depth before))
 
 -- ---- what a structure gives
 
@@ -397,19 +398,19 @@ header-or kind before unit =
     (λ slice. gives-bind (header-gives (sets_of (maps_of before)) (slice_unit unit)) (λ h has. gives-done (contents.OfSlice h []) (slice, has)))
     (λ _. passed-gives kind before)
 
-other-gives : (mode : Mode) (kind : ℕ) (before : History) (unit : NalUnit) → Gives (IsSound kind before) (other_content mode kind before unit)
-other-gives modes.Units kind before unit = passed-gives kind before
-other-gives modes.Headers kind before unit = header-or kind before unit
-other-gives modes.Full kind before unit = header-or kind before unit
+other-gives : (depth : Depth) (kind : ℕ) (before : History) (unit : NalUnit) → Gives (IsSound kind before) (other_content depth kind before unit)
+other-gives depths.Units kind before unit = passed-gives kind before
+other-gives depths.Headers kind before unit = header-or kind before unit
+other-gives depths.Full kind before unit = header-or kind before unit
 
-content-gives : (terms : Terms) (kind : ℕ) (before : History) (unit : NalUnit) → Gives (IsSound kind before) (content terms kind before unit)
+content-gives : (extent : Extent) (kind : ℕ) (before : History) (unit : NalUnit) → Gives (IsSound kind before) (content extent kind before unit)
 unfolding content
-content-gives terms kind before unit =
+content-gives extent kind before unit =
     gives-choice (kind == 7) _ _
-    (λ _. gives-bind (gives-any (sps terms.target)) (λ set _. gives-done (contents.OfSps set) tt))
+    (λ _. gives-bind (gives-any (sps extent.target)) (λ set _. gives-done (contents.OfSps set) tt))
     (λ _. gives-choice (kind == 8) _ _
-    (λ _. gives-bind (gives-any (pps terms.target)) (λ set _. gives-done (contents.OfPps set) tt))
-    (λ _. other-gives terms.mode kind before unit))
+    (λ _. gives-bind (gives-any (pps extent.target)) (λ set _. gives-done (contents.OfPps set) tt))
+    (λ _. other-gives extent.depth kind before unit))
 
 -- slice data give the macroblocks of a slice
 abbrev pub IsWith : Content → Content → Type 0
@@ -452,15 +453,15 @@ record DataEnds (c found : Content) (told : List Told) : Type 0 where
   same : IsWith c found
   any : (n : ℕ) → AreOf n told
 
-data-ends : (mode : Mode) (before : History) (unit : NalUnit) (c : Content) (bit : ℕ) (found : Content) →
-    (course_outcome (body_of unit) (data_course mode before unit c bit)).answer ≡ Ok found →
-    DataEnds c found (course_outcome (body_of unit) (data_course mode before unit c bit)).calls
+data-ends : (depth : Depth) (before : History) (unit : NalUnit) (c : Content) (bit : ℕ) (found : Content) →
+    (course_outcome (body_of unit) (data_course depth before unit c bit)).answer ≡ Ok found →
+    DataEnds c found (course_outcome (body_of unit) (data_course depth before unit c bit)).calls
 unfolding course_outcome
-data-ends mode before unit (contents.OfSps set) bit found e = record { same = cc; any = λ n. tt }
-data-ends mode before unit (contents.OfPps set) bit found e = record { same = cc; any = λ n. tt }
-data-ends modes.Units before unit (contents.OfSlice h macroblocks) bit found e = record { same = (macroblocks, cc); any = λ n. tt }
-data-ends modes.Headers before unit (contents.OfSlice h macroblocks) bit found e = record { same = (macroblocks, cc); any = λ n. tt }
-data-ends modes.Full before unit (contents.OfSlice h macroblocks) bit found e =
+data-ends depth before unit (contents.OfSps set) bit found e = record { same = cc; any = λ n. tt }
+data-ends depth before unit (contents.OfPps set) bit found e = record { same = cc; any = λ n. tt }
+data-ends depths.Units before unit (contents.OfSlice h macroblocks) bit found e = record { same = (macroblocks, cc); any = λ n. tt }
+data-ends depths.Headers before unit (contents.OfSlice h macroblocks) bit found e = record { same = (macroblocks, cc); any = λ n. tt }
+data-ends depths.Full before unit (contents.OfSlice h macroblocks) bit found e =
     let g = ◌bind◌ (slice_data_at before unit h) (λ ms. Done (contents.OfSlice h ms)) in
     let j = in-turn (structure_from g (body_of unit) bit) (λ x. gives x.0) found e in
     let same : j.value.0 ≡ found = cc (j.ends) in
@@ -468,54 +469,54 @@ data-ends modes.Full before unit (contents.OfSlice h macroblocks) bit found e =
       same = subst (IsWith (contents.OfSlice h macroblocks)) same (given (body_of unit) bit (whole-gives before unit h macroblocks) j.value j.is);
       any = λ n. in-turn-of n j (elements-of n (body_of unit) (run g (body_of unit) bit).elements) tt;
     }
-data-ends mode before unit contents.Passed bit found e = record { same = cc; any = λ n. tt }
+data-ends depth before unit contents.Passed bit found e = record { same = cc; any = λ n. tt }
 
 -- ---- the rules of a slice
 
-gap-rules-of : (n : ℕ) (mode : Mode) (s : CodedSlice) (prev : ℕ) (refs : References) (b : Buffered Shown) → Each (IsFirst n) b.entries →
-    StepsOf n (gap_rules mode s prev refs b)
-gap-rules-of n mode s prev refs b h =
+gap-rules-of : (n : ℕ) (depth : Depth) (s : CodedSlice) (prev : ℕ) (refs : References) (b : Buffered Shown) → Each (IsFirst n) b.entries →
+    StepsOf n (gap_rules depth s prev refs b)
+gap-rules-of n depth s prev refs b h =
     let idr = is_idr s.header in
     let bit = s.header.frame_num.bit in
     let current = numbering_of s.sps s.header in
-    steps-both n (missing_steps mode bit current (unused_short_term_frame_nums idr prev current) refs b)
+    steps-both n (missing_steps depth bit current (unused_short_term_frame_nums idr prev current) refs b)
     (needs (new_num_demand idr (is_reference s.header) bit prev current refs ∷ []))
-    (gap-of n mode bit current (unused_short_term_frame_nums idr prev current) refs b h) tt
+    (gap-of n depth bit current (unused_short_term_frame_nums idr prev current) refs b h) tt
 
 -- where a slice begins a picture, the pictures before it are among the first
 abbrev pub Begins : ℕ → Bool → List CodedPicture → Type 0
 Begins n begins pictures = begins ≡ true → length pictures ≤ n
 
-first-of : (n : ℕ) (mode : Mode) (pictures : List CodedPicture) (s : CodedSlice) → length pictures ≤ n → StepsOf n (first_slice_rules mode pictures s)
-first-of n mode pictures s l =
+first-of : (n : ℕ) (depth : Depth) (pictures : List CodedPicture) (s : CodedSlice) → length pictures ≤ n → StepsOf n (first_slice_rules depth pictures s)
+first-of n depth pictures s l =
     steps-both n
-    (gap_rules mode s (prev_ref_frame_num_of pictures) (held_after pictures) (after_all pictures).buffer) _
-    (gap-rules-of n mode s (prev_ref_frame_num_of pictures) (held_after pictures) (after_all pictures).buffer
+    (gap_rules depth s (prev_ref_frame_num_of pictures) (held_after pictures) (after_all pictures).buffer) _
+    (gap-rules-of n depth s (prev_ref_frame_num_of pictures) (held_after pictures) (after_all pictures).buffer
     (each-more (length pictures) n (after_all pictures).buffer.entries l (after-of pictures).1)) tt
 
-rules-of : (n : ℕ) (mode : Mode) (begins due : Bool) (maps : Maps) (pictures : List CodedPicture) (s : CodedSlice) → Begins n begins pictures →
-    StepsOf n (rules_of mode begins due maps pictures s)
-rules-of n mode true due maps pictures s l =
-    steps-both n (needs (first_mb_demands mode 0 s.header)) _ (needs-of n (first_mb_demands mode 0 s.header)) (first-of n mode pictures s (l refl))
-rules-of n mode false due maps pictures s l =
-    steps-both n (needs (first_mb_demands mode (length (coded_of pictures)) s.header)) _
-    (needs-of n (first_mb_demands mode (length (coded_of pictures)) s.header)) tt
+rules-of : (n : ℕ) (depth : Depth) (begins due : Bool) (maps : Maps) (pictures : List CodedPicture) (s : CodedSlice) → Begins n begins pictures →
+    StepsOf n (rules_of depth begins due maps pictures s)
+rules-of n depth true due maps pictures s l =
+    steps-both n (needs (first_mb_demands depth 0 s.header)) _ (needs-of n (first_mb_demands depth 0 s.header)) (first-of n depth pictures s (l refl))
+rules-of n depth false due maps pictures s l =
+    steps-both n (needs (first_mb_demands depth (length (coded_of pictures)) s.header)) _
+    (needs-of n (first_mb_demands depth (length (coded_of pictures)) s.header)) tt
 
-steps-by : (n : ℕ) (mode : Mode) (o : Option (Pps × Sps)) (before : History) (unit : NalUnit) (h : Header) → Begins n (begins_at before h) (runs_of before) →
-    StepsOf n (steps_by mode o before unit h)
-steps-by n mode None before unit h l = tt
-steps-by n mode (Some sets) before unit h l =
-    steps-both n (rules_of mode (begins_at before h) (is_idr_due before) (maps_of before) (runs_of before) (with_sets unit h [] sets)) _
-    (rules-of n mode (begins_at before h) (is_idr_due before) (maps_of before) (runs_of before) (with_sets unit h [] sets) l) (tt, tt)
+steps-by : (n : ℕ) (depth : Depth) (o : Option (Pps × Sps)) (before : History) (unit : NalUnit) (h : Header) → Begins n (begins_at before h) (runs_of before) →
+    StepsOf n (steps_by depth o before unit h)
+steps-by n depth None before unit h l = tt
+steps-by n depth (Some sets) before unit h l =
+    steps-both n (rules_of depth (begins_at before h) (is_idr_due before) (maps_of before) (runs_of before) (with_sets unit h [] sets)) _
+    (rules-of n depth (begins_at before h) (is_idr_due before) (maps_of before) (runs_of before) (with_sets unit h [] sets) l) (tt, tt)
 
 picture-whole : (n : ℕ) (pictures : List CodedPicture) → StepsOf n (whole_picture pictures)
 picture-whole n [] = tt
 picture-whole n (p ∷ ps) = tt
 
-whole-of : (n : ℕ) (mode : Mode) (before : History) → StepsOf n (whole_steps mode before)
-whole-of n modes.Units before = tt
-whole-of n modes.Headers before = tt
-whole-of n modes.Full before = steps-if n (goes_on before) (whole_picture (runs_of before)) [] (picture-whole n (runs_of before)) tt
+whole-of : (n : ℕ) (depth : Depth) (before : History) → StepsOf n (whole_steps depth before)
+whole-of n depths.Units before = tt
+whole-of n depths.Headers before = tt
+whole-of n depths.Full before = steps-if n (goes_on before) (whole_picture (runs_of before)) [] (picture-whole n (runs_of before)) tt
 
 steps-more : (m n : ℕ) (steps : List Step) → m ≤ n → StepsOf m steps → StepsOf n steps
 steps-more m n [] l h = tt
@@ -524,18 +525,18 @@ steps-more m n (Tells (Said call) ∷ steps) l h = (tt, steps-more m n steps l h
 steps-more m n (Tells (Decodes ps) ∷ steps) l h = (omega (arith, l, h.0), steps-more m n steps l h.1)
 steps-more m n (Tells (Shows e) ∷ steps) l h = (omega (arith, l, h.0), steps-more m n steps l h.1)
 
-closing-if : (n : ℕ) (mode : Mode) (before : History) (b : Bool) → Begins n b (runs_of before) → StepsOf n (if b then closing_frames mode before else [])
-closing-if n mode before true l = steps-more (length (runs_of before)) n (closing_frames mode before) (l refl) (closing-steps mode before)
-closing-if n mode before false l = tt
+closing-if : (n : ℕ) (depth : Depth) (before : History) (b : Bool) → Begins n b (runs_of before) → StepsOf n (if b then closing_frames depth before else [])
+closing-if n depth before true l = steps-more (length (runs_of before)) n (closing_frames depth before) (l refl) (closing-steps depth before)
+closing-if n depth before false l = tt
 
-pub slice-of : (n : ℕ) (mode : Mode) (before : History) (unit : NalUnit) (h : Header) → Begins n (begins_at before h) (runs_of before) →
-    StepsOf n (slice_steps mode before unit h)
-slice-of n mode before unit h l =
-    steps-both n (if begins_at before h then whole_steps mode before else []) _
-    (steps-if n (begins_at before h) (whole_steps mode before) [] (whole-of n mode before) tt)
+pub slice-of : (n : ℕ) (depth : Depth) (before : History) (unit : NalUnit) (h : Header) → Begins n (begins_at before h) (runs_of before) →
+    StepsOf n (slice_steps depth before unit h)
+slice-of n depth before unit h l =
+    steps-both n (if begins_at before h then whole_steps depth before else []) _
+    (steps-if n (begins_at before h) (whole_steps depth before) [] (whole-of n depth before) tt)
     (steps-both n (needs (if begins_at before h then closing_demands before else [])) _ (needs-of n (if begins_at before h then closing_demands before else []))
-    (steps-both n (if begins_at before h then closing_frames mode before else []) _ (closing-if n mode before (begins_at before h) l)
-    (steps-by n mode (sets_at before h) before unit h l)))
+    (steps-both n (if begins_at before h then closing_frames depth before else []) _ (closing-if n depth before (begins_at before h) l)
+    (steps-by n depth (sets_at before h) before unit h l)))
 
 -- ---- how many pictures have ended
 
@@ -582,12 +583,12 @@ slice-goes kind h = by (kind == 1) refl (kind == 5) refl h
     by false e false f t = absurd cc
 
 -- no fewer pictures have ended with this content, and its steps tell of those
-record UnitGrows (mode : Mode) (before after : History) (unit : NalUnit) (c : Content) : Type 0 where
+record UnitGrows (depth : Depth) (before after : History) (unit : NalUnit) (c : Content) : Type 0 where
   grows : ended_in before ≤ ended_in after
   ends : Begins (ended_in after) (ends_picture (nal_unit_type (header_of unit))) (runs_of before)
-  steps : StepsOf (ended_in after) (content_steps mode before unit c)
+  steps : StepsOf (ended_in after) (content_steps depth before unit c)
 
-module _ (terms : Terms) (before : History) (unit : NalUnit) where
+module _ (extent : Extent) (before : History) (unit : NalUnit) where
   abbrev pub kind : ℕ
   kind = nal_unit_type (header_of unit)
 
@@ -595,7 +596,7 @@ module _ (terms : Terms) (before : History) (unit : NalUnit) where
   one_more found = record { unit = unit; content = found } ∷ before
 
   sets-grow : (h : Header) (ms : List CodedMacroblock) (o : Option (Pps × Sps)) → is_some o ≡ true → is_slice kind ≡ true → sets_at before h ≡ o →
-      UnitGrows terms.mode before (one_more (contents.OfSlice h ms)) unit (contents.OfSlice h [])
+      UnitGrows extent.depth before (one_more (contents.OfSlice h ms)) unit (contents.OfSlice h [])
   sets-grow h ms None some slice e = absurd cc
   sets-grow h ms (Some sets) some slice e =
       let runs : runs_of (one_more (contents.OfSlice h ms)) ≡ joined_to (begins_at before h) (with_sets unit h ms sets) (runs_of before) =
@@ -607,10 +608,10 @@ module _ (terms : Terms) (before : History) (unit : NalUnit) where
         grows = subst (λ (ps : List CodedPicture). ended_in before ≤ ended_by true ps) (sym runs)
             (slice-grows (goes_on before) (runs_of before) (with_sets unit h ms sets) (begins_at before h) refl);
         ends = λ t. absurd (let no = slice-goes kind slice in cc);
-        steps = slice-of (ended_in (one_more (contents.OfSlice h ms))) terms.mode before unit h begins;
+        steps = slice-of (ended_in (one_more (contents.OfSlice h ms))) extent.depth before unit h begins;
       }
 
-  content-grows : (c : Content) → IsSound kind before c → (found : Content) → IsWith c found → UnitGrows terms.mode before (one_more found) unit c
+  content-grows : (c : Content) → IsSound kind before c → (found : Content) → IsWith c found → UnitGrows extent.depth before (one_more found) unit c
   content-grows (contents.OfSps set) sound found e =
       rw e (record {
         grows = passed-grows (ends_picture kind) (goes_on before) (runs_of before);
@@ -625,8 +626,8 @@ module _ (terms : Terms) (before : History) (unit : NalUnit) where
       })
   content-grows (contents.OfSlice h macroblocks) sound found e = rw e.1 (slice-any h macroblocks (sets-grow h e.0 (sets_at before h) sound.1 sound.0 refl))
     where
-      slice-any : (h : Header) (ms : List CodedMacroblock) → {after : History} → UnitGrows terms.mode before after unit (contents.OfSlice h []) →
-          UnitGrows terms.mode before after unit (contents.OfSlice h ms)
+      slice-any : (h : Header) (ms : List CodedMacroblock) → {after : History} → UnitGrows extent.depth before after unit (contents.OfSlice h []) →
+          UnitGrows extent.depth before after unit (contents.OfSlice h ms)
       slice-any h ms g = record { grows = g.grows; ends = g.ends; steps = g.steps }
   content-grows contents.Passed sound found e =
       rw e (record {
@@ -639,13 +640,14 @@ module _ (terms : Terms) (before : History) (unit : NalUnit) where
   Grows after calls = (ended_in before ≤ ended_in after) × AreOf (ended_in after) calls
 
   abbrev pub picture_end : List Step
-  picture_end = whole_at terms.mode kind before ++ (needs (closing_at kind before) ++ frames_at terms.mode kind before)
+  picture_end = whole_at extent.depth kind before ++ (needs (closing_at kind before) ++ frames_at extent.depth kind before)
 
   pub picture-end-of : (n : ℕ) → Begins n (ends_picture kind) (runs_of before) → StepsOf n picture_end
   picture-end-of n l =
-      steps-both n (whole_at terms.mode kind before) _ (steps-if n (ends_picture kind) (whole_steps terms.mode before) [] (whole-of n terms.mode before) tt)
-      (steps-both n (needs (closing_at kind before)) (frames_at terms.mode kind before) (needs-of n (closing_at kind before))
-      (closing-if n terms.mode before (ends_picture kind) l))
+      steps-both n (whole_at extent.depth kind before) _ (steps-if n (ends_picture kind) (whole_steps extent.depth before) []
+      (whole-of n extent.depth before) tt)
+      (steps-both n (needs (closing_at kind before)) (frames_at extent.depth kind before) (needs-of n (closing_at kind before))
+      (closing-if n extent.depth before (ends_picture kind) l))
 
   -- the same once what stands after the content is read
   record ContentEnds (found : Content) (calls : List Told) : Type 0 where
@@ -654,29 +656,29 @@ module _ (terms : Terms) (before : History) (unit : NalUnit) where
     of : AreOf (ended_in (one_more found)) calls
 
   abbrev course : Course
-  course = content_course terms before unit
+  course = content_course extent before unit
 
   content-ends : (found : Content) → (course_outcome (body_of unit) course).answer ≡ Ok found → ContentEnds found (course_outcome (body_of unit) course).calls
   unfolding course_outcome
   content-ends found e =
       let n = ended_in (one_more found) in
-      let g = content terms kind before unit in
+      let g = content extent kind before unit in
       let body = body_of unit in
-      let following : Content × ℕ → Outcome Content = λ x. course_outcome body (data_course terms.mode before unit x.0 x.1) in
-      let read = in-turn (structure_from g body 0) (λ x. steps_outcome (content_steps terms.mode before unit x.0) >>= λ _. following x) found e in
+      let following : Content × ℕ → Outcome Content = λ x. course_outcome body (data_course extent.depth before unit x.0 x.1) in
+      let read = in-turn (structure_from g body 0) (λ x. steps_outcome (content_steps extent.depth before unit x.0) >>= λ _. following x) found e in
       let x = read.value in
-      let met = in-turn (steps_outcome (content_steps terms.mode before unit x.0)) (λ _. following x) found read.ends in
-      let rest = data-ends terms.mode before unit x.0 x.1 found met.ends in
-      let grown = content-grows x.0 (given body 0 (content-gives terms kind before unit) x read.is) found rest.same in
+      let met = in-turn (steps_outcome (content_steps extent.depth before unit x.0)) (λ _. following x) found read.ends in
+      let rest = data-ends extent.depth before unit x.0 x.1 found met.ends in
+      let grown = content-grows x.0 (given body 0 (content-gives extent kind before unit) x read.is) found rest.same in
       record {
         grows = grown.grows;
         ends = grown.ends;
         of = in-turn-of n read (elements-of n body (run g body 0).elements)
-            (in-turn-of n met (steps-of n (content_steps terms.mode before unit x.0) grown.steps) (rest.any n));
+            (in-turn-of n met (steps-of n (content_steps extent.depth before unit x.0) grown.steps) (rest.any n));
       }
 
-  course-grows : (found : Content) → (course_outcome (body_of unit) (unit_course terms before unit)).answer ≡ Ok found →
-      Grows (one_more found) (course_outcome (body_of unit) (unit_course terms before unit)).calls
+  course-grows : (found : Content) → (course_outcome (body_of unit) (unit_course extent before unit)).answer ≡ Ok found →
+      Grows (one_more found) (course_outcome (body_of unit) (unit_course extent before unit)).calls
   unfolding course_outcome
   course-grows found e =
       let n = ended_in (one_more found) in
@@ -695,24 +697,24 @@ module _ (terms : Terms) (before : History) (unit : NalUnit) where
             (in-turn-of n two (tt, tt) (in-turn-of n three (steps-of n picture_end (picture-end-of n inner.ends)) inner.of)),
       )
 
-pub unit-grows : (terms : Terms) (before after : History) (unit : NalUnit) → (unit_outcome terms before unit).answer ≡ Ok after →
-    (ended_in before ≤ ended_in after) × AreOf (ended_in after) (unit_outcome terms before unit).calls
+pub unit-grows : (extent : Extent) (before after : History) (unit : NalUnit) → (unit_outcome extent before unit).answer ≡ Ok after →
+    (ended_in before ≤ ended_in after) × AreOf (ended_in after) (unit_outcome extent before unit).calls
 unfolding unit_outcome
-unit-grows terms before after unit e =
+unit-grows extent before after unit e =
     let more : Content → Outcome History = λ found. gives (record { unit = unit; content = found } ∷ before) in
-    let course = course_outcome (body_of unit) (unit_course terms before unit) in
+    let course = course_outcome (body_of unit) (unit_course extent before unit) in
     let sound = in-turn (answers (emulation_checked unit.from unit.body)) (λ _. course >>= more) after e in
     let whole = in-turn course more after sound.ends in
     let same : (record { unit = unit; content = whole.value } ∷ before) ≡ after = cc (whole.ends) in
     let grown = subst (λ (later : History). (ended_in before ≤ ended_in later) × AreOf (ended_in later) course.calls) same
-    (course-grows terms before unit whole.value whole.is) in
+    (course-grows extent before unit whole.value whole.is) in
     (grown.0, in-turn-of (ended_in after) sound tt (in-turn-of (ended_in after) whole grown.1 tt))
 
 -- what the end of the input tells is of all pictures
-pub end-of : (mode : Mode) (before : History) (bit : ℕ) → AreOf (length (runs_of before)) (steps_outcome (end_steps mode before bit)).calls
-end-of mode before bit =
+pub end-of : (depth : Depth) (before : History) (bit : ℕ) → AreOf (length (runs_of before)) (steps_outcome (end_steps depth before bit)).calls
+end-of depth before bit =
     let n = length (runs_of before) in
-    steps-of n (end_steps mode before bit)
-    (steps-both n (whole_steps mode before) _ (whole-of n mode before)
+    steps-of n (end_steps depth before bit)
+    (steps-both n (whole_steps depth before) _ (whole-of n depth before)
     (steps-both n (needs (closing_demands before)) _ (needs-of n (closing_demands before))
-    (steps-both n (closing_frames mode before) _ (closing-steps mode before) (last-of mode (runs_of before)))))
+    (steps-both n (closing_frames depth before) _ (closing-steps depth before) (last-of depth (runs_of before)))))

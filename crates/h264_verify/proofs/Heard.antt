@@ -4,6 +4,7 @@ use Rattle.std.proofs.lemmas.List.{append-nil}
 use Rattle.h264_verify.specs.Session.{stretch, standing}
 use Rattle.h264_verify.specs.Telling.{frame_span}
 use Rattle.h264_verify.specs.declared.state.Terms.{Terms}
+use Rattle.h264_verify.specs.Units.{extent_by}
 use Rattle.h264_base.specs.declared.stop.Stop.{Stop}
 use Rattle.h264_base.specs.declared.stop.Stop.TheVariants.{Read}
 use Rattle.h264_base.specs.Call.{Call, span}
@@ -33,6 +34,7 @@ unfoldable pub fed-ahead : {S : Type 0} {terms : Terms} {took : S → List Call 
 fed-ahead {bytes = bytes} more f = record {
   terms_is = f.terms_is;
   frames = f.frames;
+  family = f.family;
   after = f.after;
   keeps = f.keeps;
   fed = record {
@@ -48,7 +50,8 @@ fed-ahead {bytes = bytes} more f = record {
 -- a piece more
 pub heard-more : {S : Type 0} {terms : Terms} {took : S → List Call → Type 0} {failures : S → ℕ} {bytes : List ℕ} {old new : Progress} {s0 s1 s2 : S}
     (piece : List ℕ) (n : ℕ) → new.terms ≡ old.terms → (f : FedOn terms (span took failures s0 s1) (Some []) bytes old) →
-    GoesOn old.terms (frame_span took failures f.frames s1 s2) (stretch (standing_after old.split f.after) (standing new.split new.state) (take n piece) []) →
+    GoesOn (extent_by old.terms) (frame_span took failures f.frames s1 s2)
+    (stretch (standing_after old.split f.after) (standing new.split new.state) (take n piece) []) →
     FedOn terms (span took failures s0 s2) (Some []) (bytes ++ take n piece) new
 unfolding fed-ahead
 heard-more piece n m f q = fed-more (Some []) piece n m (read-whole n piece) (fed-ahead (take n piece) f) q
@@ -56,7 +59,7 @@ heard-more piece n m f q = fed-more (Some []) piece n m (read-whole n piece) (fe
 -- a stop at one
 pub heard-halts : {S : Type 0} {terms : Terms} {took : S → List Call → Type 0} {failures : S → ℕ} {bytes : List ℕ} {old : Progress} {s0 s1 s2 : S}
     {stop : Stop} (piece : List ℕ) (n : ℕ) → (f : FedOn terms (span took failures s0 s1) (Some []) bytes old) → failures s1 ≡ failures s0 →
-    StopsOn old.terms (frame_span took failures f.frames s1 s2) (standing_after old.split f.after) (take n piece) stop →
+    StopsOn (extent_by old.terms) (frame_span took failures f.frames s1 s2) (standing_after old.split f.after) (take n piece) stop →
     JudgesWith terms (span took failures s0 s2) (bytes ++ take n piece) (Err stop)
 unfolding fed-ahead
 heard-halts piece n f k q = fed-halts (Some []) piece n (read-whole n piece) (fed-ahead (take n piece) f) k q

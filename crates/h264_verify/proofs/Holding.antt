@@ -1,7 +1,6 @@
 -- What is kept of the frames, by the mode.
-use Rattle.std.proofs.Common.{◌≡◌, ℕ, true, false, Bool, ◌∷◌, [], List, Option, length}
-use Rattle.h264_base.specs.declared.mode.Mode.{Mode}
-use Rattle.h264_plane.specs.declared.frame.Frame.{Frame}
+use Rattle.std.proofs.Common.{◌≡◌, true, false, Bool, ◌∷◌, [], List, Option, length}
+use Rattle.h264_verify.specs.declared.state.Depth.{Depth}
 use Rattle.h264_verify.specs.declared.decoder.Decoder.{Decoder}
 use Rattle.h264_verify.specs.Pictures.{CodedSlice, CodedPicture, open_of, begins_after}
 use Rattle.h264_verify.specs.Buffering.{after_all}
@@ -9,30 +8,31 @@ use Rattle.h264_picture.specs.declared.work.Work.{Work}
 use Rattle.h264_verify.specs.Keeping.{KeepsFrames, WhereMade, FillsFrames, EntersSome, EntersBy, HoldsCoded, HoldsNewest}
 use Rattle.h264_header.specs.declared.header.Header.{Header}
 use Rattle.h264_verify.proofs.Made.{made-then}
+use Rattle.h264_verify.specs.Telling.{Family}
 
 -- there is a picture that begins
-pub enters-some : (frames : ℕ → Frame) (begins : Bool) (s : CodedSlice) (on : Bool) (pictures : List CodedPicture) (d : Decoder) → begins ≡ true →
+pub enters-some : (frames : Family) (begins : Bool) (s : CodedSlice) (on : Bool) (pictures : List CodedPicture) (d : Decoder) → begins ≡ true →
     EntersBy frames begins s on pictures d → EntersSome d
 enters-some frames true s on pictures d b k = record { frames = frames; slice = s; pictures = pictures; keeps = k }
 enters-some frames false s on pictures d b k = cc
 
 -- the macroblocks of the picture that may go on
-pub coded-by : (frames : ℕ → Frame) (on : Bool) (pictures : List CodedPicture) (d : Decoder) → KeepsFrames frames on false pictures d →
+pub coded-by : (frames : Family) (on : Bool) (pictures : List CodedPicture) (d : Decoder) → KeepsFrames frames on false pictures d →
     HoldsCoded (open_of on pictures) d.work
 coded-by frames on [] d h = tt
 coded-by frames true (p ∷ ps) d h = h.picture.so_far.holds
 coded-by frames false (p ∷ ps) d h = tt
 
 -- once the newest picture has ended
-pub gap-by : (frames : ℕ → Frame) (on : Bool) (pictures : List CodedPicture) (d : Decoder) → KeepsFrames frames on true pictures d →
+pub gap-by : (frames : Family) (on : Bool) (pictures : List CodedPicture) (d : Decoder) → KeepsFrames frames on true pictures d →
     FillsFrames frames (after_all pictures) (length pictures) d
 gap-by frames on [] d h = record { output = h.output; settled = h.picture }
 gap-by frames true (p ∷ ps) d h = record { output = h.output; settled = h.picture }
 gap-by frames false (p ∷ ps) d h = record { output = h.output; settled = h.picture }
 
-pub ended-gap : (mode : Mode) (frames : ℕ → Frame) (on : Bool) (pictures : List CodedPicture) (decoder : Option Decoder) →
-    WhereMade mode (KeepsFrames frames on true pictures) decoder → WhereMade mode (FillsFrames frames (after_all pictures) (length pictures)) decoder
-ended-gap mode frames on pictures decoder h = made-then _ _ mode decoder (gap-by frames on pictures) h
+pub ended-gap : (depth : Depth) (frames : Family) (on : Bool) (pictures : List CodedPicture) (decoder : Option Decoder) →
+    WhereMade depth (KeepsFrames frames on true pictures) decoder → WhereMade depth (FillsFrames frames (after_all pictures) (length pictures)) decoder
+ended-gap depth frames on pictures decoder h = made-then _ _ depth decoder (gap-by frames on pictures) h
 
 -- what a slice that is no first one finds of its picture's macroblocks
 pub holds-newest : (on : Bool) (pictures : List CodedPicture) (h : Header) (begins : Bool) (work : Work) → begins ≡ begins_after (open_of on pictures) h →

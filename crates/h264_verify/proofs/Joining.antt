@@ -2,12 +2,11 @@
 use Rattle.std.proofs.Common.{◌≡◌, ℕ, ◌+◌, ◌==◌, ◌||◌, ◌&&◌, not, true, false, Bool, ◌∷◌, [], List, Option, Some, None, Result, Ok, Err, OnOk, refl, ap, sym}
 use Rattle.std.proofs.Common.{subst, ◌∙◌, length}
 use native.Mathlib.Numerals.{unary_clauses}
-use Rattle.h264_base.specs.declared.mode.Mode.{Mode}
-use Rattle.h264_base.specs.declared.mode.Mode.TheVariants as modes
+use Rattle.h264_verify.specs.declared.state.Depth.{Depth}
+use Rattle.h264_verify.specs.declared.state.Depth.TheVariants as depths
 use Rattle.h264_base.specs.declared.stop.Stop.{Stop}
 use Rattle.h264_base.specs.Call.{Call, span}
-use Rattle.h264_plane.specs.declared.frame.Frame.{Frame}
-use Rattle.h264_verify.specs.Telling.{took_with, Agree, frame_span}
+use Rattle.h264_verify.specs.Telling.{took_with, Agree, frame_span, Family}
 use Rattle.h264_verify.specs.declared.decoder.Decoder.{Decoder}
 use Rattle.h264_units.specs.Stream.{NalUnit}
 use Rattle.h264_verify.specs.declared.state.State.{State}
@@ -32,20 +31,21 @@ use Rattle.h264_verify.specs.Order.{content_steps}
 use Rattle.h264_verify.specs.StepOutcome.{steps_outcome}
 use Rattle.h264_verify.specs.UnitOutcome.{slice_outcome, whole_slice, joined, joined_other}
 use Rattle.h264_verify.specs.Turning.{Joins}
+use Rattle.h264_verify.proofs.AgreeingUnits.{agree-none}
 use Rattle.h264_verify.proofs.Playing.{plays-stops, plays-on, plays-then}
 use Rattle.h264_verify.proofs.Entering.{IsNoSlice, EndsBefore, passed-keeps}
 use Rattle.h264_verify.specs.declared.slices.Slices.{Slices}
 use Rattle.h264_verify.proofs.Made.{made-then, some-made, none-made}
 use Rattle.h264_base.proofs.Plain.{choose-true, choose-false}
 
-module _ {S : Type 0} (mode : Mode) (frames : ℕ → Frame) (took : S → List Call → Type 0) (failures : S → ℕ) (ended : ℕ) (before : History) (unit : NalUnit)
+module _ {S : Type 0} (depth : Depth) (frames : Family) (took : S → List Call → Type 0) (failures : S → ℕ) (ended : ℕ) (before : History) (unit : NalUnit)
     (content : Outcome Content) (new : State) where
   -- what was read is judged, and frames were made
-  pub joins-made : {X : Type 0} (made : ℕ → Frame) → Agree ended frames made → (view : X → Content) (s s1 s2 : S) (x : X) (r : Result (Unit {0}) Stop) →
+  pub joins-made : {X : Type 0} (made : Family) → Agree ended frames made → (view : X → Content) (s s1 s2 : S) (x : X) (r : Result (Unit {0}) Stop) →
       Plays (span (took_with made took) failures s s1) view content (Ok x) →
-      Plays (span (took_with made took) failures s1 s2) (λ (u : Unit {0}). u) (steps_outcome (content_steps mode before unit (view x))) r →
-      OnOk r (Keeps mode made (record { unit = unit; content = view x } ∷ before) new) →
-      Joins mode (frame_span took failures frames s s2) ended (joined mode before unit content) new r
+      Plays (span (took_with made took) failures s1 s2) (λ (u : Unit {0}). u) (steps_outcome (content_steps depth before unit (view x))) r →
+      OnOk r (Keeps depth made (record { unit = unit; content = view x } ∷ before) new) →
+      Joins depth (frame_span took failures frames s s2) ended (joined depth before unit content) new r
   joins-made made a view s s1 s2 x r p q k = record {
     made = made;
     same = a;
@@ -58,18 +58,18 @@ module _ {S : Type 0} (mode : Mode) (frames : ℕ → Frame) (took : S → List 
   -- what was read is judged
   pub joins-on : {X : Type 0} (view : X → Content) (s s1 s2 : S) (x : X) (r : Result (Unit {0}) Stop) →
       Plays (span (took_with frames took) failures s s1) view content (Ok x) →
-      Plays (span (took_with frames took) failures s1 s2) (λ (u : Unit {0}). u) (steps_outcome (content_steps mode before unit (view x))) r →
-      OnOk r (Keeps mode frames (record { unit = unit; content = view x } ∷ before) new) →
-      Joins mode (frame_span took failures frames s s2) ended (joined mode before unit content) new r
-  joins-on view s s1 s2 x r p q k = joins-made frames (λ n h. refl) view s s1 s2 x r p q k
+      Plays (span (took_with frames took) failures s1 s2) (λ (u : Unit {0}). u) (steps_outcome (content_steps depth before unit (view x))) r →
+      OnOk r (Keeps depth frames (record { unit = unit; content = view x } ∷ before) new) →
+      Joins depth (frame_span took failures frames s s2) ended (joined depth before unit content) new r
+  joins-on view s s1 s2 x r p q k = joins-made frames (agree-none ended frames) view s s1 s2 x r p q k
 
   -- it could not be read
   pub joins-stops : {X : Type 0} (view : X → Content) (s s' : S) (e : Stop) →
       Plays {X = X} (span (took_with frames took) failures s s') view content (Err e) →
-      Joins {X = Unit {0}} mode (frame_span took failures frames s s') ended (joined mode before unit content) new (Err e)
+      Joins {X = Unit {0}} depth (frame_span took failures frames s s') ended (joined depth before unit content) new (Err e)
   joins-stops view s s' e p = record {
     made = frames;
-    same = λ n h. refl;
+    same = agree-none ended frames;
     after = [];
     plays = plays-stops (took_with frames took) failures view (λ (u : Unit {0}). []) content _ s s' e p;
     keeps = tt;
@@ -80,7 +80,7 @@ pub units-with : (before : History) (r : ReadUnit) (old new : ℕ) → new ≡ o
 units-with before r old new n k = simp unary_clauses at (n ∙ ap (λ x. x + 1) k)
 
 -- a picture that may go on is kept, or is none any more
-left-by : (frames : ℕ → Frame) (ends on : Bool) (pictures : List CodedPicture) (d : Decoder) → KeepsFrames frames on ends pictures d →
+left-by : (frames : Family) (ends on : Bool) (pictures : List CodedPicture) (d : Decoder) → KeepsFrames frames on ends pictures d →
     KeepsFrames frames (not ends && on) false pictures d
 left-by frames ends on [] d h = record { format = tt; output = h.output; picture = h.picture }
 left-by frames true true (p ∷ ps) d h = record { format = h.format; output = h.output; picture = h.picture }
@@ -88,55 +88,55 @@ left-by frames true false (p ∷ ps) d h = record { format = h.format; output = 
 left-by frames false true (p ∷ ps) d h = h
 left-by frames false false (p ∷ ps) d h = h
 
-left-decoder : (mode : Mode) (frames : ℕ → Frame) (ends on : Bool) (pictures : List CodedPicture) (d : Option Decoder) →
-    WhereMade mode (KeepsFrames frames on ends pictures) d → WhereMade mode (KeepsFrames frames (not ends && on) false pictures) d
-left-decoder mode frames ends on pictures d h = made-then _ _ mode d (left-by frames ends on pictures) h
+left-decoder : (depth : Depth) (frames : Family) (ends on : Bool) (pictures : List CodedPicture) (d : Option Decoder) →
+    WhereMade depth (KeepsFrames frames on ends pictures) d → WhereMade depth (KeepsFrames frames (not ends && on) false pictures) d
+left-decoder depth frames ends on pictures d h = made-then _ _ depth d (left-by frames ends on pictures) h
 
-module _ (mode : Mode) (frames : ℕ → Frame) (before : History) (unit : NalUnit) (d : Option Decoder)
-    (k : WhereMade mode (KeepsFrames frames (goes_on before) (ends_picture (nal_unit_type (header_of unit))) (runs_of before)) d) where
+module _ (depth : Depth) (frames : Family) (before : History) (unit : NalUnit) (d : Option Decoder)
+    (k : WhereMade depth (KeepsFrames frames (goes_on before) (ends_picture (nal_unit_type (header_of unit))) (runs_of before)) d) where
   pub passed-decoder : (c : Content) → IsNoSlice c →
-      WhereMade mode (KeepsFrames frames (goes_on (record { unit = unit; content = c } ∷ before)) false
+      WhereMade depth (KeepsFrames frames (goes_on (record { unit = unit; content = c } ∷ before)) false
       (runs_of (record { unit = unit; content = c } ∷ before))) d
-  passed-decoder (contents.OfSps set) h = left-decoder mode frames (ends_picture (nal_unit_type (header_of unit))) (goes_on before) (runs_of before) d k
-  passed-decoder (contents.OfPps set) h = left-decoder mode frames (ends_picture (nal_unit_type (header_of unit))) (goes_on before) (runs_of before) d k
+  passed-decoder (contents.OfSps set) h = left-decoder depth frames (ends_picture (nal_unit_type (header_of unit))) (goes_on before) (runs_of before) d k
+  passed-decoder (contents.OfPps set) h = left-decoder depth frames (ends_picture (nal_unit_type (header_of unit))) (goes_on before) (runs_of before) d k
   passed-decoder (contents.OfSlice h ms) n = absurd n
-  passed-decoder contents.Passed h = left-decoder mode frames (ends_picture (nal_unit_type (header_of unit))) (goes_on before) (runs_of before) d k
+  passed-decoder contents.Passed h = left-decoder depth frames (ends_picture (nal_unit_type (header_of unit))) (goes_on before) (runs_of before) d k
 
 -- a unit that is no slice belongs to what is kept
-pub passed-joins : (mode : Mode) (frames : ℕ → Frame) (before : History) (unit : NalUnit) (c : Content) (kind : ℕ) (old new : State) → IsNoSlice c →
-    EndsBefore kind c → kind ≡ nal_unit_type (header_of unit) → KeepsWithin mode frames before (ends_picture kind) old → new.units ≡ old.units + 1 →
+pub passed-joins : (depth : Depth) (frames : Family) (before : History) (unit : NalUnit) (c : Content) (kind : ℕ) (old new : State) → IsNoSlice c →
+    EndsBefore kind c → kind ≡ nal_unit_type (header_of unit) → KeepsWithin depth frames before (ends_picture kind) old → new.units ≡ old.units + 1 →
     new.sets ≡ maps_with (maps_of before) c → IsLeft (ends_picture kind) old.slices.picture new.slices.picture →
     new.slices.due ≡ ((kind == 10 || kind == 11) || old.slices.due) → new.slices ≡ record old.slices { picture = new.slices.picture; due = new.slices.due } →
-    new.decoder ≡ old.decoder → Keeps mode frames (record { unit = unit; content = c } ∷ before) new
-passed-joins mode frames before unit c kind old new n b k keeps units sets left due same decoder = record {
+    new.decoder ≡ old.decoder → Keeps depth frames (record { unit = unit; content = c } ∷ before) new
+passed-joins depth frames before unit c kind old new n b k keeps units sets left due same decoder = record {
   units = units-with before (record { unit = unit; content = c }) old.units new.units units keeps.units;
   sets = sets;
   slices = passed-keeps before unit kind old.slices new.slices k keeps.slices left due same c n b;
-  decoder = subst (λ d. WhereMade mode (KeepsFrames frames (goes_on (record { unit = unit; content = c } ∷ before)) false
+  decoder = subst (λ d. WhereMade depth (KeepsFrames frames (goes_on (record { unit = unit; content = c } ∷ before)) false
       (runs_of (record { unit = unit; content = c } ∷ before))) d) (sym decoder)
-      (passed-decoder mode frames before unit old.decoder
-      (subst (λ (x : ℕ). WhereMade mode (KeepsFrames frames (goes_on before) (ends_picture x) (runs_of before)) old.decoder) k keeps.decoder) c n);
+      (passed-decoder depth frames before unit old.decoder
+      (subst (λ (x : ℕ). WhereMade depth (KeepsFrames frames (goes_on before) (ends_picture x) (runs_of before)) old.decoder) k keeps.decoder) c n);
 }
 
-pub units-other : (kind : ℕ) (before : History) (unit : NalUnit) → joined_other modes.Units kind before unit ≡
-    joined modes.Units before unit (gives contents.Passed)
+pub units-other : (kind : ℕ) (before : History) (unit : NalUnit) → joined_other depths.Units kind before unit ≡
+    joined depths.Units before unit (gives contents.Passed)
 unfolding joined_other
-units-other kind before unit = λ i. joined modes.Units before unit (gives contents.Passed)
+units-other kind before unit = λ i. joined depths.Units before unit (gives contents.Passed)
 
 -- a unit that is no slice is passed over in every mode
-pub passed-other : (mode : Mode) (kind : ℕ) (before : History) (unit : NalUnit) → is_slice kind ≡ false →
-    joined_other mode kind before unit ≡ joined mode before unit (gives contents.Passed)
+pub passed-other : (depth : Depth) (kind : ℕ) (before : History) (unit : NalUnit) → is_slice kind ≡ false →
+    joined_other depth kind before unit ≡ joined depth before unit (gives contents.Passed)
 unfolding joined_other
-passed-other modes.Units kind before unit e = units-other kind before unit
-passed-other modes.Headers kind before unit e = choose-false (is_slice kind) _ _ e
-passed-other modes.Full kind before unit e = choose-false (is_slice kind) _ _ e
+passed-other depths.Units kind before unit e = units-other kind before unit
+passed-other depths.Headers kind before unit e = choose-false (is_slice kind) _ _ e
+passed-other depths.Full kind before unit e = choose-false (is_slice kind) _ _ e
 
 pub slice-other : (kind : ℕ) (before : History) (unit : NalUnit) → is_slice kind ≡ true →
-    joined_other modes.Headers kind before unit ≡ joined modes.Headers before unit (slice_outcome before unit)
+    joined_other depths.Headers kind before unit ≡ joined depths.Headers before unit (slice_outcome before unit)
 unfolding joined_other
 slice-other kind before unit e = choose-true (is_slice kind) _ _ e
 
-pub whole-other : (kind : ℕ) (before : History) (unit : NalUnit) → is_slice kind ≡ true → joined_other modes.Full kind before unit ≡ whole_slice before unit
+pub whole-other : (kind : ℕ) (before : History) (unit : NalUnit) → is_slice kind ≡ true → joined_other depths.Full kind before unit ≡ whole_slice before unit
 unfolding joined_other
 whole-other kind before unit e = choose-true (is_slice kind) _ _ e
 
@@ -148,16 +148,16 @@ goes-newest false [] h begins e f = cc
 goes-newest false (p ∷ ps) h begins e f = cc
 
 -- frames by the mode
-pub full-decoder : (P : Decoder → Type 0) (o : Option Decoder) (d : Decoder) → o ≡ Some d → WhereMade modes.Full P o → P d
-full-decoder P o d e h = (some-made P modes.Full o d e h).1
+pub full-decoder : (P : Decoder → Type 0) (o : Option Decoder) (d : Decoder) → o ≡ Some d → WhereMade depths.Full P o → P d
+full-decoder P o d e h = (some-made P depths.Full o d e h).1
 
-pub no-decoder : (P : Decoder → Type 0) (o : Option Decoder) → o ≡ None → WhereMade modes.Full P o → ⊥
-no-decoder P o e h = none-made P modes.Full o e h
+pub no-decoder : (P : Decoder → Type 0) (o : Option Decoder) → o ≡ None → WhereMade depths.Full P o → ⊥
+no-decoder P o e h = none-made P depths.Full o e h
 
 -- there are units of which this is kept, before a slice
-pub some-slice : (mode : Mode) (state : State) → KeepsSome mode false state → KeepsSomeSlice state.slices state.sets state.decoder
-some-slice mode state k = record {
-  mode = mode;
+pub some-slice : (depth : Depth) (state : State) → KeepsSome depth false state → KeepsSomeSlice state.slices state.sets state.decoder
+some-slice depth state k = record {
+  depth = depth;
   frames = k.frames;
   before = k.before;
   sets_are = k.keeps.sets;
@@ -175,7 +175,7 @@ runs-with before unit h ms maps begins sets b maps-are named =
     (sym named ∙ ap (λ m. sets_of m h.pic_parameter_set_id.value) maps-are)
 
 -- the rest of what is kept stays
-pub within : {mode : Mode} {frames made : ℕ → Frame} {before : History} {ended : Bool} (state : State) (slices : Slices) (decoder : Option Decoder) →
-    Keeps mode frames before state → KeepsSlices before ended slices → WhereMade mode (KeepsFrames made (goes_on before) ended (runs_of before)) decoder →
-    KeepsWithin mode made before ended (record state { slices = slices; decoder = decoder })
+pub within : {depth : Depth} {frames made : Family} {before : History} {ended : Bool} (state : State) (slices : Slices) (decoder : Option Decoder) →
+    Keeps depth frames before state → KeepsSlices before ended slices → WhereMade depth (KeepsFrames made (goes_on before) ended (runs_of before)) decoder →
+    KeepsWithin depth made before ended (record state { slices = slices; decoder = decoder })
 within state slices decoder k s d = record { units = k.units; sets = k.sets; slices = s; decoder = d }

@@ -2,7 +2,7 @@
 use Rattle.std.proofs.Common.{◌≡◌, ℕ, ◌*◌, Bool, true, false, List, [], ◌++◌, Option, Some, Result, Ok, Err, refl, ap, sym, ◌∙◌, subst, append_assoc}
 use Rattle.std.proofs.Common.{if◌then◌else◌}
 use Rattle.h264_base.specs.Call.{span}
-use Rattle.h264_base.specs.declared.mode.Mode.{Mode}
+use Rattle.h264_verify.specs.declared.state.Depth.{Depth}
 use Rattle.h264_base.specs.declared.stop.Stop.{Stop}
 use Rattle.h264_units.specs.Stream.{NalUnit}
 use Rattle.h264_sps.specs.declared.sps.Sps.{Sps}
@@ -11,11 +11,10 @@ use Rattle.h264_picture.specs.Buffer.{buffer_size}
 use Rattle.h264_sets.specs.Sets.{Maps}
 use Rattle.h264_header.specs.declared.header.Header.{Header}
 use Rattle.h264_header.specs.Layout.{sets_of}
-use Rattle.h264_plane.specs.declared.frame.Frame.{Frame}
 use Rattle.h264_dpb.specs.Ending.{ended_of}
 use Rattle.h264_verify.specs.declared.decoder.Decoder.{Decoder}
 use Rattle.h264_verify.specs.declared.slices.Slices.{Slices}
-use Rattle.h264_verify.specs.Telling.{Told}
+use Rattle.h264_verify.specs.Telling.{Told, Family}
 use Rattle.h264_verify.specs.Outcome.{Outcome, Plays}
 use Rattle.h264_verify.specs.Demands.{judged}
 use Rattle.h264_verify.specs.History.{History, maps_of}
@@ -33,34 +32,34 @@ use Rattle.h264_verify.proofs.Stepwise.{steps-stop, steps-on}
 use Rattle.h264_verify.proofs.Holding.{coded-by, holds-newest}
 use Rattle.h264_verify.proofs.Made.{made-then}
 
-module _ {S : Type 0} (took : S → List Told → Type 0) (failures : S → ℕ) (mode : Mode) (before : History) (unit : NalUnit) (h : Header) (begins : Bool)
+module _ {S : Type 0} (took : S → List Told → Type 0) (failures : S → ℕ) (depth : Depth) (before : History) (unit : NalUnit) (h : Header) (begins : Bool)
     (b : begins ≡ begins_at before h) where
   abbrev PlaysOf : Outcome (Unit {0}) → S → S → Result (Unit {0}) Stop → Type 0
   PlaysOf o s s' r = Plays (span took failures s s') (λ (x : Unit {0}). x) o r
 
   abbrev own : Outcome (Unit {0})
-  own = steps_outcome (own_steps mode before unit h begins b)
+  own = steps_outcome (own_steps depth before unit h begins b)
 
   three : (xs ys zs ts : List Step) → (xs ++ (ys ++ zs)) ++ ts ≡ xs ++ (ys ++ (zs ++ ts))
   three xs ys zs ts = append_assoc xs (ys ++ zs) ts ∙ ap (λ (l : List Step). xs ++ l) (append_assoc ys zs ts)
 
   -- after the end of the picture before it
-  closed-is : slice_steps mode before unit h ≡ close_steps mode begins before ++ own_steps mode before unit h begins b
+  closed-is : slice_steps depth before unit h ≡ close_steps depth begins before ++ own_steps depth before unit h begins b
   closed-is =
       let at = begins_at before h in
-      sym (three (if at then whole_steps mode before else []) (needs (if at then closing_demands before else []))
-      (if at then closing_frames mode before else []) (own_steps mode before unit h begins b))
-      ∙ ap (λ (x : Bool). close_steps mode x before ++ own_steps mode before unit h begins b) (sym b)
+      sym (three (if at then whole_steps depth before else []) (needs (if at then closing_demands before else []))
+      (if at then closing_frames depth before else []) (own_steps depth before unit h begins b))
+      ∙ ap (λ (x : Bool). close_steps depth x before ++ own_steps depth before unit h begins b) (sym b)
 
-  pub closed-stop : (s s' : S) (e : Stop) → PlaysOf (steps_outcome (close_steps mode begins before)) s s' (Err e) →
-      PlaysOf (steps_outcome (slice_steps mode before unit h)) s s' (Err e)
+  pub closed-stop : (s s' : S) (e : Stop) → PlaysOf (steps_outcome (close_steps depth begins before)) s s' (Err e) →
+      PlaysOf (steps_outcome (slice_steps depth before unit h)) s s' (Err e)
   closed-stop s s' e p = subst (λ (l : List Step). PlaysOf (steps_outcome l) s s' (Err e)) (sym closed-is)
-      (steps-stop took failures (λ (x : Unit {0}). x) (close_steps mode begins before) (own_steps mode before unit h begins b) s s' e p)
+      (steps-stop took failures (λ (x : Unit {0}). x) (close_steps depth begins before) (own_steps depth before unit h begins b) s s' e p)
 
-  pub closed-on : (s0 s1 s2 : S) (x : Unit {0}) (r : Result (Unit {0}) Stop) → PlaysOf (steps_outcome (close_steps mode begins before)) s0 s1 (Ok x) →
-      PlaysOf own s1 s2 r → PlaysOf (steps_outcome (slice_steps mode before unit h)) s0 s2 r
+  pub closed-on : (s0 s1 s2 : S) (x : Unit {0}) (r : Result (Unit {0}) Stop) → PlaysOf (steps_outcome (close_steps depth begins before)) s0 s1 (Ok x) →
+      PlaysOf own s1 s2 r → PlaysOf (steps_outcome (slice_steps depth before unit h)) s0 s2 r
   closed-on s0 s1 s2 x r p q = subst (λ (l : List Step). PlaysOf (steps_outcome l) s0 s2 r) (sym closed-is)
-      (steps-on took failures (λ (x : Unit {0}). x) (close_steps mode begins before) (own_steps mode before unit h begins b) s0 s1 s2 x r p q)
+      (steps-on took failures (λ (x : Unit {0}). x) (close_steps depth begins before) (own_steps depth before unit h begins b) s0 s1 s2 x r p q)
 
   -- its own rules, and that it is told
   module _ (due : Bool) (maps : Maps) (due-is : due ≡ is_idr_due before) (maps-are : maps ≡ maps_of before) (sets : Pps × Sps)
@@ -70,33 +69,33 @@ module _ {S : Type 0} (took : S → List Told → Type 0) (failures : S → ℕ)
 
     pub standing-stop : (s : S) (e : Stop) →
         (let r : Result (Unit {0}) Stop = Err e in r ≡ judged (standing_demands begins sets.1 due maps (8 * unit.from) h)) → PlaysOf own s s (Err e)
-    standing-stop s e p = refused took failures (own_steps mode before unit h begins b) s e
-        (at-standing mode before unit h begins b due maps due-is maps-are sets named e p)
+    standing-stop s e p = refused took failures (own_steps depth before unit h begins b) s e
+        (at-standing depth before unit h begins b due maps due-is maps-are sets named e p)
         (err-named (standing_demands begins sets.1 due maps (8 * unit.from) h) e (sym p))
 
     module _ (x : Unit {0}) (stands : Ok x ≡ judged (standing_demands begins sets.1 due maps (8 * unit.from) h)) where
       pub place-stop : (s : S) (e : Stop) → (let r : Result (Unit {0}) Stop = Err e in
-          r ≡ judged (first_mb_demands mode (coded_before begins (runs_of before)) h)) → PlaysOf own s s (Err e)
-      place-stop s e p = refused took failures (own_steps mode before unit h begins b) s e
-          (at-place mode before unit h begins b due maps due-is maps-are sets named x stands e p)
-          (err-named (first_mb_demands mode (coded_before begins (runs_of before)) h) e (sym p))
+          r ≡ judged (first_mb_demands depth (coded_before begins (runs_of before)) h)) → PlaysOf own s s (Err e)
+      place-stop s e p = refused took failures (own_steps depth before unit h begins b) s e
+          (at-place depth before unit h begins b due maps due-is maps-are sets named x stands e p)
+          (err-named (first_mb_demands depth (coded_before begins (runs_of before)) h) e (sym p))
 
-      module _ (y : Unit {0}) (placed : Ok y ≡ judged (first_mb_demands mode (coded_before begins (runs_of before)) h)) where
-        pub own-then : (s s' : S) (r : Result (Unit {0}) Stop) → PlaysOf (steps_outcome (told_rules mode begins (runs_of before) slice)) s s' r →
+      module _ (y : Unit {0}) (placed : Ok y ≡ judged (first_mb_demands depth (coded_before begins (runs_of before)) h)) where
+        pub own-then : (s s' : S) (r : Result (Unit {0}) Stop) → PlaysOf (steps_outcome (told_rules depth begins (runs_of before) slice)) s s' r →
             PlaysOf own s s' r
         own-then s s' r p = subst (λ (o : Outcome (Unit {0})). PlaysOf o s s' r)
-            (sym (after-place mode before unit h begins b due maps due-is maps-are sets named x stands y placed)) p
+            (sym (after-place depth before unit h begins b due maps due-is maps-are sets named x stands y placed)) p
 
 -- the macroblocks of its picture before it
-held-before : (frames : ℕ → Frame) (on begins : Bool) (pictures : List CodedPicture) (h : Header) → begins ≡ begins_after (open_of on pictures) h →
+held-before : (frames : Family) (on begins : Bool) (pictures : List CodedPicture) (h : Header) → begins ≡ begins_after (open_of on pictures) h →
     (d : Decoder) → KeepsFrames frames on begins pictures d → HoldsNewest begins pictures d.work
 held-before frames on true pictures h b d k = tt
 held-before frames on false pictures h b d k = holds-newest on pictures h false d.work b (coded-by frames on pictures d k)
 
-pub before-held : (mode : Mode) (frames : ℕ → Frame) (on begins : Bool) (pictures : List CodedPicture) (h : Header) (decoder : Option Decoder) → begins ≡
-    begins_after (open_of on pictures) h → WhereMade mode (KeepsFrames frames on begins pictures) decoder →
-    WhereMade mode (λ d. HoldsNewest begins pictures d.work) decoder
-before-held mode frames on begins pictures h decoder b k = made-then _ _ mode decoder (held-before frames on begins pictures h b) k
+pub before-held : (depth : Depth) (frames : Family) (on begins : Bool) (pictures : List CodedPicture) (h : Header) (decoder : Option Decoder) → begins ≡
+    begins_after (open_of on pictures) h → WhereMade depth (KeepsFrames frames on begins pictures) decoder →
+    WhereMade depth (λ d. HoldsNewest begins pictures d.work) decoder
+before-held depth frames on begins pictures h decoder b k = made-then _ _ depth decoder (held-before frames on begins pictures h b) k
 
 -- what the buffer is told of its picture, where it begins one
 pub ended-is : (before : History) (begins : Bool) (slice : CodedSlice) (slices : Slices) → Entered before begins slice slices → begins ≡ true →

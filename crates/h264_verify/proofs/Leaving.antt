@@ -2,9 +2,9 @@
 use Rattle.std.proofs.Common.{◌≡◌, ℕ, ◌*◌, ◌||◌, ◌&&◌, not, Bool, true, false, List, [], ◌∷◌, ◌++◌, length, Option, Some, None, Ok, refl, sym, ◌∙◌, subst}
 use Rattle.std.proofs.Common.{if◌then◌else◌}
 use Rattle.std.specs.Option.{is_some}
-use Rattle.h264_verify.specs.Units.{terms_of}
+use Rattle.h264_verify.specs.Units.{extent_at}
 use Rattle.h264_base.specs.declared.mode.Target.{Target}
-use Rattle.h264_base.specs.declared.mode.Mode.TheVariants as modes
+use Rattle.h264_verify.specs.declared.state.Depth.TheVariants as depths
 use Rattle.h264_base.specs.Grammar.{Done, ◌>>=◌}
 use Rattle.h264_cavlc.proofs.Gives.{Gives, gives-done, gives-bind}
 use Rattle.h264_rbsp.specs.Rbsp.{body_of}
@@ -20,9 +20,8 @@ use Rattle.h264_mbsyntax.proofs.OfSlice.{of-slice}
 use Rattle.h264_vectors.specs.declared.slice.SliceContext.{SliceContext}
 use Rattle.h264_picture.specs.Context.{slice_context}
 use Rattle.h264_picture.specs.Levels.{transform_fits}
-use Rattle.h264_plane.specs.declared.frame.Frame.{Frame}
 use Rattle.h264_base.specs.declared.summary.Summary.{Summary}
-use Rattle.h264_verify.specs.Telling.{Told, Said, HasFrame, AreDecoded}
+use Rattle.h264_verify.specs.Telling.{Told, Said, HasFrame, AreDecoded, Family}
 use Rattle.h264_verify.specs.Content.{Content}
 use Rattle.h264_verify.specs.Content as contents
 use Rattle.h264_verify.specs.Steps.{Step, needs, AreMet, Reads, Ends, Runs}
@@ -57,30 +56,30 @@ use Rattle.h264_verify.proofs.Standing.{stands-set, stands-if, usable-set, idr-s
 
 -- ---- frames of the pictures that have ended
 
-abbrev pub HaveFrames : (ℕ → Frame) → List CodedPicture → Type 0
+abbrev pub HaveFrames : Family → List CodedPicture → Type 0
 HaveFrames frames [] = Unit {0}
 HaveFrames frames (p ∷ ps) = HasFrame frames (p ∷ ps) × HaveFrames frames ps
 
 -- the picture that may go on ends
-closes : (frames : ℕ → Frame) (on : Bool) (pictures : List CodedPicture) → HaveFrames frames (ended_pictures on false pictures) →
-    HaveDecoded frames (if on then end_frames modes.Full pictures else []) → HaveFrames frames pictures
+closes : (frames : Family) (on : Bool) (pictures : List CodedPicture) → HaveFrames frames (ended_pictures on false pictures) →
+    HaveDecoded frames (if on then end_frames depths.Full pictures else []) → HaveFrames frames pictures
 closes frames on [] h d = tt
 closes frames true (p ∷ ps) h d = (d.0, h)
 closes frames false (p ∷ ps) h d = h
 
-whole-frames : (frames : ℕ → Frame) (pictures : List CodedPicture) → HaveFrames frames pictures → HaveFrames frames (ended_pictures false false pictures)
+whole-frames : (frames : Family) (pictures : List CodedPicture) → HaveFrames frames pictures → HaveFrames frames (ended_pictures false false pictures)
 whole-frames frames [] h = tt
 whole-frames frames (p ∷ ps) h = h
 
-passed-frames : (frames : ℕ → Frame) (ends on : Bool) (pictures : List CodedPicture) → HaveFrames frames (ended_pictures on false pictures) →
-    HaveDecoded frames (if ends then (if on then end_frames modes.Full pictures else []) else []) →
+passed-frames : (frames : Family) (ends on : Bool) (pictures : List CodedPicture) → HaveFrames frames (ended_pictures on false pictures) →
+    HaveDecoded frames (if ends then (if on then end_frames depths.Full pictures else []) else []) →
     HaveFrames frames (ended_pictures (not ends && on) false pictures)
 passed-frames frames true on pictures h d = whole-frames frames pictures (closes frames on pictures h d)
 passed-frames frames false on pictures h d = h
 
-slice-frames : (frames : ℕ → Frame) (begins on : Bool) (pictures : List CodedPicture) (s : CodedSlice) → begins ≡
+slice-frames : (frames : Family) (begins on : Bool) (pictures : List CodedPicture) (s : CodedSlice) → begins ≡
     begins_after (open_of on pictures) s.header → HaveFrames frames (ended_pictures on false pictures) →
-    HaveDecoded frames (if begins then (if on then end_frames modes.Full pictures else []) else []) →
+    HaveDecoded frames (if begins then (if on then end_frames depths.Full pictures else []) else []) →
     HaveFrames frames (ended_pictures true false (joined_to begins s pictures))
 slice-frames frames true on pictures s b h d = closes frames on pictures h d
 slice-frames frames false on [] s b h d = cc
@@ -93,7 +92,7 @@ pub record Stands (before : History) (calls : List Told) : Type 0 where
   pub read : AreRead (runs_of before)
   pub active : HasActive (is_idr_due before) (runs_of before) (maps_of before)
   pub sound : AreSound (has_ended (goes_on before) false) (runs_of before)
-  pub frames : (frames : ℕ → Frame) → AreDecoded frames calls → HaveFrames frames (ended_pictures (goes_on before) false (runs_of before))
+  pub frames : (frames : Family) → AreDecoded frames calls → HaveFrames frames (ended_pictures (goes_on before) false (runs_of before))
 
 -- ---- a slice
 
@@ -125,16 +124,16 @@ module _ (before : History) (unit : NalUnit) (h : Header) (ms : List CodedMacrob
 
   -- its rules: those on its sets, on its place, and the rest
   abbrev further : Bool → List CodedPicture → List Step
-  further true pictures = needs (first_mb_demands modes.Full 0 h) ++ first_slice_rules modes.Full pictures bare
-  further false pictures = needs (first_mb_demands modes.Full (length (coded_of pictures)) h) ++ needs (later_slice_rules pictures bare)
+  further true pictures = needs (first_mb_demands depths.Full 0 h) ++ first_slice_rules depths.Full pictures bare
+  further false pictures = needs (first_mb_demands depths.Full (length (coded_of pictures)) h) ++ needs (later_slice_rules pictures bare)
 
-  standing-met : (begins due : Bool) (pictures : List CodedPicture) → Met (rules_of modes.Full begins due maps pictures bare) →
+  standing-met : (begins due : Bool) (pictures : List CodedPicture) → Met (rules_of depths.Full begins due maps pictures bare) →
       Met (needs (standing_demands begins sps due maps (8 * unit.from) h))
   standing-met true due pictures m = met-first (needs (standing_demands true sps due maps (8 * unit.from) h)) (further true pictures) m
   standing-met false due pictures m = met-first (needs (standing_demands false sps due maps (8 * unit.from) h)) (further false pictures) m
 
   joined-read : (begins on due : Bool) (pictures : List CodedPicture) → begins ≡ begins_after (open_of on pictures) h → AreRead pictures →
-      HasActive due pictures maps → Met (rules_of modes.Full begins due maps pictures bare) → IsOwn begins pictures ms →
+      HasActive due pictures maps → Met (rules_of depths.Full begins due maps pictures bare) → IsOwn begins pictures ms →
       AreRead (joined_to begins slice pictures)
   joined-read true on due pictures b r a m own = (
     record {
@@ -170,30 +169,30 @@ module _ (before : History) (unit : NalUnit) (h : Header) (ms : List CodedMacrob
 
   -- its steps: the end of the picture before it, where it begins one, its rules, and what a sink is told
   abbrev whole : List Step
-  whole = if begins then whole_steps modes.Full before else []
+  whole = if begins then whole_steps depths.Full before else []
 
   abbrev closing : List Step
   closing = needs (if begins then closing_demands before else [])
 
   abbrev shows : List Step
-  shows = if begins then closing_frames modes.Full before else []
+  shows = if begins then closing_frames depths.Full before else []
 
   abbrev own : List Step
-  own = steps_by modes.Full (sets_at before h) before unit h
+  own = steps_by depths.Full (sets_at before h) before unit h
 
-  rules-met : Met (slice_steps modes.Full before unit h) → Met (rules_of modes.Full begins (is_idr_due before) maps pictures bare)
+  rules-met : Met (slice_steps depths.Full before unit h) → Met (rules_of depths.Full begins (is_idr_due before) maps pictures bare)
   rules-met m =
       let last = met-last shows own (met-last closing (shows ++ own) (met-last whole (closing ++ (shows ++ own)) m)) in
-      met-first (rules_of modes.Full begins (is_idr_due before) maps pictures bare)
+      met-first (rules_of depths.Full begins (is_idr_due before) maps pictures bare)
       (step.Tells (Said (slice_call (joined_to begins bare pictures) bare)) ∷ [])
-      (subst (λ (o : Option (Pps × Sps)). Met (steps_by modes.Full o before unit h)) named last)
+      (subst (λ (o : Option (Pps × Sps)). Met (steps_by depths.Full o before unit h)) named last)
 
-  closing-met : Met (slice_steps modes.Full before unit h) → Met closing
+  closing-met : Met (slice_steps depths.Full before unit h) → Met closing
   closing-met m = met-first closing (shows ++ own) (met-last whole (closing ++ (shows ++ own)) m)
 
   -- the pictures with the slice are sound
   slice-sound : HasActive (is_idr_due before) pictures maps → AreSound (has_ended (goes_on before) false) pictures →
-      Met (slice_steps modes.Full before unit h) → AreSound false (joined_to begins slice pictures)
+      Met (slice_steps depths.Full before unit h) → AreSound false (joined_to begins slice pictures)
   slice-sound a s m =
       let rules = rules-met m in
       let ok = met-judged (standing_demands begins sps (is_idr_due before) maps (8 * unit.from) h) (standing-met begins (is_idr_due before) pictures rules) in
@@ -201,12 +200,12 @@ module _ (before : History) (unit : NalUnit) (h : Header) (ms : List CodedMacrob
       (usable-set maps h.pic_parameter_set_id.value pps sps named)
       (stands-if begins (is_idr_due before) pictures maps sps (8 * unit.from) h a ok) (begun-filled begins (is_idr_due before) maps pictures bare rules)
 
-  closing-decoded : (frames : ℕ → Frame) → HaveDecoded frames (slice_steps modes.Full before unit h) →
-      HaveDecoded frames (if begins then (if goes_on before then end_frames modes.Full pictures else []) else [])
+  closing-decoded : (frames : Family) → HaveDecoded frames (slice_steps depths.Full before unit h) →
+      HaveDecoded frames (if begins then (if goes_on before then end_frames depths.Full pictures else []) else [])
   closing-decoded frames d = have-first frames shows own (have-last frames closing (shows ++ own) (have-last frames whole (closing ++ (shows ++ own)) d))
 
-  slice-stands : (earlier last : List Told) → Stands before earlier → Met (slice_steps modes.Full before unit h) →
-      ((frames : ℕ → Frame) → AreDecoded frames last → HaveDecoded frames (slice_steps modes.Full before unit h)) → IsOwn begins pictures ms →
+  slice-stands : (earlier last : List Told) → Stands before earlier → Met (slice_steps depths.Full before unit h) →
+      ((frames : Family) → AreDecoded frames last → HaveDecoded frames (slice_steps depths.Full before unit h)) → IsOwn begins pictures ms →
       Stands after (earlier ++ last)
   slice-stands earlier last s met decoded read =
       let rules = rules-met met in
@@ -260,15 +259,15 @@ module _ (before : History) (unit : NalUnit) (earlier last : List Told) (s : Sta
   left-sound : HasEnded before unit last → AreSound (has_ended (not (ends_picture kind) && goes_on before) false) (runs_of before)
   left-sound e =
       passed-sound (ends_picture kind) (goes_on before) (runs_of before) s.sound
-      (met-first (needs (closing_at kind before)) (frames_at modes.Full kind before)
-      (met-last (whole_at modes.Full kind before) (needs (closing_at kind before) ++ frames_at modes.Full kind before) e.met))
+      (met-first (needs (closing_at kind before)) (frames_at depths.Full kind before)
+      (met-last (whole_at depths.Full kind before) (needs (closing_at kind before) ++ frames_at depths.Full kind before) e.met))
 
-  left-frames : HasEnded before unit last → (frames : ℕ → Frame) → AreDecoded frames (earlier ++ last) →
+  left-frames : HasEnded before unit last → (frames : Family) → AreDecoded frames (earlier ++ last) →
       HaveFrames frames (ended_pictures (not (ends_picture kind) && goes_on before) false (runs_of before))
   left-frames e frames d =
       passed-frames frames (ends_picture kind) (goes_on before) (runs_of before) (s.frames frames (decoded-first frames earlier last d))
-      (have-last frames (needs (closing_at kind before)) (frames_at modes.Full kind before)
-      (have-last frames (whole_at modes.Full kind before) (needs (closing_at kind before) ++ frames_at modes.Full kind before)
+      (have-last frames (needs (closing_at kind before)) (frames_at depths.Full kind before)
+      (have-last frames (whole_at depths.Full kind before) (needs (closing_at kind before) ++ frames_at depths.Full kind before)
       (e.decoded frames (decoded-last frames earlier last d))))
 
   passed-stands : HasEnded before unit last → (c : Content) → IsNoSlice c → Stands (one_more c) (earlier ++ last)
@@ -295,8 +294,8 @@ module _ (before : History) (unit : NalUnit) (earlier last : List Told) (s : Sta
   }
 
   with-data : (h : Header) (c : Content) (bit : ℕ) (rest : List Told) → Met (byte_steps unit) → IsHeader (sets_of (maps_of before)) (slice_unit unit) h →
-      Met (slice_steps modes.Full before unit h) →
-      ((frames : ℕ → Frame) → AreDecoded frames last → HaveDecoded frames (slice_steps modes.Full before unit h)) →
+      Met (slice_steps depths.Full before unit h) →
+      ((frames : Family) → AreDecoded frames last → HaveDecoded frames (slice_steps depths.Full before unit h)) →
       Runs (body_of unit) (Reads (slice_data_at before unit h >>= (λ ms. Done (contents.OfSlice h ms))) bit (λ whole end. Ends whole)) rest (Ok c) →
       (o : Option (Pps × Sps)) → sets_at before h ≡ o → is_some o ≡ true → Stands (one_more c) (earlier ++ last)
   with-data h c bit rest top k m d r None e t = cc
@@ -307,9 +306,9 @@ module _ (before : History) (unit : NalUnit) (earlier last : List Told) (s : Sta
       (slice-stands before unit h x.0 sets.0 sets.1 e (header-marked before unit h top k) earlier last s m d x.2)
 
   by-content : (c found : Content) (bit : ℕ) (rest : List Told) → Met (byte_steps unit) → HasEnded before unit last → IsContent before unit found →
-      Met (content_steps modes.Full before unit found) →
-      ((frames : ℕ → Frame) → AreDecoded frames last → HaveDecoded frames (content_steps modes.Full before unit found)) →
-      Runs (body_of unit) (data_course modes.Full before unit found bit) rest (Ok c) → Stands (one_more c) (earlier ++ last)
+      Met (content_steps depths.Full before unit found) →
+      ((frames : Family) → AreDecoded frames last → HaveDecoded frames (content_steps depths.Full before unit found)) →
+      Runs (body_of unit) (data_course depths.Full before unit found bit) rest (Ok c) → Stands (one_more c) (earlier ++ last)
   by-content c (contents.OfSps set) bit rest top e k m d r =
       subst (λ y. Stands (one_more y) (earlier ++ last)) (sym (rest-ends (body_of unit) (contents.OfSps set) c rest r))
       (passed-stands e (contents.OfSps set) tt)
@@ -321,46 +320,46 @@ module _ (before : History) (unit : NalUnit) (earlier last : List Told) (s : Sta
       subst (λ y. Stands (one_more y) (earlier ++ last)) (sym (rest-ends (body_of unit) contents.Passed c rest r)) (passed-stands e contents.Passed tt)
 
 stands-next : (target : Target) (before : History) (r : ReadUnit) (earlier last : List Told) → Stands before earlier →
-    IsLegal (terms_of modes.Full target) before r last → Stands (r ∷ before) (earlier ++ last)
+    IsLegal (extent_at depths.Full target) before r last → Stands (r ∷ before) (earlier ++ last)
 stands-next target before r earlier last s l =
     let m = has-met target before r last l in
     by-content before r.unit earlier last s r.content m.found m.bit m.rest m.header m.ends (is-content target before r.unit r.content last m) m.rules m.frames
     m.following
 
-pub stands : (target : Target) (before : History) (calls : List Told) → AreLegal (terms_of modes.Full target) before calls → Stands before calls
+pub stands : (target : Target) (before : History) (calls : List Told) → AreLegal (extent_at depths.Full target) before calls → Stands before calls
 stands target [] calls l = record { read = tt; active = refl; sound = tt; frames = λ frames d. tt }
 stands target (r ∷ before) calls l = subst (Stands (r ∷ before)) (sym l.4) (stands-next target before r l.0 l.1 (stands target before l.0 l.2) l.3)
 
 -- their slices were read
-pub legal-read : (target : Target) (before : History) (calls : List Told) → AreLegal (terms_of modes.Full target) before calls → AreRead (runs_of before)
+pub legal-read : (target : Target) (before : History) (calls : List Told) → AreLegal (extent_at depths.Full target) before calls → AreRead (runs_of before)
 legal-read target before calls l = (stands target before calls l).read
 
 -- the pictures that have ended have their frames
-pub legal-frames : (target : Target) (before : History) (calls : List Told) → AreLegal (terms_of modes.Full target) before calls →
-    (frames : ℕ → Frame) → AreDecoded frames calls → HaveFrames frames (ended_pictures (goes_on before) false (runs_of before))
+pub legal-frames : (target : Target) (before : History) (calls : List Told) → AreLegal (extent_at depths.Full target) before calls →
+    (frames : Family) → AreDecoded frames calls → HaveFrames frames (ended_pictures (goes_on before) false (runs_of before))
 legal-frames target before calls l frames d = (stands target before calls l).frames frames d
 
 -- ---- at the end of the input
 
 -- all pictures have ended
-pub all-sound : (target : Target) (units : History) (first last : List Told) (bit : ℕ) → AreLegal (terms_of modes.Full target) units first →
-    AreMet (end_steps modes.Full units bit) last → AreSound true (runs_of units)
+pub all-sound : (target : Target) (units : History) (first last : List Told) (bit : ℕ) → AreLegal (extent_at depths.Full target) units first →
+    AreMet (end_steps depths.Full units bit) last → AreSound true (runs_of units)
 all-sound target units first last bit l e =
-    let rest = closing_frames modes.Full units ++ (needs (picture_demand modes.Full units bit ∷ []) ++ last_frames modes.Full (runs_of units)) in
+    let rest = closing_frames depths.Full units ++ (needs (picture_demand depths.Full units bit ∷ []) ++ last_frames depths.Full (runs_of units)) in
     closes-sound (goes_on units) (runs_of units) (stands target units first l).sound
     (met-first (needs (closing_demands units)) rest
-    (met-last (whole_steps modes.Full units) (needs (closing_demands units) ++ rest) (met (end_steps modes.Full units bit) last e)))
+    (met-last (whole_steps depths.Full units) (needs (closing_demands units) ++ rest) (met (end_steps depths.Full units bit) last e)))
 
-module _ (target : Target) (bytes : List ℕ) (calls : List Told) (summary : Summary) (h : Holds (terms_of modes.Full target) bytes calls summary) where
+module _ (target : Target) (bytes : List ℕ) (calls : List Told) (summary : Summary) (h : Holds (extent_at depths.Full target) bytes calls summary) where
   abbrev shown : List Step
-  shown = needs (picture_demand modes.Full h.units (8 * length bytes) ∷ []) ++ last_frames modes.Full (runs_of h.units)
+  shown = needs (picture_demand depths.Full h.units (8 * length bytes) ∷ []) ++ last_frames depths.Full (runs_of h.units)
 
   -- all pictures have their frames
-  pub all-frames : (frames : ℕ → Frame) → AreDecoded frames calls → HaveFrames frames (runs_of h.units)
+  pub all-frames : (frames : Family) → AreDecoded frames calls → HaveFrames frames (runs_of h.units)
   all-frames frames d =
       let all = subst (AreDecoded frames) h.calls_are d in
-      let last = have-decoded frames (end_steps modes.Full h.units (8 * length bytes)) h.last h.end (decoded-last frames h.first h.last all) in
+      let last = have-decoded frames (end_steps depths.Full h.units (8 * length bytes)) h.last h.end (decoded-last frames h.first h.last all) in
       closes frames (goes_on h.units) (runs_of h.units) (legal-frames target h.units h.first h.legal frames (decoded-first frames h.first h.last all))
-      (have-first frames (closing_frames modes.Full h.units) shown
-      (have-last frames (needs (closing_demands h.units)) (closing_frames modes.Full h.units ++ shown)
-      (have-last frames (whole_steps modes.Full h.units) (needs (closing_demands h.units) ++ (closing_frames modes.Full h.units ++ shown)) last)))
+      (have-first frames (closing_frames depths.Full h.units) shown
+      (have-last frames (needs (closing_demands h.units)) (closing_frames depths.Full h.units ++ shown)
+      (have-last frames (whole_steps depths.Full h.units) (needs (closing_demands h.units) ++ (closing_frames depths.Full h.units ++ shown)) last)))

@@ -2,9 +2,9 @@
 use Rattle.std.proofs.Common.{◌≡◌, ℕ, ◌*◌, ◌==◌, Bool, true, false, IsTrue, List, [], ◌∷◌, ◌++◌, length, inl, inr, Option, Some, None, Result, Ok, Err, refl}
 use Rattle.std.proofs.Common.{ap, sym, subst, if◌then◌else◌}
 use Rattle.std.specs.Option.{is_some}
-use Rattle.h264_verify.specs.Units.{terms_of}
+use Rattle.h264_verify.specs.Units.{extent_at}
 use Rattle.h264_base.specs.declared.mode.Target.{Target}
-use Rattle.h264_base.specs.declared.mode.Mode.TheVariants as modes
+use Rattle.h264_verify.specs.declared.state.Depth.TheVariants as depths
 use Rattle.h264_base.specs.declared.stop.Stop.{Stop}
 use Rattle.h264_base.specs.declared.stop.Stop.TheVariants.{No}
 use Rattle.h264_base.specs.Body.{Body}
@@ -26,8 +26,7 @@ use Rattle.h264_header.specs.declared.header.SliceUnit.{SliceUnit}
 use Rattle.h264_header.specs.Header.{header, named_sets}
 use Rattle.h264_header.specs.Layout.{layout_of, sets_of}
 use Rattle.h264_header.specs.Picture.{is_idr}
-use Rattle.h264_plane.specs.declared.frame.Frame.{Frame}
-use Rattle.h264_verify.specs.Telling.{Told, Said, Decodes, Shows, HasFrame, AreDecoded}
+use Rattle.h264_verify.specs.Telling.{Told, Said, Decodes, Shows, HasFrame, AreDecoded, Family}
 use Rattle.h264_verify.specs.Content.{Content}
 use Rattle.h264_verify.specs.Content as contents
 use Rattle.h264_verify.specs.Demands.{Demand, judged}
@@ -81,14 +80,14 @@ met-judged (d ∷ ds) h = by d.met h.0 (met-judged ds h.1)
     by false e k = cc
 
 -- the pictures that end among these have their frames
-abbrev pub HaveDecoded : (ℕ → Frame) → List Step → Type 0
+abbrev pub HaveDecoded : Family → List Step → Type 0
 HaveDecoded frames [] = Unit {0}
 HaveDecoded frames (Needs d ∷ steps) = HaveDecoded frames steps
 HaveDecoded frames (Tells (Said call) ∷ steps) = HaveDecoded frames steps
 HaveDecoded frames (Tells (Decodes pictures) ∷ steps) = HasFrame frames pictures × HaveDecoded frames steps
 HaveDecoded frames (Tells (Shows e) ∷ steps) = HaveDecoded frames steps
 
-pub have-decoded : (frames : ℕ → Frame) (steps : List Step) (calls : List Told) → AreMet steps calls → AreDecoded frames calls → HaveDecoded frames steps
+pub have-decoded : (frames : Family) (steps : List Step) (calls : List Told) → AreMet steps calls → AreDecoded frames calls → HaveDecoded frames steps
 have-decoded frames [] calls h d = tt
 have-decoded frames (Needs x ∷ steps) calls h d = have-decoded frames steps calls h.1 d
 have-decoded frames (Tells (Said call) ∷ steps) calls h d = have-decoded frames steps h.0 h.2 (subst (AreDecoded frames) h.1 d)
@@ -96,30 +95,30 @@ have-decoded frames (Tells (Decodes pictures) ∷ steps) calls h d = let k : Has
     AreDecoded frames h.0 = subst (AreDecoded frames) h.1 d in (k.0, have-decoded frames steps h.0 h.2 k.1)
 have-decoded frames (Tells (Shows e) ∷ steps) calls h d = have-decoded frames steps h.0 h.2 (subst (AreDecoded frames) h.1 d)
 
-pub have-first : (frames : ℕ → Frame) (xs ys : List Step) → HaveDecoded frames (xs ++ ys) → HaveDecoded frames xs
+pub have-first : (frames : Family) (xs ys : List Step) → HaveDecoded frames (xs ++ ys) → HaveDecoded frames xs
 have-first frames [] ys h = tt
 have-first frames (Needs d ∷ xs) ys h = have-first frames xs ys h
 have-first frames (Tells (Said call) ∷ xs) ys h = have-first frames xs ys h
 have-first frames (Tells (Decodes pictures) ∷ xs) ys h = (h.0, have-first frames xs ys h.1)
 have-first frames (Tells (Shows e) ∷ xs) ys h = have-first frames xs ys h
 
-pub have-last : (frames : ℕ → Frame) (xs ys : List Step) → HaveDecoded frames (xs ++ ys) → HaveDecoded frames ys
+pub have-last : (frames : Family) (xs ys : List Step) → HaveDecoded frames (xs ++ ys) → HaveDecoded frames ys
 have-last frames [] ys h = h
 have-last frames (Needs d ∷ xs) ys h = have-last frames xs ys h
 have-last frames (Tells (Said call) ∷ xs) ys h = have-last frames xs ys h
 have-last frames (Tells (Decodes pictures) ∷ xs) ys h = have-last frames xs ys h.1
 have-last frames (Tells (Shows e) ∷ xs) ys h = have-last frames xs ys h
 
-pub decoded-first : (frames : ℕ → Frame) (xs ys : List Told) → AreDecoded frames (xs ++ ys) → AreDecoded frames xs
+pub decoded-first : (frames : Family) (xs ys : List Told) → AreDecoded frames (xs ++ ys) → AreDecoded frames xs
 decoded-first frames [] ys h = tt
 decoded-first frames (Said call ∷ xs) ys h = decoded-first frames xs ys h
 decoded-first frames (Decodes pictures ∷ xs) ys h = (h.0, decoded-first frames xs ys h.1)
 decoded-first frames (Shows e ∷ xs) ys h = decoded-first frames xs ys h
 
-decoded-before : (frames : ℕ → Frame) (calls first later : List Told) → calls ≡ first ++ later → AreDecoded frames calls → AreDecoded frames first
+decoded-before : (frames : Family) (calls first later : List Told) → calls ≡ first ++ later → AreDecoded frames calls → AreDecoded frames first
 decoded-before frames calls first later e d = decoded-first frames first later (subst (AreDecoded frames) e d)
 
-decoded-after : (frames : ℕ → Frame) (calls first later : List Told) → calls ≡ first ++ later → AreDecoded frames calls → AreDecoded frames later
+decoded-after : (frames : Family) (calls first later : List Told) → calls ≡ first ++ later → AreDecoded frames calls → AreDecoded frames later
 decoded-after frames calls first later e d = decoded-last frames first later (subst (AreDecoded frames) e d)
 
 -- ---- a course that comes to its end
@@ -151,17 +150,17 @@ abbrev pub said_steps : NalUnit → List Step
 said_steps unit = Tells (Said (unit_call unit.from (header_of unit) (length unit.body))) ∷ []
 
 abbrev pub end_steps_at : History → NalUnit → List Step
-end_steps_at before unit = whole_at modes.Full (nal_unit_type (header_of unit)) before ++
-    (needs (closing_at (nal_unit_type (header_of unit)) before) ++ frames_at modes.Full (nal_unit_type (header_of unit)) before)
+end_steps_at before unit = whole_at depths.Full (nal_unit_type (header_of unit)) before ++
+    (needs (closing_at (nal_unit_type (header_of unit)) before) ++ frames_at depths.Full (nal_unit_type (header_of unit)) before)
 
 -- what follows its content
 abbrev after_content : History → NalUnit → Content → ℕ → Course
-after_content before unit found bit = Takes (content_steps modes.Full before unit found) (data_course modes.Full before unit found bit)
+after_content before unit found bit = Takes (content_steps depths.Full before unit found) (data_course depths.Full before unit found bit)
 
 -- before its content the picture that may go on has ended, if it ends there
 pub record HasEnded (before : History) (unit : NalUnit) (calls : List Told) : Type 0 where
   pub met : Met (end_steps_at before unit)
-  pub decoded : (frames : ℕ → Frame) → AreDecoded frames calls → HaveDecoded frames (end_steps_at before unit)
+  pub decoded : (frames : Family) → AreDecoded frames calls → HaveDecoded frames (end_steps_at before unit)
 
 -- What a unit after these with this content has met, in its parts.
 pub record HasMet (target : Target) (before : History) (unit : NalUnit) (c : Content) (calls : List Told) : Type 0 where
@@ -170,13 +169,13 @@ pub record HasMet (target : Target) (before : History) (unit : NalUnit) (c : Con
   pub found : Content
   pub bit : ℕ
   pub elements : List Element
-  pub says : Says (content (terms_of modes.Full target) (nal_unit_type (header_of unit)) before unit) (body_of unit) 0 elements (Ok (found, bit))
-  pub rules : Met (content_steps modes.Full before unit found)
-  pub frames : (frames : ℕ → Frame) → AreDecoded frames calls → HaveDecoded frames (content_steps modes.Full before unit found)
+  pub says : Says (content (extent_at depths.Full target) (nal_unit_type (header_of unit)) before unit) (body_of unit) 0 elements (Ok (found, bit))
+  pub rules : Met (content_steps depths.Full before unit found)
+  pub frames : (frames : Family) → AreDecoded frames calls → HaveDecoded frames (content_steps depths.Full before unit found)
   pub rest : List Told
-  pub following : Runs (body_of unit) (data_course modes.Full before unit found bit) rest (Ok c)
+  pub following : Runs (body_of unit) (data_course depths.Full before unit found bit) rest (Ok c)
 
-pub has-met : (target : Target) (before : History) (r : ReadUnit) (calls : List Told) → IsLegal (terms_of modes.Full target) before r calls →
+pub has-met : (target : Target) (before : History) (r : ReadUnit) (calls : List Told) → IsLegal (extent_at depths.Full target) before r calls →
     HasMet target before r.unit r.content calls
 has-met target before r calls l =
     let unit = r.unit in
@@ -184,12 +183,13 @@ has-met target before r calls l =
     let kind = nal_unit_type (header_of unit) in
     let c = r.content in
     let first = takes body (byte_steps unit)
-    (Takes (said_steps unit) (Takes (end_steps_at before unit) (content_course (terms_of modes.Full target) before unit))) calls c l.runs in
-    let second = takes body (said_steps unit) (Takes (end_steps_at before unit) (content_course (terms_of modes.Full target) before unit)) first.1 c first.3 in
-    let third = takes body (end_steps_at before unit) (content_course (terms_of modes.Full target) before unit) second.1 c second.3 in
-    let fourth = reads body (content (terms_of modes.Full target) kind before unit) 0 (after_content before unit) third.1 c third.3 in
-    let fifth = takes body (content_steps modes.Full before unit fourth.1) (data_course modes.Full before unit fourth.1 fourth.2) fourth.3 c fourth.5 in
-    let inner : (frames : ℕ → Frame) → AreDecoded frames calls → AreDecoded frames second.1 = λ frames d.
+    (Takes (said_steps unit) (Takes (end_steps_at before unit) (content_course (extent_at depths.Full target) before unit))) calls c l.runs in
+    let second = takes body (said_steps unit) (Takes (end_steps_at before unit) (content_course (extent_at depths.Full target) before unit)) first.1 c
+    first.3 in
+    let third = takes body (end_steps_at before unit) (content_course (extent_at depths.Full target) before unit) second.1 c second.3 in
+    let fourth = reads body (content (extent_at depths.Full target) kind before unit) 0 (after_content before unit) third.1 c third.3 in
+    let fifth = takes body (content_steps depths.Full before unit fourth.1) (data_course depths.Full before unit fourth.1 fourth.2) fourth.3 c fourth.5 in
+    let inner : (frames : Family) → AreDecoded frames calls → AreDecoded frames second.1 = λ frames d.
     decoded-after frames first.1 second.0 second.1 second.4 (decoded-after frames calls first.0 first.1 first.4 d) in
     record {
       header = met (byte_steps unit) first.0 first.2;
@@ -202,11 +202,11 @@ has-met target before r calls l =
       bit = fourth.2;
       elements = fourth.0;
       says = fourth.4;
-      rules = met (content_steps modes.Full before unit fourth.1) fifth.0 fifth.2;
+      rules = met (content_steps depths.Full before unit fourth.1) fifth.0 fifth.2;
       frames = λ frames d.
           let content_told = decoded-after frames second.1 third.0 third.1 third.4 (inner frames d) in
           let last = decoded-after frames third.1 (told body fourth.0) fourth.3 fourth.6 content_told in
-          have-decoded frames (content_steps modes.Full before unit fourth.1) fifth.0 fifth.2 (decoded-before frames fourth.3 fifth.0 fifth.1 fifth.4 last);
+          have-decoded frames (content_steps depths.Full before unit fourth.1) fifth.0 fifth.2 (decoded-before frames fourth.3 fifth.0 fifth.1 fifth.4 last);
       rest = fifth.1;
       following = fifth.3;
     }
@@ -252,13 +252,13 @@ IsContent before unit (contents.OfPps set) = Unit {0}
 IsContent before unit (contents.OfSlice h macroblocks) = IsHeader (sets_of (maps_of before)) (slice_unit unit) h
 IsContent before unit contents.Passed = Unit {0}
 
-other-gives : (kind : ℕ) (before : History) (unit : NalUnit) → Gives (other_content modes.Full kind before unit) (IsContent before unit)
+other-gives : (kind : ℕ) (before : History) (unit : NalUnit) → Gives (other_content depths.Full kind before unit) (IsContent before unit)
 other-gives kind before unit = gives-if (IsContent before unit) (is_slice kind) _ _
     (gives-bind _ (IsContent before unit) _ _ (header-gives (sets_of (maps_of before)) (slice_unit unit)) (λ h i. gives-done (IsContent before unit) _ i))
     (gives-done (IsContent before unit) _ tt)
 
 content-gives : (target : Target) (kind : ℕ) (before : History) (unit : NalUnit) →
-    Gives (content (terms_of modes.Full target) kind before unit) (IsContent before unit)
+    Gives (content (extent_at depths.Full target) kind before unit) (IsContent before unit)
 unfolding content
 content-gives target kind before unit =
     gives-if (IsContent before unit) (kind == 7) _ _

@@ -7,7 +7,7 @@ use Rattle.h264_plane.specs.declared.frame.Frame.{Frame}
 use Rattle.h264_picture.specs.declared.sequence.Sequence.{Sequence}
 use Rattle.h264_picture.specs.declared.work.Work.{Work}
 use Rattle.h264_picture.specs.Holds.{HoldsMacroblocks, HoldsIn, Serves, ServesIn, IsActive}
-use Rattle.h264_picture.specs.Places.{lent, first_place, KeepsFrames as KeepsLent}
+use Rattle.h264_picture.specs.Places.{lent, first_place, purpose_of, KeepsFrames as KeepsLent}
 use Rattle.h264_dpb.specs.declared.entry.Entry.{Entry}
 use Rattle.h264_dpb.specs.declared.entry.Placed.{Placed}
 use Rattle.h264_dpb.specs.declared.output.Output.{Output}
@@ -19,6 +19,8 @@ use Rattle.h264_dpb.proofs.Finding.{lent-at, early-at, taken-at}
 use Rattle.h264_verify.specs.declared.decoder.Decoder.{Decoder}
 use Rattle.h264_verify.specs.Keeping.{KeepsOutput, HasFormat, IsNear, IsReference, place_by}
 use Rattle.h264_dpb.proofs.Truths.{is-same, true-or, or-true}
+use Rattle.h264_verify.specs.Telling.{Family, IsFamilyFor}
+use Rattle.h264_verify.proofs.Purposes.{family-kept, lends-none, ready-unlent}
 
 -- ---- frames stay where they are lent
 
@@ -45,17 +47,33 @@ module _ (frames : ℕ → Frame) (old new : ℕ → Option Frame) where
   )
 
 -- the buffer is the same, and its frames are lent as they were
-pub output-kept : (frames : ℕ → Frame) (t : Turn) (next : ℕ) (old new : Decoder) → KeepsOutput frames t next old → new.output ≡ old.output →
-    KeepsPlaces (lent old.work) (lent new.work) old.output.buffer.entries → HasFormat new.format new.work → KeepsOutput frames t next new
-output-kept frames t next old new k same keeps format = record {
-  buffer = subst (λ (o : Output). KeepsBuffer t.buffer (length t.written) o) (sym same) k.buffer;
-  frames_are = subst (λ (o : Output). HasFrames frames (lent new.work) o) (sym same)
-      (record { each = each-lent frames (lent old.work) (lent new.work) old.output.buffer.entries keeps k.frames_are.each });
-  ordered = subst (λ (o : Output). IsOrdered next o) (sym same) k.ordered;
-  ready = subst (λ (o : Output). IsReady (lent new.work) o) (sym same)
-      (record { ready = ready-lent frames (lent old.work) (lent new.work) old.output.buffer.entries keeps k.frames_are.each k.ready.ready });
-  format = format;
-}
+frames-lent : (frames : Family) (old new : Work) (output : Output) → KeepsPlaces (lent old) (lent new) output.buffer.entries →
+    IfSome frames (λ f. HasFrames f (lent old) output) → IfSome frames (λ f. HasFrames f (lent new) output)
+frames-lent None old new output keeps h = tt
+frames-lent (Some f) old new output keeps h = record { each = each-lent f (lent old) (lent new) output.buffer.entries keeps h.each }
+
+-- each can be shown
+pub all-ready : (frames : Family) (old new : Work) (output : Output) → IsFamilyFor (purpose_of new) frames →
+    KeepsPlaces (lent old) (lent new) output.buffer.entries → IfSome frames (λ f. HasFrames f (lent old) output) → IsReady (lent old) output →
+    IsReady (lent new) output
+all-ready None old new output made keeps h r = ready-unlent (lent new) output (lends-none new made)
+all-ready (Some f) old new output made keeps h r =
+    record { ready = ready-lent f (lent old) (lent new) output.buffer.entries keeps h.each r.ready }
+
+pub output-kept : (frames : Family) (t : Turn) (next : ℕ) (old new : Decoder) → KeepsOutput frames t next old → new.output ≡ old.output →
+    purpose_of new.work ≡ purpose_of old.work → KeepsPlaces (lent old.work) (lent new.work) old.output.buffer.entries → HasFormat new.format new.work →
+    KeepsOutput frames t next new
+output-kept frames t next old new k same purpose keeps format =
+    let made = family-kept frames old.work new.work purpose k.made in
+    record {
+      buffer = subst (λ (o : Output). KeepsBuffer t.buffer (length t.written) o) (sym same) k.buffer;
+      made = made;
+      frames_are = subst (λ (o : Output). IfSome frames (λ f. HasFrames f (lent new.work) o)) (sym same)
+          (frames-lent frames old.work new.work old.output keeps k.frames_are);
+      ordered = subst (λ (o : Output). IsOrdered next o) (sym same) k.ordered;
+      ready = subst (λ (o : Output). IsReady (lent new.work) o) (sym same) (all-ready frames old.work new.work old.output made keeps k.frames_are k.ready);
+      format = format;
+    }
 
 -- a work that holds a picture's macroblocks has room for them
 serves-active : (width size : ℕ) (ms : List CodedMacroblock) (o : Option Sequence) → IsActive (HoldsIn width size ms) o → IsActive (ServesIn width size) o

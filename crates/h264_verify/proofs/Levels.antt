@@ -8,7 +8,7 @@ use Rattle.std.specs.Option.{is_some, option_map, option_map_or}
 use Rattle.std.proofs.lemmas.Nat.{le-div, mul-le}
 use Rattle.std.proofs.lemmas.Bool.{leb-true}
 use Rattle.h264_base.specs.declared.mode.Target.{Target}
-use Rattle.h264_base.specs.declared.mode.Mode.TheVariants as modes
+use Rattle.h264_verify.specs.declared.state.Depth.TheVariants as depths
 use Rattle.h264_base.specs.Grammar.{Done, ◌>>=◌}
 use Rattle.h264_base.proofs.Chains.{map-some, then-some}
 use Rattle.h264_bits.specs.Forms.{natural}
@@ -39,7 +39,7 @@ use Rattle.h264_verify.specs.Keeping.{ended_pictures}
 use Rattle.h264_verify.specs.Pictures.{CodedSlice, CodedPicture, with_sets, slice_in, goes_on, joined_to, joined_by, begins_after, open_of, runs_of}
 use Rattle.h264_verify.specs.Steps.{Runs}
 use Rattle.h264_units.specs.UnitHeader.{header_of, nal_unit_type}
-use Rattle.h264_verify.specs.Units.{terms_of, other_content}
+use Rattle.h264_verify.specs.Units.{extent_at, other_content}
 use Rattle.h264_units.specs.UnitHeader.{is_slice}
 use Rattle.h264_verify.specs.Order.{content, data_course}
 use Rattle.h264_verify.specs.Verdict.{IsLegal, AreLegal}
@@ -153,24 +153,24 @@ IsRoomy (contents.OfPps set) = Unit {0}
 IsRoomy (contents.OfSlice h macroblocks) = Unit {0}
 IsRoomy contents.Passed = Unit {0}
 
-other-gives : (kind : ℕ) (before : History) (unit : NalUnit) → Gives (other_content modes.Full kind before unit) IsRoomy
+other-gives : (kind : ℕ) (before : History) (unit : NalUnit) → Gives (other_content depths.Full kind before unit) IsRoomy
 other-gives kind before unit = gives-if IsRoomy (is_slice kind) _ _ (gives-bind _ IsRoomy _ _ (gives-any _) (λ h i. gives-done IsRoomy _ tt))
     (gives-done IsRoomy _ tt)
 
-content-gives : (target : Target) (kind : ℕ) (before : History) (unit : NalUnit) → Gives (content (terms_of modes.Full target) kind before unit) IsRoomy
+content-gives : (target : Target) (kind : ℕ) (before : History) (unit : NalUnit) → Gives (content (extent_at depths.Full target) kind before unit) IsRoomy
 unfolding content
 content-gives target kind before unit =
     gives-if IsRoomy (kind == 7) _ _ (gives-bind HasRoom IsRoomy _ _ (sps-gives target) (λ set h. gives-done IsRoomy _ h))
     (gives-if IsRoomy (kind == 8) _ _ (gives-bind _ IsRoomy _ _ (gives-any (pps target)) (λ set a. gives-done IsRoomy _ tt)) (other-gives kind before unit))
 
-unit-room : (target : Target) (before : History) (r : ReadUnit) (calls : List Told) → IsLegal (terms_of modes.Full target) before r calls → IsRoomy r.content
+unit-room : (target : Target) (before : History) (r : ReadUnit) (calls : List Told) → IsLegal (extent_at depths.Full target) before r calls → IsRoomy r.content
 unit-room target before r calls l =
     let m = has-met target before r calls l in
     by m.found m.bit m.rest (given IsRoomy _ (body_of r.unit) 0 m.elements m.found m.bit
     (content-gives target (nal_unit_type (header_of r.unit)) before r.unit) m.says) m.following
   where
     by : (found : Content) (bit : ℕ) (rest : List Told) → IsRoomy found →
-        Runs (body_of r.unit) (data_course modes.Full before r.unit found bit) rest (Ok r.content) → IsRoomy r.content
+        Runs (body_of r.unit) (data_course depths.Full before r.unit found bit) rest (Ok r.content) → IsRoomy r.content
     by (contents.OfSps set) bit rest h d = subst IsRoomy (sym (rest-ends (body_of r.unit) (contents.OfSps set) r.content rest d)) h
     by (contents.OfPps set) bit rest h d = subst IsRoomy (sym (rest-ends (body_of r.unit) (contents.OfPps set) r.content rest d)) tt
     by (contents.OfSlice h ms) bit rest k d =
@@ -231,7 +231,7 @@ record Rooms (before : History) : Type 0 where
   pub sets : HaveRoom (maps_of before).sps
   pub pictures : EachRoom (runs_of before)
 
-rooms : (target : Target) (before : History) (calls : List Told) → AreLegal (terms_of modes.Full target) before calls → Rooms before
+rooms : (target : Target) (before : History) (calls : List Told) → AreLegal (extent_at depths.Full target) before calls → Rooms before
 rooms target [] calls l = record { sets = none-each HasRoom 32; pictures = tt }
 rooms target (r ∷ before) calls l =
     let s = rooms target before l.0 l.2 in
@@ -241,7 +241,7 @@ rooms target (r ∷ before) calls l =
     }
 
 -- of units that are legal
-pub legal-room : (target : Target) (before : History) (calls : List Told) → AreLegal (terms_of modes.Full target) before calls → EachRoom (runs_of before)
+pub legal-room : (target : Target) (before : History) (calls : List Told) → AreLegal (extent_at depths.Full target) before calls → EachRoom (runs_of before)
 legal-room target before calls l = (rooms target before calls l).pictures
 
 -- those that have ended

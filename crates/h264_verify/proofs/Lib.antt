@@ -9,6 +9,7 @@ pub mod Tellings
 pub mod Saying
 pub mod Agreeing
 pub mod Showing
+pub mod Purposes
 pub mod Playing
 pub mod Stepping
 pub mod Slicing
@@ -58,6 +59,7 @@ pub mod Predicting
 pub mod Levels
 pub mod Bounds
 pub mod Family
+pub mod FramesOut
 pub mod Output
 pub mod Coursing
 pub mod Stopping

@@ -1,8 +1,8 @@
 -- What is true of a decoder where frames are made.
 use Rattle.std.proofs.Common.{◌≡◌, ℕ, ◌≤◌, Bool, true, false, List, [], Option, Some, None, Ok, refl, sym, ◌∙◌, arith, subst, if◌then◌else◌}
 use Rattle.std.specs.Prelude.{IfSome}
-use Rattle.h264_base.specs.declared.mode.Mode.{Mode}
-use Rattle.h264_base.specs.declared.mode.Mode.TheVariants as modes
+use Rattle.h264_verify.specs.declared.state.Depth.{Depth}
+use Rattle.h264_verify.specs.declared.state.Depth.TheVariants as depths
 use Rattle.h264_header.specs.declared.header.Header.{Header}
 use Rattle.h264_dpb.specs.declared.entry.Entry.{Entry}
 use Rattle.h264_dpb.specs.Turns.{Shown}
@@ -19,73 +19,73 @@ use Rattle.h264_verify.specs.declared.decoder.Format.{Format}
 use Rattle.h264_verify.specs.Keeping.{WhereMade, HasPlaces, IsMadeAs, format_in}
 
 -- in this mode no frames are made
-abbrev pub MakesNone : Mode → Type 0
-MakesNone modes.Units = Unit {0}
-MakesNone modes.Headers = Unit {0}
-MakesNone modes.Full = ⊥
+abbrev pub MakesNone : Depth → Type 0
+MakesNone depths.Units = Unit {0}
+MakesNone depths.Headers = Unit {0}
+MakesNone depths.Full = ⊥
 
 module _ (P : Decoder → Type 0) where
   -- what follows from it is true there too
-  pub made-then : (Q : Decoder → Type 0) (mode : Mode) (o : Option Decoder) → ((d : Decoder) → P d → Q d) → WhereMade mode P o → WhereMade mode Q o
+  pub made-then : (Q : Decoder → Type 0) (depth : Depth) (o : Option Decoder) → ((d : Decoder) → P d → Q d) → WhereMade depth P o → WhereMade depth Q o
   unfolding WhereMade
-  made-then Q modes.Units None f h = tt
-  made-then Q modes.Units (Some d) f h = absurd h
-  made-then Q modes.Headers None f h = tt
-  made-then Q modes.Headers (Some d) f h = absurd h
-  made-then Q modes.Full None f h = absurd h
-  made-then Q modes.Full (Some d) f h = f d h
+  made-then Q depths.Units None f h = tt
+  made-then Q depths.Units (Some d) f h = absurd h
+  made-then Q depths.Headers None f h = tt
+  made-then Q depths.Headers (Some d) f h = absurd h
+  made-then Q depths.Full None f h = absurd h
+  made-then Q depths.Full (Some d) f h = f d h
 
   -- with what is true wherever there is a decoder
-  pub made-with : (Q R : Decoder → Type 0) (mode : Mode) (o : Option Decoder) → ((d : Decoder) → P d → Q d → R d) → WhereMade mode P o → IfSome o Q →
-      WhereMade mode R o
+  pub made-with : (Q R : Decoder → Type 0) (depth : Depth) (o : Option Decoder) → ((d : Decoder) → P d → Q d → R d) → WhereMade depth P o → IfSome o Q →
+      WhereMade depth R o
   unfolding WhereMade
-  made-with Q R modes.Units None f h q = tt
-  made-with Q R modes.Units (Some d) f h q = absurd h
-  made-with Q R modes.Headers None f h q = tt
-  made-with Q R modes.Headers (Some d) f h q = absurd h
-  made-with Q R modes.Full None f h q = absurd h
-  made-with Q R modes.Full (Some d) f h q = f d h q
+  made-with Q R depths.Units None f h q = tt
+  made-with Q R depths.Units (Some d) f h q = absurd h
+  made-with Q R depths.Headers None f h q = tt
+  made-with Q R depths.Headers (Some d) f h q = absurd h
+  made-with Q R depths.Full None f h q = absurd h
+  made-with Q R depths.Full (Some d) f h q = f d h q
 
-  pub made-some : (mode : Mode) (o : Option Decoder) → WhereMade mode P o → IfSome o P
+  pub made-some : (depth : Depth) (o : Option Decoder) → WhereMade depth P o → IfSome o P
   unfolding WhereMade
-  made-some mode None h = tt
-  made-some modes.Units (Some d) h = absurd h
-  made-some modes.Headers (Some d) h = absurd h
-  made-some modes.Full (Some d) h = h
+  made-some depth None h = tt
+  made-some depths.Units (Some d) h = absurd h
+  made-some depths.Headers (Some d) h = absurd h
+  made-some depths.Full (Some d) h = h
 
   -- there is a decoder: frames are made
-  pub some-made : (mode : Mode) (o : Option Decoder) (d : Decoder) → o ≡ Some d → WhereMade mode P o → (mode ≡ modes.Full) × P d
+  pub some-made : (depth : Depth) (o : Option Decoder) (d : Decoder) → o ≡ Some d → WhereMade depth P o → (depth ≡ depths.Full) × P d
   unfolding WhereMade
-  some-made modes.Units o d e h = absurd (subst (WhereMade modes.Units P) e h)
-  some-made modes.Headers o d e h = absurd (subst (WhereMade modes.Headers P) e h)
-  some-made modes.Full o d e h = (refl, subst (WhereMade modes.Full P) e h)
+  some-made depths.Units o d e h = absurd (subst (WhereMade depths.Units P) e h)
+  some-made depths.Headers o d e h = absurd (subst (WhereMade depths.Headers P) e h)
+  some-made depths.Full o d e h = (refl, subst (WhereMade depths.Full P) e h)
 
   -- there is none: no frames are made
-  pub none-made : (mode : Mode) (o : Option Decoder) → o ≡ None → WhereMade mode P o → MakesNone mode
+  pub none-made : (depth : Depth) (o : Option Decoder) → o ≡ None → WhereMade depth P o → MakesNone depth
   unfolding WhereMade
-  none-made modes.Units o e h = tt
-  none-made modes.Headers o e h = tt
-  none-made modes.Full o e h = absurd (subst (WhereMade modes.Full P) e h)
+  none-made depths.Units o e h = tt
+  none-made depths.Headers o e h = tt
+  none-made depths.Full o e h = absurd (subst (WhereMade depths.Full P) e h)
 
-  pub quiet-made : (mode : Mode) (o : Option Decoder) → o ≡ None → MakesNone mode → WhereMade mode P o
+  pub quiet-made : (depth : Depth) (o : Option Decoder) → o ≡ None → MakesNone depth → WhereMade depth P o
   unfolding WhereMade
-  quiet-made modes.Units o e q = subst (WhereMade modes.Units P) (sym e) tt
-  quiet-made modes.Headers o e q = subst (WhereMade modes.Headers P) (sym e) tt
-  quiet-made modes.Full o e q = absurd q
+  quiet-made depths.Units o e q = subst (WhereMade depths.Units P) (sym e) tt
+  quiet-made depths.Headers o e q = subst (WhereMade depths.Headers P) (sym e) tt
+  quiet-made depths.Full o e q = absurd q
 
-  pub full-made : (mode : Mode) (d : Decoder) → mode ≡ modes.Full → P d → WhereMade mode P (Some d)
+  pub full-made : (depth : Depth) (d : Decoder) → depth ≡ depths.Full → P d → WhereMade depth P (Some d)
   unfolding WhereMade
-  full-made modes.Units d e h = cc
-  full-made modes.Headers d e h = cc
-  full-made modes.Full d e h = h
+  full-made depths.Units d e h = cc
+  full-made depths.Headers d e h = cc
+  full-made depths.Full d e h = h
 
 -- no decoder is in the other modes
-pub header-decoder : (P Q : Decoder → Type 0) (d : Option Decoder) → WhereMade modes.Headers P d → WhereMade modes.Headers Q d
+pub header-decoder : (P Q : Decoder → Type 0) (d : Option Decoder) → WhereMade depths.Headers P d → WhereMade depths.Headers Q d
 unfolding WhereMade
 header-decoder P Q None h = tt
 header-decoder P Q (Some d) h = absurd h
 
-pub unit-made : (P Q : Decoder → Type 0) (d : Option Decoder) → WhereMade modes.Units P d → WhereMade modes.Units Q d
+pub unit-made : (P Q : Decoder → Type 0) (d : Option Decoder) → WhereMade depths.Units P d → WhereMade depths.Units Q d
 unfolding WhereMade
 unit-made P Q None h = tt
 unit-made P Q (Some d) h = absurd h
@@ -96,36 +96,36 @@ pub places-down : (n k : ℕ) (o : Option Decoder) → k ≤ n → HasPlaces n o
 places-down n k None l h = tt
 places-down n k (Some d) l h = omega (arith, l, h)
 
-pub made-same : (P Q : Decoder → Type 0) (mode : Mode) (f : Format) (old new : Option Decoder) → WhereMade mode P old → WhereMade mode Q new →
+pub made-same : (P Q : Decoder → Type 0) (depth : Depth) (f : Format) (old new : Option Decoder) → WhereMade depth P old → WhereMade depth Q new →
     format_in new ≡ format_in old → IsMadeAs f old → IsMadeAs f new
 unfolding WhereMade
-made-same P Q mode f old None p q e h = tt
-made-same P Q modes.Units f old (Some d) p q e h = absurd q
-made-same P Q modes.Headers f old (Some d) p q e h = absurd q
-made-same P Q modes.Full f None (Some d) p q e h = absurd p
-made-same P Q modes.Full f (Some x) (Some d) p q e h = e ∙ h
+made-same P Q depth f old None p q e h = tt
+made-same P Q depths.Units f old (Some d) p q e h = absurd q
+made-same P Q depths.Headers f old (Some d) p q e h = absurd q
+made-same P Q depths.Full f None (Some d) p q e h = absurd p
+made-same P Q depths.Full f (Some x) (Some d) p q e h = e ∙ h
 
 -- ---- where no frames are made, nothing is told of them
 
-pub quiet-told : (mode : Mode) (written : List (Entry Shown)) → MakesNone mode → told_frames mode written ≡ []
-quiet-told modes.Units written q = refl
-quiet-told modes.Headers written q = refl
-quiet-told modes.Full written q = absurd q
+pub quiet-told : (depth : Depth) (written : List (Entry Shown)) → MakesNone depth → told_frames depth written ≡ []
+quiet-told depths.Units written q = refl
+quiet-told depths.Headers written q = refl
+quiet-told depths.Full written q = absurd q
 
-pub quiet-written : (mode : Mode) (pictures : List CodedPicture) → MakesNone mode → 0 ≡ frames_written mode pictures
-quiet-written modes.Units pictures q = refl
-quiet-written modes.Headers pictures q = refl
-quiet-written modes.Full pictures q = absurd q
+pub quiet-written : (depth : Depth) (pictures : List CodedPicture) → MakesNone depth → 0 ≡ frames_written depth pictures
+quiet-written depths.Units pictures q = refl
+quiet-written depths.Headers pictures q = refl
+quiet-written depths.Full pictures q = absurd q
 
-pub quiet-whole : (mode : Mode) (ends : Bool) (before : History) → MakesNone mode →
-    answers {A = Unit {0}} (Ok tt) ≡ steps_outcome (if ends then whole_steps mode before else [])
-quiet-whole modes.Units true before q = refl
-quiet-whole modes.Units false before q = refl
-quiet-whole modes.Headers true before q = refl
-quiet-whole modes.Headers false before q = refl
-quiet-whole modes.Full ends before q = absurd q
+pub quiet-whole : (depth : Depth) (ends : Bool) (before : History) → MakesNone depth →
+    answers {A = Unit {0}} (Ok tt) ≡ steps_outcome (if ends then whole_steps depth before else [])
+quiet-whole depths.Units true before q = refl
+quiet-whole depths.Units false before q = refl
+quiet-whole depths.Headers true before q = refl
+quiet-whole depths.Headers false before q = refl
+quiet-whole depths.Full ends before q = absurd q
 
-pub quiet-first : (mode : Mode) (coded : ℕ) (h : Header) → MakesNone mode → Ok tt ≡ judged (first_mb_demands mode coded h)
-quiet-first modes.Units coded h q = refl
-quiet-first modes.Headers coded h q = refl
-quiet-first modes.Full coded h q = absurd q
+pub quiet-first : (depth : Depth) (coded : ℕ) (h : Header) → MakesNone depth → Ok tt ≡ judged (first_mb_demands depth coded h)
+quiet-first depths.Units coded h q = refl
+quiet-first depths.Headers coded h q = refl
+quiet-first depths.Full coded h q = absurd q

@@ -26,11 +26,15 @@ use Rattle.h264_picture.specs.Context.{slice_context}
 use Rattle.h264_picture.specs.Filter.{slice_filter, filter_in}
 use Rattle.h264_picture.specs.Holds.{HoldsMacroblocks, IsActive}
 use Rattle.h264_picture.specs.Making.{Making, HoldsSamples, MakesSliceWith, IsSliceOf}
-use Rattle.h264_picture.specs.Places.{first_place, places, is_active_place, HasBegun, HasSize, IsReleased, KeepsFrames as KeepsLent}
+use Rattle.h264_picture.specs.Places.{lent, first_place, places, is_active_place, HasBegun}
+use Rattle.h264_picture.specs.Places.{HasSize, IsReleased, KeepsFrames as KeepsLent, MakesFrames, purpose_of}
 use Rattle.h264_dpb.specs.Turns.{Turn}
 use Rattle.h264_dpb.specs.declared.output.Output.{Output}
-use Rattle.h264_dpb.specs.Kept.{is_occupied}
-use Rattle.h264_verify.specs.Telling.{frame_span}
+use Rattle.h264_dpb.specs.Kept.{is_occupied, HasFrames}
+use Rattle.h264_picture.proofs.Canvases.{another-place}
+use Rattle.h264_picture.specs.Places.{HasBegunIn}
+use Rattle.h264_verify.proofs.Purposes.{some-of, some-made, some-map, some-both}
+use Rattle.h264_verify.specs.Telling.{frame_span, Family}
 use Rattle.h264_verify.specs.declared.decoder.Decoder.{Decoder}
 use Rattle.h264_verify.specs.declared.decoder.Format.{Format}
 use Rattle.h264_verify.specs.Pictures.{CodedSlice, CodedPicture, picture_size}
@@ -38,10 +42,12 @@ use Rattle.h264_verify.specs.Lists.{list_in, context_in}
 use Rattle.h264_verify.specs.Decoding.{EachSlice, number_of, parameters_of}
 use Rattle.h264_verify.specs.StepOutcome.{structure_from}
 use Rattle.h264_verify.specs.Framing.{ReadsSlice}
-use Rattle.h264_verify.specs.Keeping.{KeepsOutput, HasFormat, IsRoomFor, format_of, IsSized, IsNear, HasReferences, AreFalling, IsMaking, HoldsBegun, place_by}
+use Rattle.h264_verify.specs.Keeping.{KeepsOutput, HasFormat, IsRoomFor, format_of, IsSized, IsNear}
+use Rattle.h264_verify.specs.Keeping.{HasReferences, AreFalling, IsMaking, HoldsBegun, place_by, HoldsFrames, IsPlaced}
 use Rattle.h264_verify.proofs.Saying.{elements-tell, elements-front}
 use Rattle.h264_verify.proofs.Agreeing.{each-slice}
 use Rattle.h264_verify.proofs.Lending.{output-kept, holds-serves, near-is, near-reference, near-taken, same-place, reference-kept}
+use Rattle.std.specs.Prelude.{IfSome}
 
 -- ---- what goes with a slice
 
@@ -71,12 +77,12 @@ unfolding slice_context
 context-intra s list = refl
 
 -- A slice of the picture that is decoded, with the places of its reference pictures.
-module _ (frames : ℕ → Frame) (p : CodedPicture) (ps : List CodedPicture) (slices : List CodedSlice) (s : CodedSlice) (ms : List CodedMacroblock) (t : Turn)
+module _ (frames : Family) (p : CodedPicture) (ps : List CodedPicture) (slices : List CodedSlice) (s : CodedSlice) (ms : List CodedMacroblock) (t : Turn)
     (old new : Decoder) (slice : SliceContext) (samples : SliceSamples)
     (is : slice ≡ context_in (p ∷ ps) s) (filter : samples.filter ≡ slice_filter s.pps s.header)
     (weights : weights_by samples.weights ≡ slice_weights s.header) (o : KeepsOutput frames t (length ps) old) (h : HoldsBegun frames p ps slices ms old)
     (number : number_of s ≡ length ms) (set : s.pps ≡ p.first.pps)
-    (near : (k n : ℕ) → k < 16 → get_or slice.references k None ≡ Some n → IsNear old n (get_or samples.places k 0)) where
+    (near : MakesFrames old.work → (k n : ℕ) → k < 16 → get_or slice.references k None ≡ Some n → IsNear old n (get_or samples.places k 0)) where
   pub number-is : slice.number ≡ number_of s
   number-is = ap (λ (c : SliceContext). c.number) is ∙ context-number s.pps s (list_in (p ∷ ps) s)
 
@@ -87,11 +93,11 @@ module _ (frames : ℕ → Frame) (p : CodedPicture) (ps : List CodedPicture) (s
   filter-chroma = ap (λ (f : _). f.chroma_qp_index_offset) filter ∙ offset-of s.pps s.header ∙ sym chroma-is
 
   -- what its samples depend on is that of the slices with it
-  pub is-slice : (making : Making) → EachSlice (λ s. making.slices (number_of s) ≡ parameters_of s) (s ∷ slices) →
+  pub is-slice : MakesFrames old.work → (making : Making) → EachSlice (λ s. making.slices (number_of s) ≡ parameters_of s) (s ∷ slices) →
       ((n : ℕ) → (making.slices n).filter.chroma_qp_index_offset ≡ p.first.pps.chroma_qp_index_offset) → ((n : ℕ) → making.place n ≡ place_by old n) →
       IsSliceOf making slice samples old.work
-  is-slice making params offsets places-are =
-      active-and (λ (q : Sequence). (q.frames.begun ≡ true) × (old.work.base + q.frames.place ≡ old.place))
+  is-slice made making params offsets places-are =
+      active-and (λ (q : Sequence). HasBegunIn old.work.base old.place q.canvas)
       (MakesSliceWith making slice samples old.work.base) old.work.active h.begun (λ q a b. record {
         parameters = ap making.slices number-is ∙ params.0 ∙
             ap (λ (c : Bool). record { constrained_intra = c; filter = slice_filter s.pps s.header; weights = slice_weights s.header })
@@ -101,16 +107,17 @@ module _ (frames : ℕ → Frame) (p : CodedPicture) (ps : List CodedPicture) (s
         offset = filter-chroma;
         offsets = λ n. offsets n ∙ ap (λ (x : Pps). x.chroma_qp_index_offset) (sym set) ∙ sym chroma-is ∙ sym filter-chroma;
         placed = λ k n small e.
-            let r = near k n small e in
+            let r = near made k n small e in
             let at : get_or samples.places k 0 ≡ old.work.base + making.place n = near-is old n (get_or samples.places k 0) r ∙
             ap (λ (x : ℕ). old.work.base + x) (sym (places-are n)) in
-            let count : places old.work ≡ length q.frames.pool = ap (λ (x : Option Sequence). option_map_or (λ (y : Sequence). length y.frames.pool) x 0) a in
+            let count : places old.work ≡ q.places = ap (λ (x : Option Sequence). option_map_or (λ (y : Sequence). y.places) x 0) a in
             let to = r.to in
             let taken = near-taken old n (get_or samples.places k 0) r in
-            let apart : making.place n ≢ q.frames.place = λ f.
-            let same : get_or samples.places k 0 ≡ old.place = at ∙ ap (λ (x : ℕ). old.work.base + x) f ∙ b.1 in
-            let g : true ≡ false = sym taken ∙ ap (λ (x : ℕ). is_occupied x old.output) same ∙ h.free in cc in
-            (at, record { inside = omega (arith, at, count, to); other = apart });
+            let apart : old.work.base + making.place n ≢ old.place = λ f.
+            let same : get_or samples.places k 0 ≡ old.place = at ∙ f in
+            let g : true ≡ false = sym taken ∙ ap (λ (x : ℕ). is_occupied x old.output) same ∙
+            (some-of (IsPlaced old) frames old.work o.made made h.placed).free in cc in
+            (at, another-place old.work.base old.place (making.place n) q b (omega (arith, at, count, to)) apart);
       })
 
   -- ---- and with it the work holds the macroblocks with their samples
@@ -118,28 +125,51 @@ module _ (frames : ℕ → Frame) (p : CodedPicture) (ps : List CodedPicture) (s
   module _ (output : new.output ≡ old.output) (format : new.format ≡ old.format) (place : new.place ≡ old.place)
       (first : first_place new.work ≡ first_place old.work) (places-are : places new.work ≡ places old.work) (kept : KeepsLent old.work new.work)
       (begun : HasBegun old.place new.work) (released : IsReleased old.work → IsReleased new.work)
-      (size : (width height : ℕ) → HasSize width height old.work → HasSize width height new.work) where
+      (size : (width height : ℕ) → HasSize width height old.work → HasSize width height new.work) (purpose : purpose_of new.work ≡ purpose_of old.work) where
     pub making-before : (making : Making) → IsMaking p.first.pps.chroma_qp_index_offset (s ∷ slices) new making →
         IsMaking p.first.pps.chroma_qp_index_offset slices old making
     making-before making m = record { parameters = m.parameters.1; offsets = m.offsets; places = λ n. m.places n ∙ same-place old new n output first }
 
-    referred : HasReferences frames (p ∷ ps) (length ps) new s
-    referred = record {
-      each = λ k n small e. reference-kept frames (length ps) old new n output first kept
-          (near-reference frames (length ps) old n _ o.frames_are o.ordered (near k n small (ap (λ (c : SliceContext). get_or c.references k None) is ∙ e)));
+    referred : (f : ℕ → Frame) → MakesFrames old.work → HasFrames f (lent old.work) old.output → HasReferences f (p ∷ ps) (length ps) new s
+    referred f m x = record {
+      each = λ k n small e. reference-kept f (length ps) old new n output first kept
+          (near-reference f (length ps) old n _ x o.ordered (near m k n small (ap (λ (c : SliceContext). get_or c.references k None) is ∙ e)));
     }
 
+    -- the samples of the slices so far
+    abbrev pub MakesSamples : List CodedMacroblock → Type 0
+    MakesSamples after = (making : Making) → MakesFrames old.work × IsMaking p.first.pps.chroma_qp_index_offset (s ∷ slices) new making →
+        HoldsSamples p.first.sps.frame_size.width (picture_size p.first.sps) making after new.work
+
+    frames-on : (after : List CodedMacroblock) → MakesSamples after → IfSome frames (λ f. HoldsFrames f p ps (s ∷ slices) after new)
+    frames-on after made =
+        some-both (λ f. MakesFrames old.work × HasFrames f (lent old.work) old.output) (λ f. HoldsFrames f p ps slices ms old) _ frames
+        (λ f x y. record {
+          references = (
+            referred f x.0 x.1,
+            each-slice (λ r e. record {
+              each =
+                  λ k n small g. reference-kept f (length ps) old new n output first kept (e.each k n small g);
+            }) slices y.references,
+          );
+          samples = λ making m. made making (x.0, m);
+        })
+        (some-both (λ f. MakesFrames old.work) (λ f. HasFrames f (lent old.work) old.output) _ frames (λ f x y. (x, y)) (some-made frames old.work o.made)
+        o.frames_are)
+        h.so_far.frames_are
+
     pub begun-on : (after : List CodedMacroblock) → length ms < length after →
-        HoldsMacroblocks p.first.sps.frame_size.width (picture_size p.first.sps) after new.work →
-        ((making : Making) → IsMaking p.first.pps.chroma_qp_index_offset (s ∷ slices) new making →
-        HoldsSamples p.first.sps.frame_size.width (picture_size p.first.sps) making after new.work) → HoldsBegun frames p ps (s ∷ slices) after new ×
+        HoldsMacroblocks p.first.sps.frame_size.width (picture_size p.first.sps) after new.work → MakesSamples after →
+        HoldsBegun frames p ps (s ∷ slices) after new ×
         KeepsOutput frames t (length ps) new
     begun-on after longer holds made = (
       record {
         begun = subst (λ (x : ℕ). HasBegun x new.work) (sym place) begun;
-        active = subst (λ (x : ℕ). is_active_place (first_place new.work) x ≡ true) (sym place)
-            (subst (λ (b : ℕ). is_active_place b old.place ≡ true) (sym first) h.active);
-        free = subst (λ (x : Output). is_occupied new.place x ≡ false) (sym output) (subst (λ (x : ℕ). is_occupied x old.output ≡ false) (sym place) h.free);
+        placed = some-map (λ f. IsPlaced old) (λ f. IsPlaced new) frames (λ f x. record {
+          active = subst (λ (y : ℕ). is_active_place (first_place new.work) y ≡ true) (sym place)
+              (subst (λ (b : ℕ). is_active_place b old.place ≡ true) (sym first) x.active);
+          free = subst (λ (y : Output). is_occupied new.place y ≡ false) (sym output) (subst (λ (y : ℕ). is_occupied y old.output ≡ false) (sym place) x.free);
+        }) h.placed;
         format = format ∙ h.format;
         settled = λ not. record {
           released = released (h.settled not).released;
@@ -150,17 +180,10 @@ module _ (frames : ℕ → Frame) (p : CodedPicture) (ps : List CodedPicture) (s
           holds = holds;
           numbers = (omega (arith, number, longer), subst (λ (n : ℕ). AreFalling n slices) (sym number) h.so_far.numbers);
           sets = (set, h.so_far.sets);
-          references = (
-            referred,
-            each-slice (λ r e. record {
-              each =
-                  λ k n small f. reference-kept frames (length ps) old new n output first kept (e.each k n small f);
-            }) slices h.so_far.references,
-          );
-          samples = made;
+          frames_are = frames-on after made;
         };
       },
-      output-kept frames t (length ps) old new o output (λ q a n. kept q n) fits,
+      output-kept frames t (length ps) old new o output purpose (λ q a n. kept q n) fits,
     )
       where
         fits : HasFormat new.format new.work
@@ -180,7 +203,7 @@ same-answer : (a b : List CodedMacroblock) (i j : ℕ) (r : Result (List CodedMa
 same-answer a b i j r e f = let k : ◌≡◌ {A = Result (List CodedMacroblock × ℕ) Stop} (Ok (a, i)) (Ok (b, j)) = sym e ∙ f in
     let p : ◌≡◌ {A = List CodedMacroblock × ℕ} (a, i) (b, j) = cc in ap (λ (x : List CodedMacroblock × ℕ). x.0) p
 
-module _ {S X : Type 0} (frames : ℕ → Frame) (took : S → List Call → Type 0) (failures : S → ℕ) (g : Grammar (List CodedMacroblock)) (body : Body)
+module _ {S X : Type 0} (frames : Family) (took : S → List Call → Type 0) (failures : S → ℕ) (g : Grammar (List CodedMacroblock)) (body : Body)
     (i j width size : ℕ) (work : Work) (s s' : S)
     (P : Making → Type 0) (K : List CodedMacroblock → Type 0)
     (goes : (after : List CodedMacroblock) → (run g body i).answer ≡ Ok (after, j) → HoldsMacroblocks width size after work →
@@ -219,7 +242,7 @@ module _ {S X : Type 0} (frames : ℕ → Frame) (took : S → List Call → Typ
     keeps = tt;
   }
 
-pub reads-slice : {S X : Type 0} (frames : ℕ → Frame) (took : S → List Call → Type 0) (failures : S → ℕ) (g : Grammar (List CodedMacroblock)) (width size : ℕ)
+pub reads-slice : {S X : Type 0} (frames : Family) (took : S → List Call → Type 0) (failures : S → ℕ) (g : Grammar (List CodedMacroblock)) (width size : ℕ)
     (work : Work) (old new : Reader) (s s' : S) (r : Result X Stop)
     (P : Making → Type 0) (K : List CodedMacroblock → Type 0) →
     ((after : List CodedMacroblock) → (run g old.body old.at).answer ≡ Ok (after, new.at) → HoldsMacroblocks width size after work →

@@ -3,8 +3,8 @@ use Rattle.std.proofs.Common.{◌≡◌, ℕ, ◌==◌, ◌&&◌, ◌||◌, Bool
 use Rattle.std.proofs.Common.{if◌then◌else◌}
 use Rattle.std.proofs.lemmas.Bool.{and_parts}
 use Rattle.std.specs.Prelude.{IsErrOf}
-use Rattle.h264_base.specs.declared.mode.Mode.{Mode}
-use Rattle.h264_base.specs.declared.mode.Mode.TheVariants as modes
+use Rattle.h264_verify.specs.declared.state.Depth.{Depth}
+use Rattle.h264_verify.specs.declared.state.Depth.TheVariants as depths
 use Rattle.h264_base.specs.declared.stop.Stop.{Stop}
 use Rattle.h264_base.specs.declared.stop.Stop.TheVariants.{No, Outside, Memory, Read, Write}
 use Rattle.h264_base.specs.Call.{Call, span}
@@ -25,16 +25,16 @@ use Rattle.h264_verify.specs.Outcome.{IsNamed, gives}
 use Rattle.h264_units.specs.UnitHeader.{header_of, nal_unit_type}
 use Rattle.h264_verify.specs.History.{History, maps_of}
 use Rattle.h264_verify.specs.Pictures.{CodedPicture, runs_of, begins_at}
-use Rattle.h264_plane.specs.declared.frame.Frame.{Frame}
 use Rattle.h264_verify.specs.declared.decoder.Decoder.{Decoder}
 use Rattle.h264_verify.specs.declared.decoder.Format.{Format}
 use Rattle.h264_verify.specs.Keeping.{KeepsFrames, WhereMade, format_of, format_in}
-use Rattle.h264_verify.specs.declared.state.Terms.{Terms}
+use Rattle.h264_verify.specs.declared.state.Extent.{Extent}
 use Rattle.h264_units.specs.UnitHeader.{is_slice}
 use Rattle.h264_verify.specs.Units.{slice_unit, slice_unit_of}
 use Rattle.h264_verify.specs.UnitOutcome.{joined, joined_by, joined_other}
 use Rattle.h264_verify.specs.Memory.{reads_slices, is_kind_read, bytes_of, HasAnotherFormat, BeginsAnotherFormat}
 use Rattle.h264_verify.proofs.Joining.{units-other, passed-other}
+use Rattle.h264_verify.specs.Telling.{Family}
 
 -- a reader wants no memory
 pub answers-memory : {X A S : Type 0} (took : S → List Call → Type 0) (failures : S → ℕ) (R : X → A → Type 0) (g : Grammar A) (old new : Reader) (s s' : S)
@@ -67,19 +67,19 @@ pub read-bytes : (t : Bool) (b x : Body) (o : Option Body) → o ≡ Some x → 
 read-bytes true b x o s e = (refl, cc)
 read-bytes false b x o s e = cc
 
-pub bytes-by : (mode : Mode) (unit : NalUnit) (byte : ℕ) (o : Option Body) → byte ≡ header_of unit → o ≡ bytes_of mode unit →
-    o ≡ (if is_kind_read mode (nal_unit_type byte) then Some (body_of unit) else None)
-bytes-by mode unit byte o e b = subst (λ (x : ℕ). o ≡ (if is_kind_read mode (nal_unit_type x) then Some (body_of unit) else None)) (sym e) b
+pub bytes-by : (depth : Depth) (unit : NalUnit) (byte : ℕ) (o : Option Body) → byte ≡ header_of unit → o ≡ bytes_of depth unit →
+    o ≡ (if is_kind_read depth (nal_unit_type byte) then Some (body_of unit) else None)
+bytes-by depth unit byte o e b = subst (λ (x : ℕ). o ≡ (if is_kind_read depth (nal_unit_type x) then Some (body_of unit) else None)) (sym e) b
 
 no-and : (b : Bool) → (b && true) ≡ false → b ≡ false
 no-and true e = e
 no-and false e = refl
 
-other-passed : (mode : Mode) (kind : ℕ) (before : History) (unit : NalUnit) → (is_slice kind && reads_slices mode) ≡ false →
-    joined_other mode kind before unit ≡ joined mode before unit (gives contents.Passed)
-other-passed modes.Units kind before unit e = units-other kind before unit
-other-passed modes.Headers kind before unit e = passed-other modes.Headers kind before unit (no-and (is_slice kind) e)
-other-passed modes.Full kind before unit e = passed-other modes.Full kind before unit (no-and (is_slice kind) e)
+other-passed : (depth : Depth) (kind : ℕ) (before : History) (unit : NalUnit) → (is_slice kind && reads_slices depth) ≡ false →
+    joined_other depth kind before unit ≡ joined depth before unit (gives contents.Passed)
+other-passed depths.Units kind before unit e = units-other kind before unit
+other-passed depths.Headers kind before unit e = passed-other depths.Headers kind before unit (no-and (is_slice kind) e)
+other-passed depths.Full kind before unit e = passed-other depths.Full kind before unit (no-and (is_slice kind) e)
 
 third : {A : Type 0} (one two three : Bool) (a b c p : A) → (one || two || three) ≡ false → (three ≡ false → c ≡ p) →
     (if one then a else (if two then b else c)) ≡ p
@@ -88,11 +88,12 @@ third false true three a b c p e f = cc
 third false false three a b c p e f = f e
 
 -- a unit that is not read is passed over
-pub passed-by : (terms : Terms) (kind : ℕ) (before : History) (unit : NalUnit) → is_kind_read terms.mode kind ≡ false →
-    joined_by terms kind before unit ≡ joined terms.mode before unit (gives contents.Passed)
+pub passed-by : (extent : Extent) (kind : ℕ) (before : History) (unit : NalUnit) → is_kind_read extent.depth kind ≡ false →
+    joined_by extent kind before unit ≡ joined extent.depth before unit (gives contents.Passed)
 unfolding joined_by
-passed-by terms kind before unit e = third (kind == 7) (kind == 8) (is_slice kind && reads_slices terms.mode) _ _ (joined_other terms.mode kind before unit) _
-    e (other-passed terms.mode kind before unit)
+passed-by extent kind before unit e = third (kind == 7) (kind == 8) (is_slice kind && reads_slices extent.depth) _ _
+    (joined_other extent.depth kind before unit) _
+    e (other-passed extent.depth kind before unit)
 
 last-of : (one two three : Bool) → (one || two || three) ≡ true → one ≡ false → two ≡ false → three ≡ true
 last-of true two three e f g = cc
@@ -100,20 +101,20 @@ last-of false true three e f g = cc
 last-of false false three e f g = e
 
 -- and one that is read, and no set, is a slice
-pub read-slice : (mode : Mode) (kind : ℕ) → is_kind_read mode kind ≡ true → (kind == 7) ≡ false → (kind == 8) ≡ false → (is_slice kind ≡ true) ×
-    (reads_slices mode ≡ true)
-read-slice mode kind e f g = and_parts (is_slice kind) (reads_slices mode) (last-of (kind == 7) (kind == 8) (is_slice kind && reads_slices mode) e f g)
+pub read-slice : (depth : Depth) (kind : ℕ) → is_kind_read depth kind ≡ true → (kind == 7) ≡ false → (kind == 8) ≡ false → (is_slice kind ≡ true) ×
+    (reads_slices depth ≡ true)
+read-slice depth kind e f g = and_parts (is_slice kind) (reads_slices depth) (last-of (kind == 7) (kind == 8) (is_slice kind && reads_slices depth) e f g)
 
 -- ---- a picture of another format
 
 -- the decoder has the format of the newest picture
-another-by : (frames : ℕ → Frame) (on : Bool) (pictures : List CodedPicture) (old new : Decoder) (sps : Sps) → KeepsFrames frames on false pictures old →
+another-by : (frames : Family) (on : Bool) (pictures : List CodedPicture) (old new : Decoder) (sps : Sps) → KeepsFrames frames on false pictures old →
     new.format ≡ old.format → (new.format ≡ Some (format_of sps) → ⊥) → HasAnotherFormat pictures sps
 another-by frames on [] old new sps k e never = tt
 another-by frames on (p ∷ ps) old new sps k e never = λ same. never (e ∙ k.format ∙ ap (λ (f : Format). Some f) (sym same))
 
-pub is-another : (frames : ℕ → Frame) (on : Bool) (pictures : List CodedPicture) (old : Option Decoder) (new : Decoder) (sps : Sps) →
-    WhereMade modes.Full (KeepsFrames frames on false pictures) old → new.format ≡ format_in old → (new.format ≡ Some (format_of sps) → ⊥) →
+pub is-another : (frames : Family) (on : Bool) (pictures : List CodedPicture) (old : Option Decoder) (new : Decoder) (sps : Sps) →
+    WhereMade depths.Full (KeepsFrames frames on false pictures) old → new.format ≡ format_in old → (new.format ≡ Some (format_of sps) → ⊥) →
     HasAnotherFormat pictures sps
 unfolding WhereMade
 is-another frames on pictures None new sps k e never = absurd k

@@ -5,12 +5,11 @@ use Rattle.std.proofs.lemmas.List.{append-nil}
 use Rattle.std.proofs.lemmas.List.Sums.{sum_by-cons}
 use Rattle.std.specs.Option.{is_some, is_none, option_map, option_and_then}
 use Rattle.std.specs.List.{list_any}
-use Rattle.h264_base.specs.declared.mode.Mode.{Mode}
+use Rattle.h264_verify.specs.declared.state.Depth.{Depth}
 use Rattle.h264_base.specs.declared.rule.Rule.TheVariants.{FrameNum}
 use Rattle.h264_base.specs.declared.stop.Stop.{Stop}
 use Rattle.h264_base.specs.declared.stop.Stop.TheVariants.{No}
 use Rattle.h264_base.specs.Call.{Call, span}
-use Rattle.h264_plane.specs.declared.frame.Frame.{Frame}
 use Rattle.h264_marking.specs.declared.frame.ReferenceFrame.{ReferenceFrame}
 use Rattle.h264_marking.specs.declared.frame.Numbering.{Numbering}
 use Rattle.h264_marking.specs.Frames.{References, has_frame_num}
@@ -20,7 +19,7 @@ use Rattle.h264_dpb.specs.Bumping.{missing_in}
 use Rattle.h264_dpb.specs.Buffered.{Buffered}
 use Rattle.h264_dpb.specs.Turns.{Shown, Turn, turn_then, names, missing_turn}
 use Rattle.h264_verify.specs.declared.decoder.Decoder.{Decoder}
-use Rattle.h264_verify.specs.Telling.{Told, Tells, took_with}
+use Rattle.h264_verify.specs.Telling.{Told, Tells, took_with, Family}
 use Rattle.h264_verify.specs.Outcome.{Outcome, ◌>>=◌, continued, with_calls, answers, gives, Plays}
 use Rattle.h264_verify.specs.Steps.{Step, Needs}
 use Rattle.h264_verify.specs.Buffering.{told_frames, gaps_turn, gap_on, missing_steps, missing_on}
@@ -89,24 +88,24 @@ after-plays took failures view told o s0 s1 s2 r t k p =
 abbrev following : Numbering → ℕ → ℕ → List ℕ
 following n count number = numbers_from count ((number + 1) % n.max_frame_num) n.max_frame_num
 
-pub steps-some : (mode : Mode) (bit : ℕ) (n : Numbering) (number : ℕ) (numbers : List ℕ) (refs held : References) (b : Buffered Shown) →
+pub steps-some : (depth : Depth) (bit : ℕ) (n : Numbering) (number : ℕ) (numbers : List ℕ) (refs held : References) (b : Buffered Shown) →
     filled (record n { frame_num = number }) refs ≡ Some held →
-    steps_outcome (missing_steps mode bit n (number ∷ numbers) refs b) ≡
-    (steps_outcome (told_frames mode (missing_turn held b).written) >>= λ _. steps_outcome
-    (missing_steps mode bit n numbers held (missing_turn held b).buffer))
-steps-some mode bit n number numbers refs held b e =
+    steps_outcome (missing_steps depth bit n (number ∷ numbers) refs b) ≡
+    (steps_outcome (told_frames depth (missing_turn held b).written) >>= λ _. steps_outcome
+    (missing_steps depth bit n numbers held (missing_turn held b).buffer))
+steps-some depth bit n number numbers refs held b e =
     ap (λ (o : Option References). steps_outcome
     (Needs (record { rule = FrameNum; bit = bit; met = is_some o }) ∷ missing_on o
-    (λ held. told_frames mode (missing_turn held b).written ++ missing_steps mode bit n numbers held (missing_turn held b).buffer))) e
-    ∙ steps-append (told_frames mode (missing_turn held b).written) (missing_steps mode bit n numbers held (missing_turn held b).buffer)
+    (λ held. told_frames depth (missing_turn held b).written ++ missing_steps depth bit n numbers held (missing_turn held b).buffer))) e
+    ∙ steps-append (told_frames depth (missing_turn held b).written) (missing_steps depth bit n numbers held (missing_turn held b).buffer)
 
-steps-none : (mode : Mode) (bit : ℕ) (n : Numbering) (number : ℕ) (numbers : List ℕ) (refs : References) (b : Buffered Shown) →
+steps-none : (depth : Depth) (bit : ℕ) (n : Numbering) (number : ℕ) (numbers : List ℕ) (refs : References) (b : Buffered Shown) →
     filled (record n { frame_num = number }) refs ≡ None →
-    steps_outcome (missing_steps mode bit n (number ∷ numbers) refs b) ≡ answers (Err (No bit FrameNum))
-steps-none mode bit n number numbers refs b e =
+    steps_outcome (missing_steps depth bit n (number ∷ numbers) refs b) ≡ answers (Err (No bit FrameNum))
+steps-none depth bit n number numbers refs b e =
     ap (λ (o : Option References). steps_outcome
     (Needs (record { rule = FrameNum; bit = bit; met = is_some o }) ∷ missing_on o
-    (λ held. told_frames mode (missing_turn held b).written ++ missing_steps mode bit n numbers held (missing_turn held b).buffer))) e
+    (λ held. told_frames depth (missing_turn held b).written ++ missing_steps depth bit n numbers held (missing_turn held b).buffer))) e
 
 turn-some : (n : Numbering) (number : ℕ) (numbers : List ℕ) (refs held : References) (t : Turn) → filled (record n { frame_num = number }) refs ≡ Some held →
     turn_then t (gaps_turn n (number ∷ numbers) refs) ≡ turn_then (turn_then t (missing_turn held)) (gaps_turn n numbers held)
@@ -117,31 +116,31 @@ turn-some n number numbers refs held t e =
 
 -- ---- all of them
 
-module _ {S : Type 0} (mode : Mode) (bit : ℕ) (n : Numbering) (count prev : ℕ) (held : References) (took : S → List Call → Type 0) (failures : S → ℕ)
-    (frames : ℕ → Frame) (t : Turn) (next : ℕ) (old : S) where
+module _ {S : Type 0} (depth : Depth) (bit : ℕ) (n : Numbering) (count prev : ℕ) (held : References) (took : S → List Call → Type 0) (failures : S → ℕ)
+    (frames : Family) (t : Turn) (next : ℕ) (old : S) where
   abbrev pub all_steps : List Step
-  all_steps = missing_steps mode bit n (following n count prev) held t.buffer
+  all_steps = missing_steps depth bit n (following n count prev) held t.buffer
 
   -- so many numbers after the last one are left: what was told of the others, and what is kept
   pub record Fills (left last : ℕ) (now : References) (new : S) (d : Option Decoder) : Type 0 where
     pub turn : Turn
     pub told : List Told
     pub tells : Tells (took_with frames took) old new told
-    pub steps : steps_outcome all_steps ≡ with_calls told (steps_outcome (missing_steps mode bit n (following n left last) now turn.buffer))
+    pub steps : steps_outcome all_steps ≡ with_calls told (steps_outcome (missing_steps depth bit n (following n left last) now turn.buffer))
     pub turns : turn_then t (gaps_turn n (following n count prev) held) ≡ turn_then turn (gaps_turn n (following n left last) now)
-    pub keeps : WhereMade mode (FillsFrames frames turn next) d
+    pub keeps : WhereMade depth (FillsFrames frames turn next) d
 
-  first : (left : ℕ) (d : Option Decoder) → left ≡ count → WhereMade mode (FillsFrames frames t next) d → Fills left prev held old d
+  first : (left : ℕ) (d : Option Decoder) → left ≡ count → WhereMade depth (FillsFrames frames t next) d → Fills left prev held old d
   first left d e k = record {
     turn = t;
     told = [];
     tells = tells-none (took_with frames took) old;
-    steps = ap (λ (c : ℕ). steps_outcome (missing_steps mode bit n (following n c prev) held t.buffer)) (sym e);
+    steps = ap (λ (c : ℕ). steps_outcome (missing_steps depth bit n (following n c prev) held t.buffer)) (sym e);
     turns = ap (λ (c : ℕ). turn_then t (gaps_turn n (following n c prev) held)) (sym e);
     keeps = k;
   }
 
-  pub fills-first : (d : Option Decoder) → WhereMade mode (FillsFrames frames t next) d → Fills (count - 0) prev held old d
+  pub fills-first : (d : Option Decoder) → WhereMade depth (FillsFrames frames t next) d → Fills (count - 0) prev held old d
   fills-first d k = let e : count - 0 ≡ count = omega arith in first (count - 0) d e k
 
   pub fills-more : (turn last : ℕ) (now : References) (new : S) (d : Option Decoder) → turn < count → Fills (count - turn) last now new d →
@@ -161,7 +160,7 @@ module _ {S : Type 0} (mode : Mode) (bit : ℕ) (n : Numbering) (count prev : �
         Plays {X = X} (span (took_with frames took) failures old new) view (steps_outcome all_steps) (Err e)
     fills-refused {X} view e none is =
         subst (λ (o : Outcome (Unit {0})). Plays {X = X} (span (took_with frames took) failures old new) view o (Err e))
-        (sym (f.steps ∙ ap (with_calls f.told) (steps-none mode bit n number (following n k number) now f.turn.buffer none)))
+        (sym (f.steps ∙ ap (with_calls f.told) (steps-none depth bit n number (following n k number) now f.turn.buffer none)))
         (subst (λ (x : Stop). Plays {X = X} (span (took_with frames took) failures old new) view (with_calls f.told (answers (Err (No bit FrameNum))))
         (Err x)) (sym is)
         (after-plays (took_with frames took) failures view f.told (answers (Err (No bit FrameNum))) old new new (Err (No bit FrameNum)) f.tells quiet
@@ -169,13 +168,13 @@ module _ {S : Type 0} (mode : Mode) (bit : ℕ) (n : Numbering) (count prev : �
 
     module _ (then_held : References) (fits : filled (record n { frame_num = number }) now ≡ Some then_held) where
       abbrev frame_steps : Outcome (Unit {0})
-      frame_steps = steps_outcome (told_frames mode (missing_turn then_held f.turn.buffer).written)
+      frame_steps = steps_outcome (told_frames depth (missing_turn then_held f.turn.buffer).written)
 
       abbrev rest : Outcome (Unit {0})
-      rest = steps_outcome (missing_steps mode bit n (following n k number) then_held (missing_turn then_held f.turn.buffer).buffer)
+      rest = steps_outcome (missing_steps depth bit n (following n k number) then_held (missing_turn then_held f.turn.buffer).buffer)
 
       steps-are : steps_outcome all_steps ≡ with_calls f.told (frame_steps >>= λ _. rest)
-      steps-are = f.steps ∙ ap (with_calls f.told) (steps-some mode bit n number (following n k number) now then_held f.turn.buffer fits)
+      steps-are = f.steps ∙ ap (with_calls f.told) (steps-some depth bit n number (following n k number) now then_held f.turn.buffer fits)
 
       -- its frame is not told
       pub fills-stopped : {X : Type 0} (view : X → Unit {0}) (s : S) (e : Stop) →
@@ -189,7 +188,7 @@ module _ {S : Type 0} (mode : Mode) (bit : ℕ) (n : Numbering) (count prev : �
       -- one more is filled
       pub fills-next : (s : S) (d' : Option Decoder) (x : Unit {0}) →
           Plays {X = Unit {0}} (span (took_with frames took) failures new s) (λ (x : Unit {0}). x) frame_steps (Ok x) →
-          WhereMade mode (FillsFrames frames (turn_then f.turn (missing_turn then_held)) next) d' → Fills k number then_held s d'
+          WhereMade depth (FillsFrames frames (turn_then f.turn (missing_turn then_held)) next) d' → Fills k number then_held s d'
       fills-next s d' x p kept = record {
         turn = turn_then f.turn (missing_turn then_held);
         told = f.told ++ frame_steps.calls;
@@ -208,18 +207,18 @@ module _ {S : Type 0} (mode : Mode) (bit : ℕ) (n : Numbering) (count prev : �
       (gives-plays (took_with frames took) failures (λ (x : ℕ). tt) last new))
 
   pub fills-kept : (last : ℕ) (now : References) (new : S) (d : Option Decoder) → Fills 0 last now new d →
-      WhereMade mode (FillsFrames frames (turn_then t (gaps_turn n (following n count prev) held)) next) d
-  fills-kept last now new d f = subst (λ (u : Turn). WhereMade mode (FillsFrames frames u next) d)
+      WhereMade depth (FillsFrames frames (turn_then t (gaps_turn n (following n count prev) held)) next) d
+  fills-kept last now new d f = subst (λ (u : Turn). WhereMade depth (FillsFrames frames u next) d)
       (sym (f.turns ∙ ap (λ (l : List _). record { written = l; buffer = f.turn.buffer }) (append-nil f.turn.written))) f.keeps
 
 -- there are frames of which this is kept still
 pub some-gap : {S : Type 0} (bit : ℕ) (n : Numbering) (count prev : ℕ) (held : References) (took : S → List Call → Type 0) (failures : S → ℕ) (old : S)
     (left last : ℕ) (now : References) (new : S) (before d : Option Decoder) (k : KeepsSomeGap before) →
-    ((mode : Mode) (frames : ℕ → Frame) (t : Turn) (next : ℕ) → WhereMade mode (FillsFrames frames t next) before →
-    Fills mode bit n count prev held took failures frames t next old left last now new d) → KeepsSomeGap d
+    ((depth : Depth) (frames : Family) (t : Turn) (next : ℕ) → WhereMade depth (FillsFrames frames t next) before →
+    Fills depth bit n count prev held took failures frames t next old left last now new d) → KeepsSomeGap d
 some-gap bit n count prev held took failures old left last now new before d k fills =
-    let f = fills k.mode k.frames k.turn k.next k.keeps in
-    record { mode = k.mode; frames = k.frames; turn = f.turn; next = k.next; few = k.few; keeps = f.keeps }
+    let f = fills k.depth k.frames k.turn k.next k.keeps in
+    record { depth = k.depth; frames = k.frames; turn = f.turn; next = k.next; few = k.few; keeps = f.keeps }
 
 -- the rule on a picture's number, by what is held once the gap is filled
 pub new-filled : (idr reference : Bool) (bit prev : ℕ) (n : Numbering) (refs held : References) →

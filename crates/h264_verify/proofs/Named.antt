@@ -10,7 +10,7 @@ use Rattle.h264_bits.specs.declared.element.Found.{Found}
 use Rattle.h264_sps.specs.declared.sps.Sps.{Sps}
 use Rattle.h264_sps.specs.declared.sps.FrameSize.{FrameSize}
 use Rattle.h264_header.specs.declared.header.Marking.{Marking}
-use Rattle.h264_header.specs.declared.header.Marking.TheVariants as mode
+use Rattle.h264_header.specs.declared.header.Marking.TheVariants as depth
 use Rattle.h264_header.specs.declared.header.SliceKind.{SliceKind}
 use Rattle.h264_header.specs.declared.header.SliceKind.TheVariants as kinds
 use Rattle.h264_header.specs.Picture.{is_idr}
@@ -81,13 +81,13 @@ is-or number n b P e f = by (number == n) refl e
 idr-held : (n : ℕ) (c : Numbering) (number bit : ℕ) (marking : Marking) (refs : References) → is_idr_marking marking ≡ true →
     IsAmong n (result_unwrap_or (marked c number bit marking refs) refs).frames → n ≡ number
 unfolding marked
-idr-held n c number bit (mode.Idr no_output long_term) refs i h = own (number == n) refl h
+idr-held n c number bit (depth.Idr no_output long_term) refs i h = own (number == n) refl h
   where
     own : (t : Bool) → (number == n) ≡ t → (t || false) ≡ true → n ≡ number
     own true q e = sym (eqb-true number n q)
     own false q e = cc
-idr-held n c number bit mode.SlidingWindow refs i h = cc
-idr-held n c number bit (mode.Adaptive operations) refs i h = cc
+idr-held n c number bit depth.SlidingWindow refs i h = cc
+idr-held n c number bit (depth.Adaptive operations) refs i h = cc
 
 met-held : (n : ℕ) (c : Numbering) (number bit : ℕ) (marking : Marking) (refs : References) (r : Result References ℕ) → marked c number bit marking refs ≡ r →
     IsAmong n (result_unwrap_or r refs).frames → (n ≡ number) ⊎ IsAmong n refs.frames

@@ -4,7 +4,7 @@ use Rattle.std.proofs.Common.{Option, Some, None, Result, Ok, Err, IfOk, refl, a
 use Rattle.std.proofs.lemmas.Bool.{not-true}
 use Rattle.std.proofs.lemmas.Bool.Decides.{nat_tests}
 use Rattle.std.specs.List.{list_any, slice_get, AllByRecursion}
-use Rattle.std.specs.Option.{option_and_then, option_map, option_map_or}
+use Rattle.std.specs.Option.{option_and_then, option_map_or}
 use Rattle.std.specs.Result.{result_unwrap_or}
 use Rattle.h264_plane.specs.declared.frame.Frame.{Frame}
 use Rattle.h264_header.specs.declared.header.SliceKind.{SliceKind}
@@ -25,8 +25,9 @@ use Rattle.h264_picture.specs.declared.frames.Frames.{Frames}
 use Rattle.h264_picture.specs.declared.frames.TheConstants.{PLACES}
 use Rattle.h264_recon.specs.Table.{table}
 use Rattle.h264_picture.specs.Context.{picture_in, slice_context}
-use Rattle.h264_picture.specs.Lent.{lent_in}
-use Rattle.h264_picture.specs.Places.{lent, first_place, places, is_active_place, IsReleased}
+use Rattle.h264_picture.specs.declared.canvas.Canvas.{Canvas}
+use Rattle.h264_picture.specs.Lent.{lent_in, frames_in}
+use Rattle.h264_picture.specs.Places.{lent, first_place, places, MakesFrames, is_active_place, IsReleased}
 use Rattle.h264_dpb.specs.declared.entry.Entry.{Entry}
 use Rattle.h264_dpb.specs.declared.entry.Placed.{Placed}
 use Rattle.h264_dpb.specs.Bumping.{is_picture, is_held}
@@ -47,8 +48,10 @@ use Rattle.h264_verify.specs.Sound.{AreSound}
 use Rattle.h264_verify.specs.Keeping.{KeepsOutput, HasPlace, SlicesSome, BeginsFrames, is_typed}
 use Rattle.h264_dpb.proofs.Truths.{is-same, true-or, or-true}
 use Rattle.h264_verify.proofs.Lending.{if-some}
+use Rattle.h264_verify.proofs.Purposes.{some-of}
 use Rattle.h264_verify.proofs.Making.{context-number}
 use Rattle.h264_verify.proofs.Referring.{among-within}
+use Rattle.h264_verify.specs.Telling.{Family}
 
 -- ---- the place of a frame in the buffer
 
@@ -79,13 +82,19 @@ below-by : (k n : ℕ) (o : Option Frame) (f : Frame) (b : Bool) → nat_lt k n 
 below-by k n o f true t e = grind (arith, nat_tests)
 below-by k n o f false t e = cc
 
-below-pool : (o : Option Sequence) (k : ℕ) (f : Frame) → lent_in (option_map (λ (s : Sequence). s.frames) o) k ≡ Some f →
-    k < option_map_or (λ (s : Sequence). length s.frames.pool) o 0
+below-canvas : (s : Sequence) (o : Option Canvas) (k : ℕ) (f : Frame) → s.canvas ≡ o → lent_in (frames_in o) k ≡ Some f → k < s.places
+below-canvas s None k f is e = cc
+below-canvas s (Some c) k f is e =
+    let count = (s.drawn c is).count in let below = below-by k (length c.frames.pool) _ f _ refl e in omega (arith, count, below)
+
+below-pool : (o : Option Sequence) (k : ℕ) (f : Frame) → lent_in (option_and_then (λ (s : Sequence). frames_in s.canvas) o) k ≡ Some f →
+    k < option_map_or (λ (s : Sequence). s.places) o 0
 below-pool None k f e = cc
-below-pool (Some s) k f e = below-by k (length s.frames.pool) _ f _ refl e
+below-pool (Some s) k f e = below-canvas s s.canvas k f refl e
 
 active-by : (work : Work) (p : ℕ) (f : Frame) (b : Bool) → is_active_place work.base p ≡ b → IsReleased work →
-    (if b then lent_in (option_map (λ (s : Sequence). s.frames) work.active) (p - work.base) else lent_in work.older (p - (PLACES - work.base))) ≡ Some f →
+    (if b then lent_in (option_and_then (λ (s : Sequence). frames_in s.canvas) work.active) (p - work.base) else lent_in work.older
+    (p - (PLACES - work.base))) ≡ Some f →
     IsActiveAt work p
 active-by work p f true t r e =
     let k = below-pool work.active (p - work.base) f e in
@@ -94,14 +103,19 @@ active-by work p f true t r e =
 active-by work p f false t r e = let g : None ≡ Some f = sym (ap (λ (o : Option Frames). lent_in o (p - (PLACES - work.base))) r) ∙ e in cc
 
 -- a frame that stands in the buffer has a place among them
-pub held-place : (frames : ℕ → Frame) (t : Turn) (next : ℕ) (d : Decoder) (n : ℕ) → KeepsOutput frames t next d → IsReleased d.work →
+placed-one : (frames : ℕ → Frame) (t : Turn) (next : ℕ) (d : Decoder) (n : ℕ) → KeepsOutput (Some frames) t next d → IsReleased d.work →
     Stands n t.buffer.entries → HasPlace d n
-held-place frames t next d n o r s =
+placed-one frames t next d n o r s =
     let p = place-some d.output.buffer.entries n (subst (λ (es : List (Entry Shown)). Stands n es) o.buffer.same.entries s) in
     let is = if-some (λ (q : ℕ). lent d.work q ≡ Some (frames n)) (place_in d.output.buffer.entries n) p.0 p.1
     (lent-at frames (lent d.work) d.output.buffer.entries n o.frames_are.each) in
     let a = active-by d.work p.0 (frames n) _ refl r is in
     record { place = p.0; near = record { found = p.1; from = a.from; to = a.to; near = a.near } }
+
+pub held-place : (frames : Family) (t : Turn) (next : ℕ) (d : Decoder) (n : ℕ) → MakesFrames d.work → KeepsOutput frames t next d → IsReleased d.work →
+    Stands n t.buffer.entries → HasPlace d n
+held-place None t next d n m o r s = some-of (HasPlace d n) None d.work o.made m tt
+held-place (Some frames) t next d n m o r s = placed-one frames t next d n o r s
 
 -- ---- what a list names
 
@@ -170,23 +184,23 @@ not-idr pictures s k n typed small e = by s.header.kind.value refl
 
 -- ---- before slice data are read
 
-module _ (frames : ℕ → Frame) (s : CodedSlice) (d : Decoder) (typed : is_typed s.header ≡ true) where
+module _ (frames : Family) (s : CodedSlice) (d : Decoder) (typed : is_typed s.header ≡ true) where
   named-place : (begins : Bool) (pictures : List CodedPicture) → AreSound false (joined_to begins s pictures) → BeginsFrames frames begins s pictures d →
-      (k n : ℕ) → k < 16 → get_or (named_in (joined_to begins s pictures) s) k None ≡ Some n → HasPlace d n
-  named-place true pictures sound b k n small e =
+      MakesFrames d.work → (k n : ℕ) → k < 16 → get_or (named_in (joined_to begins s pictures) s) k None ≡ Some n → HasPlace d n
+  named-place true pictures sound b m k n small e =
       let stands = among-within false (record { first = s; later = [] }) pictures sound n (named-held (joined_to true s pictures) s k n small e) in
-      held-place frames (within_newest (joined_to true s pictures)) (length pictures) d n b.output
+      held-place frames (within_newest (joined_to true s pictures)) (length pictures) d n m b.output
       (b.picture.settled (not-idr (joined_to true s pictures) s k n typed small e)).released stands
-  named-place false [] sound b k n small e = absurd b
-  named-place false (p ∷ ps) sound b k n small e =
+  named-place false [] sound b m k n small e = absurd b
+  named-place false (p ∷ ps) sound b m k n small e =
       let stands = among-within false (record p { later = s ∷ p.later }) ps sound n (named-held (joined_to false s (p ∷ ps)) s k n small e) in
       let first : is_idr p.first.header ≡ false = sym sound.0.last ∙ not-idr (joined_to false s (p ∷ ps)) s k n typed small e in
-      held-place frames (within_newest (p ∷ ps)) (length ps) d n b.output (b.picture.settled first).released stands
+      held-place frames (within_newest (p ∷ ps)) (length ps) d n m b.output (b.picture.settled first).released stands
 
   -- the macroblocks before it are held
   abbrev HoldsBy : Bool → List CodedPicture → Type 0
   HoldsBy begins pictures = (references : List (Option ℕ)) (number : ℕ) → number ≡ length (coded_so_far begins pictures) →
-      ((k n : ℕ) → k < 16 → get_or references k None ≡ Some n → HasPlace d n) → SlicesSome number references d
+      (MakesFrames d.work → (k n : ℕ) → k < 16 → get_or references k None ≡ Some n → HasPlace d n) → SlicesSome number references d
 
   slices-by : (begins : Bool) (pictures : List CodedPicture) → BeginsFrames frames begins s pictures d → HoldsBy begins pictures
   slices-by true pictures b = λ references number e h. record { width = _; size = _; macroblocks = []; holds = b.picture.so_far.holds; next = e; named = h }
@@ -200,4 +214,4 @@ module _ (frames : ℕ → Frame) (s : CodedSlice) (d : Decoder) (typed : is_typ
   slices-some begins pictures c is next sound b =
       slices-by begins pictures b c.references c.number
       (ap (λ (x : SliceContext). x.number) is ∙ context-number s.pps s (list_in (joined_to begins s pictures) s) ∙ next)
-      (λ k n small e. named-place begins pictures sound b k n small (ap (λ (x : SliceContext). get_or x.references k None) (sym is) ∙ e))
+      (λ m k n small e. named-place begins pictures sound b m k n small (ap (λ (x : SliceContext). get_or x.references k None) (sym is) ∙ e))

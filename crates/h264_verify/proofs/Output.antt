@@ -1,9 +1,9 @@
 -- What a sink is told of a stream, frames among it, is one list of calls.
-use Rattle.std.proofs.Common.{◌≡◌, ℕ, ◌+◌, ◌-◌, ◌*◌, ◌<◌, ◌≤◌, List, [], ◌∷◌, length, ℤ, refl, ap, sym, ◌∙◌, subst, arith, ⊎_elim}
+use Rattle.std.proofs.Common.{◌≡◌, ℕ, ◌+◌, ◌-◌, ◌*◌, ◌<◌, ◌≤◌, List, [], ◌∷◌, length, ℤ, refl, ap, sym, ◌∙◌, subst, arith, ⊎_elim, Some}
 use Rattle.std.proofs.lemmas.Bool.{cases_lt}
-use Rattle.h264_verify.specs.Units.{terms_of}
+use Rattle.h264_verify.specs.Units.{extent_at}
 use Rattle.h264_base.specs.declared.mode.Target.{Target}
-use Rattle.h264_base.specs.declared.mode.Mode.TheVariants as modes
+use Rattle.h264_verify.specs.declared.state.Depth.TheVariants as depths
 use Rattle.h264_base.specs.Call.{Call, OfFrame}
 use Rattle.h264_plane.specs.declared.frame.Component.{Component}
 use Rattle.h264_plane.specs.declared.frame.Component.TheVariants.{Y, Cb, Cr}
@@ -53,7 +53,7 @@ module _ (frames others : ℕ → Frame) where
   abbrev pub ShownAlike : ℕ → Type 0
   ShownAlike n = (k : ℕ) → k < n → (count : ℤ) (r : Rectangle) → frame_call count (frames k) r ≡ frame_call count (others k) r
 
-  pub shown-alike : (pictures : List CodedPicture) → AreSameOn frames others pictures → HaveFrames frames pictures → HaveFrames others pictures →
+  pub shown-alike : (pictures : List CodedPicture) → AreSameOn frames others pictures → HaveFrames (Some frames) pictures → HaveFrames (Some others) pictures →
       ShownAlike (length pictures)
   shown-alike [] s h k n l count r = absurd (omega (arith, l))
   shown-alike (p ∷ ps) s h k n l count r = ⊎_elim
@@ -64,21 +64,21 @@ module _ (frames others : ℕ → Frame) where
       (call-same p.first.sps.frame_size.width p.first.sps.frame_size.height (frames (length ps)) (others (length ps)) h.0.size k.0.size s.0 count r))
       (cases_lt n (length ps))
 
-  pub calls-same : (n : ℕ) (told : List Told) → ShownAlike n → AreOf n told → calls_of frames told ≡ calls_of others told
+  pub calls-same : (n : ℕ) (told : List Told) → ShownAlike n → AreOf n told → calls_of (Some frames) told ≡ calls_of (Some others) told
   calls-same n [] a h = refl
   calls-same n (Said call ∷ told) a h = ap (λ (l : List Call). call ∷ l) (calls-same n told a h.1)
   calls-same n (Decodes ps ∷ told) a h = calls-same n told a h.1
   calls-same n (Shows e ∷ told) a h =
-      ap (λ (c : Call). c ∷ calls_of frames told) (a e.of.picture h.0 e.count e.of.rectangle)
+      ap (λ (c : Call). c ∷ calls_of (Some frames) told) (a e.of.picture h.0 e.count e.of.rectangle)
       ∙ ap (λ (l : List Call). shown_call others e ∷ l) (calls-same n told a h.1)
 
 -- ---- what legal units tell is of the pictures that have ended
 
-pub legal-of : (target : Target) (before : History) (told : List Told) → AreLegal (terms_of modes.Full target) before told → AreOf (ended_in before) told
+pub legal-of : (target : Target) (before : History) (told : List Told) → AreLegal (extent_at depths.Full target) before told → AreOf (ended_in before) told
 legal-of target [] told l = subst (AreOf (ended_in [])) (sym l) tt
 legal-of target (r ∷ before) told l =
-    let e = legal-unit (terms_of modes.Full target) before r l.1 l.3 in
-    let g = unit-grows (terms_of modes.Full target) before (r ∷ before) r.unit (ap (λ (o : Outcome History). o.answer) e) in
+    let e = legal-unit (extent_at depths.Full target) before r l.1 l.3 in
+    let g = unit-grows (extent_at depths.Full target) before (r ∷ before) r.unit (ap (λ (o : Outcome History). o.answer) e) in
     let last : AreOf (ended_in (r ∷ before)) l.1 = subst (AreOf (ended_in (r ∷ before))) (ap (λ (o : Outcome History). o.calls) e) g.1 in
     subst (AreOf (ended_in (r ∷ before))) (sym l.4)
     (of-both (ended_in (r ∷ before)) l.0 l.1 (of-more (ended_in before) (ended_in (r ∷ before)) l.0 g.0 (legal-of target before l.0 l.2)) last)

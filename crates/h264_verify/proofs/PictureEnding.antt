@@ -23,7 +23,9 @@ use Rattle.h264_dpb.specs.Rectangles.{rectangle_of, rectangle_by, is_within, lea
 use Rattle.h264_dpb.specs.Shown.{fits}
 use Rattle.h264_dpb.specs.Kept.{Each, IsAtPlace, HasFrames}
 use Rattle.h264_verify.specs.declared.decoder.Decoder.{Decoder}
-use Rattle.h264_verify.specs.Telling.{Agree}
+use Rattle.h264_picture.specs.declared.purpose.Purpose.{Purpose}
+use Rattle.h264_picture.specs.declared.purpose.Purpose.TheVariants as purposes
+use Rattle.h264_verify.specs.Telling.{Agree, Family, IsFamilyFor}
 use Rattle.h264_verify.specs.Pictures.{CodedSlice, CodedPicture, last_slice}
 use Rattle.h264_verify.specs.Decoding.{EachSlice, slices_of, number_of, parameters_of, Refers, IsDecoded}
 use Rattle.h264_verify.specs.Keeping.{IsMaking, AreFalling, HasReferences, HoldsBegun, place_by}
@@ -78,7 +80,7 @@ each-last P (s ∷ later) first h = each-last P later first h.1
 -- ---- the frame is decoded
 
 module _ (frames : ℕ → Frame) (p : CodedPicture) (ps : List CodedPicture) (d : Decoder)
-    (h : HoldsBegun frames p ps (slices_of p) (last_slice p).macroblocks d) where
+    (h : HoldsBegun (Some frames) p ps (slices_of p) (last_slice p).macroblocks d) where
   abbrev pub making : Making
   making = record { slices = parameters_in (slices_of p) p.first; place = place_by d }
 
@@ -116,7 +118,7 @@ module _ (frames : ℕ → Frame) (p : CodedPicture) (ps : List CodedPicture) (d
         size = size;
         place = place_by d;
         reference = (setting_of q).reference;
-        refers = each-slice (refers-in q a) (slices_of p) h.so_far.references;
+        refers = each-slice (refers-in q a) (slices_of p) h.so_far.frames_are.references;
         slices = making.slices;
         parameters = is-making.parameters;
         samples = subst (λ (w : ℕ). IsDecodedBy (record { across = w; down = p.first.sps.frame_size.height; reference = (setting_of q).reference })
@@ -127,19 +129,34 @@ module _ (frames : ℕ → Frame) (p : CodedPicture) (ps : List CodedPicture) (d
 
 -- ---- a family with one frame more
 
-abbrev pub with_frame : (ℕ → Frame) → ℕ → Frame → ℕ → Frame
-with_frame frames n f k = if k == n then f else frames k
+abbrev pub with_one : (ℕ → Frame) → ℕ → Frame → ℕ → Frame
+with_one frames n f k = if k == n then f else frames k
 
-pub frame-at : (frames : ℕ → Frame) (n : ℕ) (f : Frame) → with_frame frames n f n ≡ f
+-- where frames are made, and this one is
+abbrev pub with_frame : Family → ℕ → Option Frame → Family
+with_frame None n o = None
+with_frame (Some frames) n None = Some frames
+with_frame (Some frames) n (Some f) = Some (with_one frames n f)
+
+pub frame-at : (frames : ℕ → Frame) (n : ℕ) (f : Frame) → with_one frames n f n ≡ f
 frame-at frames n f = ap (λ (b : Bool). if b then f else frames n) (is-same n)
 
-frame-below : (frames : ℕ → Frame) (n : ℕ) (f : Frame) (k : ℕ) → k < n → frames k ≡ with_frame frames n f k
+frame-below : (frames : ℕ → Frame) (n : ℕ) (f : Frame) (k : ℕ) → k < n → frames k ≡ with_one frames n f k
 frame-below frames n f k h = let e : (k == n) ≡ false = grind (arith, nat_tests) in sym (ap (λ (b : Bool). if b then f else frames k) e)
 
-pub with-agrees : (frames : ℕ → Frame) (n : ℕ) (f : Frame) → Agree n frames (with_frame frames n f)
-with-agrees frames n f k h = frame-below frames n f k h
+pub with-agrees : (frames : Family) (n : ℕ) (o : Option Frame) → Agree n frames (with_frame frames n o)
+with-agrees None n o = tt
+with-agrees (Some frames) n None = λ k h. refl
+with-agrees (Some frames) n (Some f) = λ k h. frame-below frames n f k h
 
-each-agrees : (frames others : ℕ → Frame) (lent : ℕ → Option Frame) (low high : ℕ) (es : List (Entry Placed)) → Agree high frames others →
+-- there is a family as before
+pub with-family : (p : Purpose) (frames : Family) (n : ℕ) (o : Option Frame) → IsFamilyFor p frames → IsFamilyFor p (with_frame frames n o)
+with-family p None n o h = h
+with-family p (Some frames) n None h = h
+with-family purposes.Frames (Some frames) n (Some f) h = tt
+with-family purposes.Verdict (Some frames) n (Some f) h = absurd h
+
+each-agrees : (frames others : ℕ → Frame) (lent : ℕ → Option Frame) (low high : ℕ) (es : List (Entry Placed)) → Agree high (Some frames) (Some others) →
     AreRising number_at low es high → Each (IsAtPlace frames lent) es → Each (IsAtPlace others lent) es
 each-agrees frames others lent low high [] a r h = tt
 each-agrees frames others lent low high (e ∷ es) a r h =
@@ -148,12 +165,13 @@ each-agrees frames others lent low high (e ∷ es) a r h =
       each-agrees frames others lent (e.of.picture + 1) high es a r.1 h.1,
     )
 
-pub frames-agree : (frames others : ℕ → Frame) (lent : ℕ → Option Frame) (next : ℕ) (output : Output) → Agree next frames others →
+pub frames-agree : (frames others : ℕ → Frame) (lent : ℕ → Option Frame) (next : ℕ) (output : Output) → Agree next (Some frames) (Some others) →
     AreRising number_at 0 output.buffer.entries next → HasFrames frames lent output → HasFrames others lent output
 frames-agree frames others lent next output a r h = record { each = each-agrees frames others lent 0 next output.buffer.entries a r h.each }
 
 -- the same frames before it decode it
-pub decoded-as : (frames others : ℕ → Frame) (p : CodedPicture) (ps : List CodedPicture) (f : Frame) (n : ℕ) → length ps ≤ n → Agree n frames others →
+pub decoded-as : (frames others : ℕ → Frame) (p : CodedPicture) (ps : List CodedPicture) (f : Frame) (n : ℕ) → length ps ≤ n →
+    Agree n (Some frames) (Some others) →
     IsDecoded frames p ps f → IsDecoded others p ps f
 decoded-as frames others p ps f n m a h = record {
   size = h.size;

@@ -1,13 +1,15 @@
 -- A picture that has ended takes its place in the buffer.
-use Rattle.std.proofs.Common.{◌≡◌, ℕ, ◌+◌, ◌*◌, ◌<◌, ◌≤◌, ◌||◌, not, Bool, true, false, IsTrue, List, [], ◌∷◌, ◌++◌, length, Option, Some, None, Result, Ok}
+use Rattle.std.proofs.Common.{◌≡◌, ℕ, ◌+◌, ◌*◌, ◌<◌, ◌≤◌, not, Bool, true, false, IsTrue, List, [], ◌∷◌, ◌++◌, length, Option, Some, None, Result, Ok}
+use Rattle.std.specs.Prelude.{IfSome}
 use Rattle.std.proofs.Common.{Err, OnOk, refl, ap, sym, ◌∙◌, subst, arith, length-append, if◌then◌else◌}
-use Rattle.h264_base.specs.declared.mode.Mode.TheVariants as modes
+use Rattle.h264_verify.specs.declared.state.Depth.TheVariants as depths
 use Rattle.h264_plane.specs.declared.frame.Frame.{Frame}
 use Rattle.h264_plane.specs.Frames.{IsFrame}
 use Rattle.h264_sps.specs.declared.sps.Sps.{Sps}
 use Rattle.h264_picture.specs.declared.work.Work.{Work}
 use Rattle.h264_picture.specs.Buffer.{buffer_size}
-use Rattle.h264_picture.specs.Places.{lent, first_place, places, is_active_place, HasSize, IsFrameOf, IsReleased, KeepsFrames as KeepsLent}
+use Rattle.h264_picture.specs.Places.{lent, first_place, places, purpose_of, MakesFrames}
+use Rattle.h264_picture.specs.Places.{is_active_place, HasSize, IsFrameOf, IsReleased, KeepsFrames as KeepsLent}
 use Rattle.h264_marking.specs.Frames.{References}
 use Rattle.h264_dpb.specs.declared.output.Output.{Output}
 use Rattle.h264_dpb.specs.declared.ended.Ended.{Ended}
@@ -20,26 +22,27 @@ use Rattle.h264_dpb.specs.Kept.{Each, KeepsBuffer, HasFrames, IsAtPlace, IsOrder
 use Rattle.h264_dpb.specs.Shown.{fits, fits_in}
 use Rattle.h264_verify.specs.declared.decoder.Decoder.{Decoder}
 use Rattle.h264_verify.specs.declared.decoder.Format.{Format}
-use Rattle.h264_verify.specs.Pictures.{CodedPicture, held_after, last_slice}
+use Rattle.h264_verify.specs.Pictures.{CodedPicture, held_after, last_slice, picture_size}
 use Rattle.h264_verify.specs.Buffering.{ended_picture, within_newest, after_all}
 use Rattle.h264_verify.specs.Keeping.{format_of, HasFormat, IsRoomFor, IsSized, KeepsFrames}
-use Rattle.h264_verify.proofs.Lending.{each-lent, ready-lent}
-use Rattle.h264_verify.proofs.PictureEnding.{with_frame, frame-at, with-agrees, frames-agree, rectangle-fits, making, is-decoded, decoded-as}
+use Rattle.h264_verify.proofs.Lending.{each-lent, all-ready}
+use Rattle.h264_verify.proofs.Purposes.{made-for, family-kept, lends-none}
+use Rattle.h264_verify.proofs.PictureEnding.{with_one, with_frame, frame-at, with-agrees, with-family, frames-agree, rectangle-fits}
+use Rattle.h264_verify.proofs.PictureEnding.{making, is-making, is-decoded, decoded-as}
 use Rattle.h264_base.specs.Call.{Call, span}
 use Rattle.h264_base.specs.declared.stop.Stop.{Stop}
-use Rattle.h264_picture.specs.Making.{IsDecodedIn}
+use Rattle.h264_picture.specs.Making.{Making, HoldsSamples, IsDecodedIn}
 use Rattle.h264_picture.specs.Holds.{Serves}
 use Rattle.h264_dpb.specs.Writing.{Writes}
-use Rattle.h264_dpb.specs.Kept.{shown_calls}
 use Rattle.h264_verify.specs.Decoding.{IsDecoded}
-use Rattle.h264_verify.specs.Telling.{Decodes, HasFrame, took_with}
+use Rattle.h264_verify.specs.Telling.{Decodes, HasFrame, IsFamilyFor, calls_to_show, took_with, Family}
 use Rattle.h264_verify.specs.Outcome.{Outcome, ◌>>=◌, tells, Plays}
 use Rattle.h264_verify.specs.Steps.{Step}
 use Rattle.h264_verify.specs.Steps as step
 use Rattle.h264_verify.specs.StepOutcome.{steps_outcome}
 use Rattle.h264_verify.specs.Buffering.{told_frames}
 use Rattle.h264_verify.proofs.Playing.{plays-on, plays-stops}
-use Rattle.h264_verify.proofs.Showing.{decodes-plays, end-outcome, writes-plays}
+use Rattle.h264_verify.proofs.Showing.{IsLentFor, decodes-plays, end-outcome, writes-plays}
 use Rattle.h264_base.proofs.Plain.{first-false}
 
 -- a frame of this size is lent
@@ -95,93 +98,139 @@ store-sized e refs b = by e.reference
     by true = refl
     by false = refl
 
--- The picture has ended in this frame.
-module _ (frames : ℕ → Frame) (p : CodedPicture) (ps : List CodedPicture) (old : Decoder) (e : Ended) (is : e ≡ ended_picture p ps)
-    (k : KeepsFrames frames true false (p ∷ ps) old) (work : Work) (kept : KeepsLent old.work work) (f : Frame) where
-  abbrev made : ℕ → Frame
-  made = with_frame frames (length ps) f
+-- The picture has ended, and its frame is lent at its place, where frames are made.
+abbrev pub IsFramed : Family → CodedPicture → Option Frame → Type 0
+IsFramed None p o = Unit {0}
+IsFramed (Some frames) p o = IsFrameOf p.first.sps.frame_size.width p.first.sps.frame_size.height o
 
-  pub frames-then : HasFrames made (lent work) old.output
-  frames-then = frames-agree frames made (lent work) (length ps) old.output (with-agrees frames (length ps) f) k.output.ordered.rising
-      (record { each = each-lent frames (lent old.work) (lent work) old.output.buffer.entries (λ q t n. kept q n) k.output.frames_are.each })
+-- it is, where the work has made it
+pub framed-by : (frames : Family) (p : CodedPicture) (o : Option Frame) (work : Work) → IsFamilyFor (purpose_of work) frames →
+    (MakesFrames work → IsFrameOf p.first.sps.frame_size.width p.first.sps.frame_size.height o) → IsFramed frames p o
+framed-by None p o work m f = tt
+framed-by (Some frames) p o work m f = f (made-for (purpose_of work) frames m)
 
-  pub ready-then : IsReady (lent work) old.output
-  ready-then = record {
-    ready = ready-lent frames (lent old.work) (lent work) old.output.buffer.entries (λ q t n. kept q n) k.output.frames_are.each
-        k.output.ready.ready;
-  }
+pub ordered-then : (frames : Family) (p : CodedPicture) (ps : List CodedPicture) (old : Decoder) (e : Ended) → e ≡ ended_picture p ps →
+    KeepsFrames frames true false (p ∷ ps) old → IsOrdered e.picture old.output
+ordered-then frames p ps old e is k = subst (λ (n : ℕ). IsOrdered n old.output) (sym (ended-number p ps e is)) k.output.ordered
 
-  pub ordered-then : IsOrdered e.picture old.output
-  ordered-then = subst (λ (n : ℕ). IsOrdered n old.output) (sym (ended-number p ps e is)) k.output.ordered
+-- the frames of the buffer are lent, and this one is
+pub frames-then : (frames : Family) (p : CodedPicture) (ps : List CodedPicture) (old : Decoder) → KeepsFrames frames true false (p ∷ ps) old →
+    (work : Work) → KeepsLent old.work work → purpose_of work ≡ purpose_of old.work → (o : Option Frame) → IsFramed frames p o →
+    IsLentFor (with_frame frames (length ps) o) (lent work) old.output
+frames-then None p ps old k work kept purpose o h = lends-none work (family-kept None old.work work purpose k.output.made)
+frames-then (Some frames) p ps old k work kept purpose None h = absurd h
+frames-then (Some frames) p ps old k work kept purpose (Some f) h =
+    frames-agree frames (with_one frames (length ps) f) (lent work) (length ps) old.output (with-agrees (Some frames) (length ps) (Some f))
+    k.output.ordered.rising
+    (record { each = each-lent frames (lent old.work) (lent work) old.output.buffer.entries (λ q t n. kept q n) k.output.frames_are.each })
 
-  -- its place, once the frames of the sequence before are let go of
-  module _ (mid new : Decoder) (work-is : mid.work ≡ work) (place-is : mid.place ≡ old.place) (format-is : mid.format ≡ old.format)
-      (lent-is : lent work old.place ≡ Some f) (sized : IsFrame f (16 * p.first.sps.frame_size.width) (16 * p.first.sps.frame_size.height))
-      (first : first_place work ≡ first_place old.work)
-      (stays-if : empties e ≡ false → new ≡ mid) (others : new ≡ record mid { work = new.work })
-      (on : (q : ℕ) → is_active_place (first_place mid.work) q ≡ true → lent new.work q ≡ lent mid.work q)
-      (emptied : empties e ≡ true → IsEmpty mid.output) where
-    output-is : new.output ≡ mid.output
-    output-is = ap (λ (d : Decoder). d.output) others
+pub ready-then : (frames : Family) (p : CodedPicture) (ps : List CodedPicture) (old : Decoder) → KeepsFrames frames true false (p ∷ ps) old →
+    (work : Work) → KeepsLent old.work work → purpose_of work ≡ purpose_of old.work → IsReady (lent work) old.output
+ready-then frames p ps old k work kept purpose =
+    all-ready frames old.work work old.output (family-kept frames old.work work purpose k.output.made) (λ q t n. kept q n) k.output.frames_are k.output.ready
 
-    lent-then : lent new.work new.place ≡ Some f
-    lent-then =
-        ap (λ (d : Decoder). lent new.work d.place) others ∙ ap (λ (q : ℕ). lent new.work q) place-is
-        ∙ on old.place (subst (λ (w : Work). is_active_place (first_place w) old.place ≡ true) (sym work-is)
-        (subst (λ (b : ℕ). is_active_place b old.place ≡ true) (sym first) k.picture.active))
-        ∙ ap (λ (w : Work). lent w old.place) work-is ∙ lent-is
+-- Its place, once the frames of the sequence before are let go of.
+pub record Settled (e : Ended) (old mid new : Decoder) (work : Work) (o : Option Frame) : Type 0 where
+  pub work_is : mid.work ≡ work
+  pub place_is : mid.place ≡ old.place
+  pub format_is : mid.format ≡ old.format
+  pub lent_is : lent work old.place ≡ o
+  pub first : first_place work ≡ first_place old.work
+  pub stays_if : empties e ≡ false → new ≡ mid
+  pub others : new ≡ record mid { work = new.work }
+  pub on : (q : ℕ) → is_active_place (first_place mid.work) q ≡ true → lent new.work q ≡ lent mid.work q
+  pub emptied : empties e ≡ true → IsEmpty mid.output
+  pub purpose : purpose_of work ≡ purpose_of old.work
+  pub purpose_then : purpose_of new.work ≡ purpose_of mid.work
 
-    pub at-place : IsAtPlace made (lent new.work) (placed_at e new.place)
-    at-place = (
-      lent-then ∙ ap Some (sym (ap made (ended-number p ps e is) ∙ frame-at frames (length ps) f)),
-      subst (λ (g : Frame). IsTrue (fits e.rectangle g)) (sym (ap made (ended-number p ps e is) ∙ frame-at frames (length ps) f))
-          (ap (λ (r : _). fits r f) (ended-rectangle p ps e is) ∙ rectangle-fits p.first.sps f sized),
+module _ (p : CodedPicture) (ps : List CodedPicture) (old : Decoder) (e : Ended) (is : e ≡ ended_picture p ps) (mid new : Decoder) (work : Work)
+    (o : Option Frame) (s : Settled e old mid new work o) where
+  output-is : new.output ≡ mid.output
+  output-is = ap (λ (d : Decoder). d.output) s.others
+
+  pub purpose-then : purpose_of new.work ≡ purpose_of old.work
+  purpose-then = s.purpose_then ∙ ap (λ (w : Work). purpose_of w) s.work_is ∙ s.purpose
+
+  lent-then : is_active_place (first_place old.work) old.place ≡ true → lent new.work new.place ≡ o
+  lent-then active =
+      ap (λ (d : Decoder). lent new.work d.place) s.others ∙ ap (λ (q : ℕ). lent new.work q) s.place_is
+      ∙ s.on old.place (subst (λ (w : Work). is_active_place (first_place w) old.place ≡ true) (sym s.work_is)
+      (subst (λ (b : ℕ). is_active_place b old.place ≡ true) (sym s.first) active))
+      ∙ ap (λ (w : Work). lent w old.place) s.work_is ∙ s.lent_is
+
+  by-empty : (P : Output → Work → Type 0) → ((out : Output) (w : Work) → IsEmpty out → P out w) → P mid.output mid.work → P new.output new.work
+  by-empty P none h = pick (empties e) refl
+    where
+      pick : (b : Bool) → empties e ≡ b → P new.output new.work
+      pick true t = subst (λ (out : Output). P out new.work) (sym output-is) (none mid.output new.work (s.emptied t))
+      pick false t = subst (λ (d : Decoder). P d.output d.work) (sym (s.stays_if t)) h
+
+  frames-on : (made : ℕ → Frame) → HasFrames made (lent work) mid.output → HasFrames made (lent new.work) new.output
+  frames-on made h = by-empty (λ out w. HasFrames made (lent w) out)
+      (λ out w n. record { each = subst (λ (es : _). Each (IsAtPlace made (lent w)) es) (sym n.none) tt })
+      (subst (λ (w : Work). HasFrames made (lent w) mid.output) (sym s.work_is) h)
+
+  pub ready-now : IsReady (lent work) mid.output → IsReady (lent new.work) new.output
+  ready-now h = by-empty (λ out w. IsReady (lent w) out) (λ out w n. record { ready = subst (λ (es : _). AreReady (lent w) es) (sym n.none) tt })
+      (subst (λ (w : Work). IsReady (lent w) mid.output) (sym s.work_is) h)
+
+  pub frames-now : (made : Family) → IsFamilyFor (purpose_of old.work) made → IsLentFor made (lent work) mid.output →
+      IsLentFor made (lent new.work) new.output
+  frames-now None m h = lends-none new.work (family-kept None old.work new.work purpose-then m)
+  frames-now (Some made) m h = frames-on made h
+
+-- it stands there
+pub at-place : (frames : Family) (p : CodedPicture) (ps : List CodedPicture) (old : Decoder) (e : Ended) → e ≡ ended_picture p ps →
+    KeepsFrames frames true false (p ∷ ps) old → (mid new : Decoder) (work : Work) (o : Option Frame) → IsFramed frames p o →
+    Settled e old mid new work o → IfSome (with_frame frames (length ps) o) (λ f. IsAtPlace f (lent new.work) (placed_at e new.place))
+at-place None p ps old e is k mid new work o h s = tt
+at-place (Some frames) p ps old e is k mid new work None h s = absurd h
+at-place (Some frames) p ps old e is k mid new work (Some f) h s =
+    let made = with_one frames (length ps) f in
+    let named : made e.picture ≡ f = ap made (ended-number p ps e is) ∙ frame-at frames (length ps) f in (
+      lent-then p ps old e is mid new work (Some f) s k.picture.placed.active ∙ ap Some (sym named),
+      subst (λ (g : Frame). IsTrue (fits e.rectangle g)) (sym named)
+          (ap (λ (r : _). fits r f) (ended-rectangle p ps e is) ∙ rectangle-fits p.first.sps f h),
     )
 
-    pub shown-then : IsTrue (fits_in e.rectangle (lent new.work new.place))
-    shown-then = ap (λ (o : Option Frame). fits_in e.rectangle o) lent-then ∙
-        (ap (λ (r : _). fits r f) (ended-rectangle p ps e is) ∙ rectangle-fits p.first.sps f sized)
-
-    by-empty : (P : Output → Work → Type 0) → ((o : Output) (w : Work) → IsEmpty o → P o w) → P mid.output mid.work → P new.output new.work
-    by-empty P none h = pick (empties e) refl
-      where
-        pick : (b : Bool) → empties e ≡ b → P new.output new.work
-        pick true t = subst (λ (o : Output). P o new.work) (sym output-is) (none mid.output new.work (emptied t))
-        pick false t = subst (λ (d : Decoder). P d.output d.work) (sym (stays-if t)) h
-
-    pub frames-now : HasFrames made (lent work) mid.output → HasFrames made (lent new.work) new.output
-    frames-now h = by-empty (λ o w. HasFrames made (lent w) o)
-        (λ o w n. record { each = subst (λ (es : _). Each (IsAtPlace made (lent w)) es) (sym n.none) tt })
-        (subst (λ (w : Work). HasFrames made (lent w) mid.output) (sym work-is) h)
-
-    pub ready-now : IsReady (lent work) mid.output → IsReady (lent new.work) new.output
-    ready-now h = by-empty (λ o w. IsReady (lent w) o) (λ o w n. record { ready = subst (λ (es : _). AreReady (lent w) es) (sym n.none) tt })
-        (subst (λ (w : Work). IsReady (lent w) mid.output) (sym work-is) h)
+-- and can be shown
+pub shown-then : (frames : Family) (p : CodedPicture) (ps : List CodedPicture) (old : Decoder) (e : Ended) → e ≡ ended_picture p ps →
+    KeepsFrames frames true false (p ∷ ps) old → (mid new : Decoder) (work : Work) (o : Option Frame) → IsFramed frames p o →
+    Settled e old mid new work o → IsTrue (fits_in e.rectangle (lent new.work new.place))
+shown-then None p ps old e is k mid new work o h s =
+    ap (λ (x : Option Frame). fits_in e.rectangle x)
+    (lends-none new.work (family-kept None old.work new.work (purpose-then p ps old e is mid new work o s) k.output.made) new.place)
+shown-then (Some frames) p ps old e is k mid new work None h s = absurd h
+shown-then (Some frames) p ps old e is k mid new work (Some f) h s =
+    ap (λ (x : Option Frame). fits_in e.rectangle x) (lent-then p ps old e is mid new work (Some f) s k.picture.placed.active)
+    ∙ (ap (λ (r : _). fits r f) (ended-rectangle p ps e is) ∙ rectangle-fits p.first.sps f h)
 
 -- how large the pictures are
-pub size-of : (frames : ℕ → Frame) (p : CodedPicture) (ps : List CodedPicture) (d : Decoder) → KeepsFrames frames true false (p ∷ ps) d →
+pub size-of : (frames : Family) (p : CodedPicture) (ps : List CodedPicture) (d : Decoder) → KeepsFrames frames true false (p ∷ ps) d →
     HasSize p.first.sps.frame_size.width p.first.sps.frame_size.height d.work
 size-of frames p ps d k = let room : IsRoomFor (format_of p.first.sps) d.work =
     subst (λ (o : Option Format). HasFormat o d.work) k.picture.format k.output.format in room.size
 
 -- a buffer that was emptied, or not, has the places of its sequence
-pub way-places : (frames : ℕ → Frame) (p : CodedPicture) (ps : List CodedPicture) (old : Decoder) (e : Ended) → e ≡ ended_picture p ps →
+pub way-places : (frames : Family) (p : CodedPicture) (ps : List CodedPicture) (old : Decoder) (e : Ended) → e ≡ ended_picture p ps →
     KeepsFrames frames true false (p ∷ ps) old → (way_turn e (within_newest (p ∷ ps)).buffer).buffer.size ≡ buffer_size p.first.sps
 way-places frames p ps old e is k = way-sized e (within_newest (p ∷ ps)).buffer (buffer_size p.first.sps) (λ t. ended-size p ps e is) (λ t.
     let not-idr : is_idr p.first.header ≡ false = sym (ended-idr p ps e is) ∙ first-false e.idr e.resets t in
     k.output.buffer.same.size ∙ subst (λ (o : Option Format). IsSized o old.output) k.picture.format (k.picture.settled not-idr).sized)
 
 -- the picture stands in the buffer
-pub stored-frames : {X E : Type 0} (frames : ℕ → Frame) (p : CodedPicture) (ps : List CodedPicture) (old last : Decoder) (e : Ended) (held : References)
+pub stored-frames : {X E : Type 0} (frames : Family) (p : CodedPicture) (ps : List CodedPicture) (old last : Decoder) (e : Ended) (held : References)
     (out : Output) (r : Result X E) → e ≡ ended_picture p ps → held ≡ held_after (p ∷ ps) →
-    KeepsFrames frames true false (p ∷ ps) old → (f : Frame) → last.format ≡ old.format → IsRoomFor (format_of p.first.sps) last.work → IsReleased last.work →
+    KeepsFrames frames true false (p ∷ ps) old → (o' : Option Frame) → purpose_of last.work ≡ purpose_of old.work → last.format ≡ old.format →
+    IsRoomFor (format_of p.first.sps) last.work → IsReleased last.work →
     OnOk r (KeepsBuffer (store_turn e held (way_turn e (within_newest (p ∷ ps)).buffer).buffer).buffer
     ((length (within_newest (p ∷ ps)).written + length (way_turn e (within_newest (p ∷ ps)).buffer).written) + length
     (store_turn e held (way_turn e (within_newest (p ∷ ps)).buffer).buffer).written) out) →
-    OnOk r (HasFrames (with_frame frames (length ps) f) (lent last.work) out) → OnOk r (IsOrdered (e.picture + 1) out) → OnOk r (IsReady (lent last.work) out) →
-    OnOk r (KeepsFrames (with_frame frames (length ps) f) true true (p ∷ ps) (record last { output = out }))
-stored-frames frames p ps old last e held out (Err x) is h k f same room released b fr o a = tt
-stored-frames frames p ps old last e held out (Ok x) is h k f same room released b fr o a =
+    IfSome (with_frame frames (length ps) o') (λ f. OnOk r (HasFrames f (lent last.work) out)) → OnOk r (IsOrdered (e.picture + 1) out) →
+    OnOk r (IsReady (lent last.work) out) →
+    OnOk r (KeepsFrames (with_frame frames (length ps) o') true true (p ∷ ps) (record last { output = out }))
+stored-frames frames p ps old last e held out (Err x) is h k o' purpose same room released b fr o a = tt
+stored-frames frames p ps old last e held out (Ok x) is h k o' purpose same room released b fr o a =
     let t = within_newest (p ∷ ps) in
     let turn = end_turn e held t.buffer in
     let count : (length t.written + length (way_turn e t.buffer).written) + length (store_turn e held (way_turn e t.buffer).buffer).written ≡
@@ -199,6 +248,7 @@ stored-frames frames p ps old last e held out (Ok x) is h k f same room released
       format = format;
       output = record {
         buffer = all;
+        made = with-family (purpose_of last.work) frames (length ps) o' (family-kept frames old.work last.work purpose k.output.made);
         frames_are = fr;
         ordered = subst (λ (n : ℕ). IsOrdered n out) number o;
         ready = a;
@@ -212,23 +262,32 @@ stored-frames frames p ps old last e held out (Ok x) is h k f same room released
     }
 
 -- its frame is decoded
-pub has-frame : (frames : ℕ → Frame) (p : CodedPicture) (ps : List CodedPicture) (old : Decoder) (k : KeepsFrames frames true false (p ∷ ps) old)
-    (o : Option Frame) (f : Frame) → o ≡ Some f → IsFrame f (16 * p.first.sps.frame_size.width) (16 * p.first.sps.frame_size.height) →
-    IsDecodedIn old.work (making frames p ps old k.picture) (last_slice p).macroblocks o → HasFrame (with_frame frames (length ps) f) (p ∷ ps)
-has-frame frames p ps old k o f e sized d =
-    let decoded = is-decoded frames p ps old k.picture f sized (size-of frames p ps old k)
-    (subst (λ (x : Option Frame). IsDecodedIn old.work (making frames p ps old k.picture) (last_slice p).macroblocks x) e d) in
-    subst (λ (g : Frame). IsDecoded (with_frame frames (length ps) f) p ps g) (sym (frame-at frames (length ps) f))
-    (decoded-as frames (with_frame frames (length ps) f) p ps f (length ps) (omega arith) (with-agrees frames (length ps) f) decoded)
+has-one : (frames : ℕ → Frame) (p : CodedPicture) (ps : List CodedPicture) (old : Decoder) (k : KeepsFrames (Some frames) true false (p ∷ ps) old) (f : Frame) →
+    IsFrame f (16 * p.first.sps.frame_size.width) (16 * p.first.sps.frame_size.height) →
+    IsDecodedIn old.work (making frames p ps old k.picture) (last_slice p).macroblocks (Some f) → HasFrame (Some (with_one frames (length ps) f)) (p ∷ ps)
+has-one frames p ps old k f sized d =
+    subst (λ (g : Frame). IsDecoded (with_one frames (length ps) f) p ps g) (sym (frame-at frames (length ps) f))
+    (decoded-as frames (with_one frames (length ps) f) p ps f (length ps) (omega arith) (with-agrees (Some frames) (length ps) (Some f))
+    (is-decoded frames p ps old k.picture f sized (size-of (Some frames) p ps old k) d))
+
+pub has-frame : (frames : Family) (p : CodedPicture) (ps : List CodedPicture) (old : Decoder) (k : KeepsFrames frames true false (p ∷ ps) old)
+    (o : Option Frame) → IsFramed frames p o →
+    ((making : Making) → HoldsSamples p.first.sps.frame_size.width (picture_size p.first.sps) making (last_slice p).macroblocks old.work →
+    IsDecodedIn old.work making (last_slice p).macroblocks o) → HasFrame (with_frame frames (length ps) o) (p ∷ ps)
+has-frame None p ps old k o h d = tt
+has-frame (Some frames) p ps old k None h d = absurd h
+has-frame (Some frames) p ps old k (Some f) h d =
+    has-one frames p ps old k f h
+    (d (making frames p ps old k.picture) (k.picture.so_far.frames_are.samples _ (is-making frames p ps old k.picture)))
 
 -- What the end of a picture tells, in its two steps.
-module _ {S : Type 0} (made : ℕ → Frame) (took : S → List Call → Type 0) (failures : S → ℕ) (p : CodedPicture) (ps : List CodedPicture) (e : Ended)
+module _ {S : Type 0} (made : Family) (took : S → List Call → Type 0) (failures : S → ℕ) (p : CodedPicture) (ps : List CodedPicture) (e : Ended)
     (held : References) (is : e ≡ ended_picture p ps) (h : held ≡ held_after (p ∷ ps)) (b : Buffered Shown) (d : HasFrame made (p ∷ ps)) where
   abbrev by_turns : Ended → References → Outcome (Unit {0})
-  by_turns x r = tells (Decodes (p ∷ ps)) >>= λ _. steps_outcome (told_frames modes.Full (way_turn x b).written) >>= λ _. steps_outcome
-      (told_frames modes.Full (store_turn x r (way_turn x b).buffer).written)
+  by_turns x r = tells (Decodes (p ∷ ps)) >>= λ _. steps_outcome (told_frames depths.Full (way_turn x b).written) >>= λ _. steps_outcome
+      (told_frames depths.Full (store_turn x r (way_turn x b).buffer).written)
 
-  turns-are : steps_outcome ((step.Tells (Decodes (p ∷ ps)) ∷ []) ++ told_frames modes.Full (end_turn (ended_picture p ps) (held_after (p ∷ ps)) b).written) ≡
+  turns-are : steps_outcome ((step.Tells (Decodes (p ∷ ps)) ∷ []) ++ told_frames depths.Full (end_turn (ended_picture p ps) (held_after (p ∷ ps)) b).written) ≡
       by_turns e held
   turns-are =
       end-outcome (p ∷ ps) (way_turn (ended_picture p ps) b).written
@@ -236,40 +295,40 @@ module _ {S : Type 0} (made : ℕ → Frame) (took : S → List Call → Type 0)
       ∙ ap (λ (x : Ended). by_turns x (held_after (p ∷ ps))) (sym is) ∙ ap (λ (r : References). by_turns e r) (sym h)
 
   abbrev told_steps : List Step
-  told_steps = (step.Tells (Decodes (p ∷ ps)) ∷ []) ++ told_frames modes.Full (end_turn (ended_picture p ps) (held_after (p ∷ ps)) b).written
+  told_steps = (step.Tells (Decodes (p ∷ ps)) ∷ []) ++ told_frames depths.Full (end_turn (ended_picture p ps) (held_after (p ∷ ps)) b).written
 
   decoded-first : (s s' : S) (r : Result (Unit {0}) Stop) →
       Plays (span (took_with made took) failures s s') (λ (x : Unit {0}). x)
-      (steps_outcome (told_frames modes.Full (way_turn e b).written) >>= λ _. steps_outcome
-      (told_frames modes.Full (store_turn e held (way_turn e b).buffer).written)) r →
+      (steps_outcome (told_frames depths.Full (way_turn e b).written) >>= λ _. steps_outcome
+      (told_frames depths.Full (store_turn e held (way_turn e b).buffer).written)) r →
       Plays (span (took_with made took) failures s s') (λ (x : Unit {0}). x) (steps_outcome told_steps) r
   decoded-first s s' r q = subst (λ (o : Outcome (Unit {0})). Plays (span (took_with made took) failures s s') (λ (x : Unit {0}). x) o r) (sym turns-are)
       (plays-on (took_with made took) failures (λ (x : Unit {0}). x) (λ (x : Unit {0}). x) (tells (Decodes (p ∷ ps))) _ s s s' tt r
       (decodes-plays made took failures s (p ∷ ps) d) q)
 
-  pub way-stops : (s s' : S) (x : Stop) → Writes {X = Unit {0}} took failures (shown_calls made (way_turn e b).written) s s' (Err x) →
+  pub way-stops : (s s' : S) (x : Stop) → Writes {X = Unit {0}} took failures (calls_to_show made (way_turn e b).written) s s' (Err x) →
       Plays (span (took_with made took) failures s s') (λ (x : Unit {0}). x) (steps_outcome told_steps) (Err x)
   way-stops s s' x w = decoded-first s s' (Err x)
-      (plays-stops (took_with made took) failures (λ (x : Unit {0}). x) (λ (x : Unit {0}). x) (steps_outcome (told_frames modes.Full (way_turn e b).written))
+      (plays-stops (took_with made took) failures (λ (x : Unit {0}). x) (λ (x : Unit {0}). x) (steps_outcome (told_frames depths.Full (way_turn e b).written))
       _ s s' x (writes-plays made took failures (way_turn e b).written s s' (Err x) w))
 
   pub way-on : (s s' s'' : S) (u : Unit {0}) (r : Result (Unit {0}) Stop) →
-      Writes {X = Unit {0}} took failures (shown_calls made (way_turn e b).written) s s' (Ok u) →
+      Writes {X = Unit {0}} took failures (calls_to_show made (way_turn e b).written) s s' (Ok u) →
       Plays (span (took_with made took) failures s' s'') (λ (x : Unit {0}). x)
-      (steps_outcome (told_frames modes.Full (store_turn e held (way_turn e b).buffer).written)) r →
+      (steps_outcome (told_frames depths.Full (store_turn e held (way_turn e b).buffer).written)) r →
       Plays (span (took_with made took) failures s s'') (λ (x : Unit {0}). x) (steps_outcome told_steps) r
   way-on s s' s'' u r w q = decoded-first s s'' r
-      (plays-on (took_with made took) failures (λ (x : Unit {0}). x) (λ (x : Unit {0}). x) (steps_outcome (told_frames modes.Full (way_turn e b).written)) _ s
+      (plays-on (took_with made took) failures (λ (x : Unit {0}). x) (λ (x : Unit {0}). x) (steps_outcome (told_frames depths.Full (way_turn e b).written)) _ s
       s' s'' u r (writes-plays made took failures (way_turn e b).written s s' (Ok u) w) q)
 
   pub way-store : (s s' s'' : S) (u : Unit {0}) (r : Result (Unit {0}) Stop) →
-      Writes {X = Unit {0}} took failures (shown_calls made (way_turn e b).written) s s' (Ok u) →
-      Writes {X = Unit {0}} took failures (shown_calls made (store_turn e held (way_turn e b).buffer).written) s' s'' r →
+      Writes {X = Unit {0}} took failures (calls_to_show made (way_turn e b).written) s s' (Ok u) →
+      Writes {X = Unit {0}} took failures (calls_to_show made (store_turn e held (way_turn e b).buffer).written) s' s'' r →
       Plays (span (took_with made took) failures s s'') (λ (x : Unit {0}). x) (steps_outcome told_steps) r
   way-store s s' s'' u r w q = way-on s s' s'' u r w (writes-plays made took failures _ s' s'' r q)
 
 -- as many frames are held as the buffer has places
-pub few-stored : (frames : ℕ → Frame) (p : CodedPicture) (ps : List CodedPicture) (old : Decoder) (e : Ended) → e ≡ ended_picture p ps →
+pub few-stored : (frames : Family) (p : CodedPicture) (ps : List CodedPicture) (old : Decoder) (e : Ended) → e ≡ ended_picture p ps →
     KeepsFrames frames true false (p ∷ ps) old →
     (out last : Output) (written held : ℕ) → KeepsBuffer (way_turn e (within_newest (p ∷ ps)).buffer).buffer written out → last ≡ out →
     held ≤ buffer_size p.first.sps → held ≤ size_of last
@@ -278,7 +337,7 @@ few-stored frames p ps old e is k out last written held b l few =
     omega (arith, places, few)
 
 -- the frames of the sequence before are gone
-pub released-then : (frames : ℕ → Frame) (p : CodedPicture) (ps : List CodedPicture) (old mid new : Decoder) (e : Ended) → e ≡ ended_picture p ps →
+pub released-then : (frames : Family) (p : CodedPicture) (ps : List CodedPicture) (old mid new : Decoder) (e : Ended) → e ≡ ended_picture p ps →
     KeepsFrames frames true false (p ∷ ps) old → (IsReleased old.work → IsReleased mid.work) → (empties e ≡ true → IsReleased new.work) →
     (empties e ≡ false → new ≡ mid) → IsReleased new.work
 released-then frames p ps old mid new e is k on released stays-if = pick (empties e) refl
@@ -288,7 +347,7 @@ released-then frames p ps old mid new e is k on released stays-if = pick (emptie
     pick false t = subst (λ (d : Decoder). IsReleased d.work) (sym (stays-if t))
         (on (k.picture.settled (sym (ended-idr p ps e is) ∙ first-false e.idr e.resets t)).released)
 
-pub room-then : (frames : ℕ → Frame) (p : CodedPicture) (ps : List CodedPicture) (old : Decoder) (work : Work) → KeepsFrames frames true false (p ∷ ps) old →
+pub room-then : (frames : Family) (p : CodedPicture) (ps : List CodedPicture) (old : Decoder) (work : Work) → KeepsFrames frames true false (p ∷ ps) old →
     ((width size : ℕ) → Serves width size old.work → Serves width size work) →
     ((width height : ℕ) → HasSize width height old.work → HasSize width height work) → places work ≡ places old.work → IsRoomFor (format_of p.first.sps) work
 room-then frames p ps old work k serves size places-are =

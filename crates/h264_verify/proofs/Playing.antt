@@ -5,8 +5,7 @@ use Rattle.h264_base.specs.declared.stop.Stop.{Stop}
 use Rattle.h264_base.specs.declared.stop.Stop.TheVariants.{No, Outside, Memory, Read, Write}
 use Rattle.h264_base.specs.Call.{Call, span}
 use Rattle.h264_base.specs.Run.{run}
-use Rattle.h264_plane.specs.declared.frame.Frame.{Frame}
-use Rattle.h264_verify.specs.Telling.{Told, Tells, TellsFront, took_with}
+use Rattle.h264_verify.specs.Telling.{Told, Tells, TellsFront, took_with, Family}
 use Rattle.h264_base.specs.Body.{Body}
 use Rattle.h264_base.specs.Grammar.{Grammar}
 use Rattle.h264_base.specs.Meets.{Reader, Meets, MeetsBy, Answers, AnswersBy, Is}
@@ -131,7 +130,7 @@ pub memory-plays : {A S X : Type 0} (took : S → List Told → Type 0) (failure
 memory-plays took failures view o s = record { plays = (record { front = []; rest = o.calls; whole = refl; tells = tells-none took s }, refl) }
 
 -- What meets a grammar from the first bit on plays its outcome.
-module _ {A S X : Type 0} (frames : ℕ → Frame) (took : S → List Call → Type 0) (failures : S → ℕ) (view : X → A) (g : Grammar A) (body : Body) (j : ℕ)
+module _ {A S X : Type 0} (frames : Family) (took : S → List Call → Type 0) (failures : S → ℕ) (view : X → A) (g : Grammar A) (body : Body) (j : ℕ)
     (s s' : S) where
   by-meets : (r : Result X Stop) → MeetsBy (span took failures s s') (Is view) g (record { body = body; at = 0 }) j r →
       AnswersBy (span took failures s s') (Is view) g (record { body = body; at = 0 }) j r →
@@ -143,7 +142,7 @@ module _ {A S X : Type 0} (frames : ℕ → Frame) (took : S → List Call → T
   by-meets (Err Read) m a = absurd a
   by-meets (Err Write) m a = (elements-front frames took s s' body (run g body 0).elements m.0, m.1)
 
-pub meets-plays : {A S X : Type 0} (frames : ℕ → Frame) (took : S → List Call → Type 0) (failures : S → ℕ) (view : X → A) (g : Grammar A) (body : Body)
+pub meets-plays : {A S X : Type 0} (frames : Family) (took : S → List Call → Type 0) (failures : S → ℕ) (view : X → A) (g : Grammar A) (body : Body)
     (old new : Reader) (s s' : S) (r : Result X Stop) → old ≡ record { body = body; at = 0 } → Meets (span took failures s s') (Is view) g old new r →
     Answers (span took failures s s') (Is view) g old new r → Plays (span (took_with frames took) failures s s') view (structure_outcome g body) r
 meets-plays frames took failures view g body old new s s' r e m a =

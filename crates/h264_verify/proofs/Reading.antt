@@ -3,7 +3,6 @@ use Rattle.std.proofs.Common.{◌≡◌, ℕ, Bool, ◌&&◌, true, false, List,
 use Rattle.std.proofs.lemmas.Bool.{and_parts}
 use Rattle.h264_base.specs.declared.stop.Stop.{Stop}
 use Rattle.h264_base.specs.Call.{Call}
-use Rattle.h264_plane.specs.declared.frame.Frame.{Frame}
 use Rattle.h264_base.specs.Body.{Body}
 use Rattle.h264_sps.specs.declared.sps.Sps.{Sps}
 use Rattle.h264_pps.specs.declared.Pps.{Pps}
@@ -17,16 +16,17 @@ use Rattle.h264_picture.specs.Context.{slice_context}
 use Rattle.h264_picture.specs.Levels.{transform_fits}
 use Rattle.h264_picture.specs.Filter.{slice_filter}
 use Rattle.h264_picture.specs.Weights.{slice_weights}
-use Rattle.h264_verify.specs.Telling.{frame_span}
+use Rattle.h264_verify.specs.Telling.{frame_span, Family}
 use Rattle.h264_verify.specs.Lists.{context_in, list_in, list_of}
 use Rattle.h264_verify.specs.declared.head.SlicePlace.{SlicePlace}
 use Rattle.h264_verify.specs.declared.slices.Slice.{Slice}
 use Rattle.h264_verify.specs.Sound.{HasPps}
 use Rattle.h264_verify.specs.Decoding.{slices_of}
 use Rattle.h264_verify.proofs.Agreeing.{each-slice}
+use Rattle.h264_verify.proofs.Purposes.{some-map}
 use Rattle.h264_verify.specs.declared.decoder.Decoder.{Decoder}
 use Rattle.h264_verify.specs.Buffering.{within_newest}
-use Rattle.h264_verify.specs.Keeping.{HoldsBegun, KeepsOutput, KeepsFrames, IsRead, BeginsFrames}
+use Rattle.h264_verify.specs.Keeping.{HoldsBegun, HoldsFrames, KeepsOutput, KeepsFrames, IsRead, BeginsFrames}
 use Rattle.h264_dpb.specs.Turns.{Turn}
 use Rattle.h264_verify.specs.Framing.{ReadsSlice, ReadsData}
 use Rattle.h264_vectors.specs.declared.slice.SliceContext.{SliceContext}
@@ -98,54 +98,56 @@ module _ (place : SlicePlace) (kept : Slice) (pictures : List CodedPicture) (s :
   weights-are = ap slice_weights is.header ∙ weights-same s.header kept.header.marking
 
 -- a slice that was read belongs to its picture
-begun-first : (frames : ℕ → Frame) (s : CodedSlice) (pictures : List CodedPicture) (ms : List CodedMacroblock) (d : Decoder) →
+begun-first : (frames : Family) (s : CodedSlice) (pictures : List CodedPicture) (ms : List CodedMacroblock) (d : Decoder) →
     HoldsBegun frames (record { first = s; later = [] }) pictures (s ∷ []) ms d →
     HoldsBegun frames (record { first = record s { macroblocks = ms }; later = [] }) pictures (record s { macroblocks = ms } ∷ []) ms d
 begun-first frames s pictures ms d h = record {
   begun = h.begun;
-  active = h.active;
-  free = h.free;
+  placed = h.placed;
   format = h.format;
   settled = h.settled;
   so_far = record {
     holds = h.so_far.holds;
     numbers = (h.so_far.numbers.0, tt);
     sets = (h.so_far.sets.0, tt);
-    references = (record { each = h.so_far.references.0.each }, tt);
-    samples = λ making m. h.so_far.samples making (record { parameters = (m.parameters.0, tt); offsets = m.offsets; places = m.places });
+    frames_are = some-map (λ f. HoldsFrames f (record { first = s; later = [] }) pictures (s ∷ []) ms d) _ frames (λ f x. record {
+      references = (record { each = x.references.0.each }, tt);
+      samples = λ making m. x.samples making (record { parameters = (m.parameters.0, tt); offsets = m.offsets; places = m.places });
+    }) h.so_far.frames_are;
   };
 }
 
-begun-later : (frames : ℕ → Frame) (s : CodedSlice) (p : CodedPicture) (ps : List CodedPicture) (ms : List CodedMacroblock) (d : Decoder) →
+begun-later : (frames : Family) (s : CodedSlice) (p : CodedPicture) (ps : List CodedPicture) (ms : List CodedMacroblock) (d : Decoder) →
     HoldsBegun frames p ps (s ∷ slices_of p) ms d →
     HoldsBegun frames (record p { later = record s { macroblocks = ms } ∷ p.later }) ps (record s { macroblocks = ms } ∷ slices_of p) ms d
 begun-later frames s p ps ms d h = record {
   begun = h.begun;
-  active = h.active;
-  free = h.free;
+  placed = h.placed;
   format = h.format;
   settled = h.settled;
   so_far = record {
     holds = h.so_far.holds;
     numbers = (h.so_far.numbers.0, h.so_far.numbers.1);
     sets = (h.so_far.sets.0, h.so_far.sets.1);
-    references = (record { each = h.so_far.references.0.each }, each-slice (λ t k. record { each = k.each }) (slices_of p) h.so_far.references.1);
-    samples = λ making m. h.so_far.samples making (record { parameters = (m.parameters.0, m.parameters.1); offsets = m.offsets; places = m.places });
+    frames_are = some-map (λ f. HoldsFrames f p ps (s ∷ slices_of p) ms d) _ frames (λ f x. record {
+      references = (record { each = x.references.0.each }, each-slice (λ t k. record { each = k.each }) (slices_of p) x.references.1);
+      samples = λ making m. x.samples making (record { parameters = (m.parameters.0, m.parameters.1); offsets = m.offsets; places = m.places });
+    }) h.so_far.frames_are;
   };
 }
 
-first-kept : (frames : ℕ → Frame) (s : CodedSlice) (pictures : List CodedPicture) (ms : List CodedMacroblock) (d : Decoder) →
+first-kept : (frames : Family) (s : CodedSlice) (pictures : List CodedPicture) (ms : List CodedMacroblock) (d : Decoder) →
     HoldsBegun frames (record { first = s; later = [] }) pictures (s ∷ []) ms d ×
     KeepsOutput frames (within_newest (record { first = s; later = [] } ∷ pictures)) (length pictures) d →
     KeepsFrames frames true false (joined_to true (record s { macroblocks = ms }) pictures) d
 first-kept frames s pictures ms d h = record { format = h.0.format; output = h.1; picture = begun-first frames s pictures ms d h.0 }
 
-later-kept : (frames : ℕ → Frame) (s : CodedSlice) (p : CodedPicture) (ps : List CodedPicture) (ms : List CodedMacroblock) (d : Decoder) →
+later-kept : (frames : Family) (s : CodedSlice) (p : CodedPicture) (ps : List CodedPicture) (ms : List CodedMacroblock) (d : Decoder) →
     HoldsBegun frames p ps (s ∷ slices_of p) ms d × KeepsOutput frames (within_newest (p ∷ ps)) (length ps) d →
     KeepsFrames frames true false (joined_to false (record s { macroblocks = ms }) (p ∷ ps)) d
 later-kept frames s p ps ms d h = record { format = h.0.format; output = h.1; picture = begun-later frames s p ps ms d h.0 }
 
-module _ {S X : Type 0} (took : S → List Call → Type 0) (failures : S → ℕ) (frames : ℕ → Frame) (new : Decoder) (s s' : S) (r : Result X Stop)
+module _ {S X : Type 0} (took : S → List Call → Type 0) (failures : S → ℕ) (frames : Family) (new : Decoder) (s s' : S) (r : Result X Stop)
     (slice : CodedSlice) where
   pub first-read : (o : Outcome (List CodedMacroblock × ℕ)) (pictures : List CodedPicture) →
       ReadsSlice (frame_span took failures frames s s') o
@@ -171,7 +173,7 @@ module _ {S X : Type 0} (took : S → List Call → Type 0) (failures : S → �
   }
 
 -- the slice data of a slice after what is kept before them
-pub read-after : {S X : Type 0} (took : S → List Call → Type 0) (failures : S → ℕ) (frames : ℕ → Frame) (old new : Decoder) (s s' : S) (r : Result X Stop)
+pub read-after : {S X : Type 0} (took : S → List Call → Type 0) (failures : S → ℕ) (frames : Family) (old new : Decoder) (s s' : S) (r : Result X Stop)
     (begins : Bool) (pictures : List CodedPicture) (slice : CodedSlice) (c : SliceContext) (body : Body) (at : ℕ) →
     c ≡ context_in (joined_to begins slice pictures) slice → slice.header.first_mb_in_slice.value ≡ length (coded_so_far begins pictures) →
     (begins ≡ false → HasPps slice.pps pictures) → BeginsFrames frames begins slice pictures old →

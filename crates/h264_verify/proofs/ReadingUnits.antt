@@ -1,12 +1,11 @@
 -- Structures that are read from a bit on, and a slice with its slice data.
 use Rattle.std.proofs.Common.{◌≡◌, ℕ, Bool, true, false, List, [], ◌∷◌, Some, Result, Ok, Err, refl, ap, sym, ◌∙◌, subst, length, ◌==◌, eqb-true}
-use Rattle.h264_base.specs.declared.mode.Mode.TheVariants as modes
+use Rattle.h264_verify.specs.declared.state.Depth.TheVariants as depths
 use Rattle.h264_base.specs.declared.stop.Stop.{Stop}
 use Rattle.h264_base.specs.declared.stop.Stop.TheVariants.{No, Outside, Memory, Read, Write}
 use Rattle.h264_base.specs.Call.{Call, span}
 use Rattle.h264_base.specs.Run.{run}
-use Rattle.h264_plane.specs.declared.frame.Frame.{Frame}
-use Rattle.h264_verify.specs.Telling.{Told, took_with}
+use Rattle.h264_verify.specs.Telling.{Told, took_with, Family}
 use Rattle.h264_verify.proofs.Saying.{elements-tell, elements-front}
 use Rattle.h264_base.specs.Body.{Body}
 use Rattle.h264_base.specs.Grammar.{Grammar, Done, ◌>>=◌ as ◌bind◌}
@@ -45,7 +44,7 @@ use Rattle.h264_verify.proofs.Stepping.{outcome}
 use Rattle.h264_verify.proofs.Courses.{seen, structure-seen}
 
 -- What meets a grammar from a bit on plays its outcome, with the bit after it.
-module _ {A S X : Type 0} (frames : ℕ → Frame) (took : S → List Call → Type 0) (failures : S → ℕ) (view : X → A) (g : Grammar A) (body : Body) (i j : ℕ)
+module _ {A S X : Type 0} (frames : Family) (took : S → List Call → Type 0) (failures : S → ℕ) (view : X → A) (g : Grammar A) (body : Body) (i j : ℕ)
     (s s' : S) where
   from-meets : (r : Result X Stop) → MeetsBy (span took failures s s') (Is view) g (record { body = body; at = i }) j r →
       AnswersBy (span took failures s s') (Is view) g (record { body = body; at = i }) j r →
@@ -81,7 +80,7 @@ module _ {A B S X : Type 0} (took : S → List Told → Type 0) (failures : S �
     plays-seen r p = subst (λ (o : Outcome (B × ℕ)). Plays (span took failures s s') (λ (x : X). (f (view x).0, (view x).1)) o r)
         (sym (structure-seen body f g i)) (record { plays = seen-by r p.plays })
 
-pub meets-from : {A S X : Type 0} (frames : ℕ → Frame) (took : S → List Call → Type 0) (failures : S → ℕ) (view : X → A) (g : Grammar A) (body : Body) (i : ℕ)
+pub meets-from : {A S X : Type 0} (frames : Family) (took : S → List Call → Type 0) (failures : S → ℕ) (view : X → A) (g : Grammar A) (body : Body) (i : ℕ)
     (old new : Reader) (s s' : S) (r : Result X Stop) → old ≡ record { body = body; at = i } → Meets (span took failures s s') (Is view) g old new r →
     Answers (span took failures s s') (Is view) g old new r →
     Plays (span (took_with frames took) failures s s') (λ (x : X). (view x, new.at)) (structure_from g body i) r
@@ -105,12 +104,12 @@ place-by : (a b bit : ℕ) → (let r : Result (Unit {0}) Stop = Ok tt in r ≡ 
 place-by a b bit h = eqb-true a b (ok-true (a == b) tt (No bit FirstMb) h)
 
 pub placed : (begins : Bool) (pictures : List CodedPicture) (h : Header) →
-    (let r : Result (Unit {0}) Stop = Ok tt in r ≡ judged (first_mb_demands modes.Full (coded_before begins pictures) h)) →
+    (let r : Result (Unit {0}) Stop = Ok tt in r ≡ judged (first_mb_demands depths.Full (coded_before begins pictures) h)) →
     h.first_mb_in_slice.value ≡ length (coded_so_far begins pictures)
 placed begins pictures h p = place-by h.first_mb_in_slice.value (coded_before begins pictures) h.first_mb_in_slice.bit p ∙ coded-same begins pictures
 
 -- the header of a slice was read
-pub header-read : {S X : Type 0} (frames : ℕ → Frame) (took : S → List Call → Type 0) (failures : S → ℕ) (before : History) (unit : NalUnit) (byte : ℕ)
+pub header-read : {S X : Type 0} (frames : Family) (took : S → List Call → Type 0) (failures : S → ℕ) (before : History) (unit : NalUnit) (byte : ℕ)
     (sets : Maps) (u : SliceUnit) (h : Header) (old new : Reader) (s s' : S) (r : Result X Stop) → sets ≡ maps_of before → byte ≡ header_of unit →
     u ≡ slice_unit_of byte → old ≡ record { body = body_of unit; at = 0 } →
     Meets (span took failures s s') (Is (λ (x : X). h)) (header (sets_of sets) u) old new r →
@@ -152,13 +151,13 @@ module _ {S : Type 0} (took : S → List Told → Type 0) (failures : S → ℕ)
       (Ok x)) where
     -- a rule on it is broken
     pub slice-broken : (s2 : S) (e : Stop) →
-        Plays {X = Unit {0}} (span took failures s1 s2) (λ x. x) (steps_outcome (slice_steps modes.Full before unit h)) (Err e) →
+        Plays {X = Unit {0}} (span took failures s1 s2) (λ x. x) (steps_outcome (slice_steps depths.Full before unit h)) (Err e) →
         Plays {X = Unit {0}} (span took failures s s2) (λ x. []) (whole_slice before unit) (Err e)
     unfolding whole_slice
     slice-broken s2 e p = plays-on took failures header_view (λ x. []) _ _ s s1 s2 x (Err e) read
         (plays-stops took failures (λ (x : Unit {0}). x) (λ x. []) _ _ s1 s2 e p)
 
-    module _ (s2 : S) (y : Unit {0}) (met : Plays (span took failures s1 s2) (λ (x : Unit {0}). x) (steps_outcome (slice_steps modes.Full before unit h))
+    module _ (s2 : S) (y : Unit {0}) (met : Plays (span took failures s1 s2) (λ (x : Unit {0}). x) (steps_outcome (slice_steps depths.Full before unit h))
         (Ok y)) (sets : Pps × Sps) (named : sets_at before h ≡ Some sets) (ms : List CodedMacroblock) (end : ℕ) (s3 : S) where
       abbrev body_data : Grammar (List CodedMacroblock)
       body_data = data_in (begins_at before h) (runs_of before) (with_sets unit h [] sets)

@@ -6,7 +6,7 @@ use Rattle.std.specs.Result.{result_unwrap_or}
 use Rattle.h264_base.proofs.Chains.{then-some}
 use Rattle.h264_bits.specs.declared.element.Found.{Found}
 use Rattle.h264_header.specs.declared.header.Marking.{Marking}
-use Rattle.h264_header.specs.declared.header.Marking.TheVariants as mode
+use Rattle.h264_header.specs.declared.header.Marking.TheVariants as depth
 use Rattle.h264_header.specs.Picture.{is_idr, is_reference}
 use Rattle.h264_marking.specs.declared.frame.Numbering.{Numbering}
 use Rattle.h264_marking.specs.Frames.{References}
@@ -77,15 +77,15 @@ other-among e refs b r a = λ n h.
 bare-holds : (n : ℕ) (c : Numbering) (picture bit : ℕ) (marking : Marking) (refs next : References) → marked c picture bit marking refs ≡ Ok next →
     (is_idr_marking marking || resets_by marking) ≡ true → IsAmong n next.frames → (picture == n) ≡ true
 unfolding marked
-bare-holds n c picture bit (mode.Idr no_output long_term) refs next is t h =
+bare-holds n c picture bit (depth.Idr no_output long_term) refs next is t h =
     let same : idr_references c picture long_term ≡ next = cc in
     alone (picture == n) (subst (λ (r : References). IsAmong n r.frames) (sym same) h)
   where
     alone : (b : Bool) → (b || false) ≡ true → b ≡ true
     alone true e = refl
     alone false e = e
-bare-holds n c picture bit mode.SlidingWindow refs next is t h = cc
-bare-holds n c picture bit (mode.Adaptive operations) refs next is t h = reset-holds n c picture bit (mode.Adaptive operations) refs next is t h
+bare-holds n c picture bit depth.SlidingWindow refs next is t h = cc
+bare-holds n c picture bit (depth.Adaptive operations) refs next is t h = reset-holds n c picture bit (depth.Adaptive operations) refs next is t h
 
 way-empty : (e : Ended) (b : Buffered Shown) → empties e ≡ false → (way_turn e b).buffer ≡ b
 unfolding way_turn

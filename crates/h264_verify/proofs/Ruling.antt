@@ -1,7 +1,7 @@
 -- The rules of a slice, by what is kept of the pictures before it.
 use Rattle.std.proofs.Common.{◌≡◌, ℕ, ◌<◌, ◌≤◌, ◌^◌, ◌==◌, ◌||◌, not, Bool, true, false, List, [], ◌∷◌, map, length, Option, Some, None, Result, Ok, Err}
 use Rattle.std.proofs.Common.{OnOk, refl, ap, sym, ◌∙◌, subst, arith}
-use Rattle.h264_base.specs.declared.mode.Mode.{Mode}
+use Rattle.h264_verify.specs.declared.state.Depth.{Depth}
 use Rattle.std.specs.Prelude.{IfSome}
 use Rattle.h264_units.specs.Stream.{NalUnit}
 use Rattle.h264_sps.specs.declared.sps.Sps.{Sps}
@@ -10,7 +10,6 @@ use Rattle.h264_header.specs.declared.header.Header.{Header}
 use Rattle.h264_header.specs.Picture.{is_idr}
 use Rattle.h264_marking.specs.Gaps.{unused_short_term_frame_nums}
 use Rattle.h264_marking.specs.Ended.{numbering_of}
-use Rattle.h264_plane.specs.declared.frame.Frame.{Frame}
 use Rattle.h264_dpb.specs.Turns.{turn_then}
 use Rattle.h264_verify.specs.declared.decoder.Decoder.{Decoder}
 use Rattle.h264_verify.specs.declared.slices.Slices.{Slices}
@@ -34,6 +33,7 @@ use Rattle.h264_dpb.specs.Kept.{size_of}
 use Rattle.h264_verify.specs.Keeping.{format_of, format_in, IsMadeAs, GoesWith, IsSettled, KeepsFrames, WhereMade, FillsFrames, EntersBy, HoldsOpen}
 use Rattle.h264_verify.specs.Keeping.{KeepsPictures, KeepsSlices, KeepsSomeGap, KeepsSomeRules, first_by, later_by, is_typed}
 use Rattle.h264_verify.proofs.Slicing.{ok-true}
+use Rattle.h264_verify.specs.Telling.{Family}
 
 -- ---- before a picture that begins
 
@@ -42,12 +42,12 @@ few count length e h = omega (arith, e, h)
 
 some-ended : (slices : Slices) (d : Option Decoder) (k : KeepsSomeRules true slices d) → slices.pictures < 2 ^ 42 → KeepsSomeGap d
 some-ended slices d k h = record {
-  mode = k.mode;
+  depth = k.depth;
   frames = k.frames;
   turn = after_all (runs_of k.before);
   next = length (runs_of k.before);
   few = few slices.pictures (length (runs_of k.before)) k.slices_are.kept.pictures_are h;
-  keeps = ended-gap k.mode k.frames _ (runs_of k.before) d k.keeps;
+  keeps = ended-gap k.depth k.frames _ (runs_of k.before) d k.keeps;
 }
 
 pub some-begun : (begins : Bool) (slices : Slices) (d : Option Decoder) → begins ≡ true → KeepsSomeRules begins slices d → slices.pictures < 2 ^ 42 →
@@ -56,10 +56,10 @@ some-begun true slices d b k h = some-ended slices d k h
 some-begun false slices d b k h = cc
 
 -- the rules of a picture's first slice
-pub first-rules : (mode : Mode) (on : Bool) (pictures : List CodedPicture) (slices : Slices) (s : CodedSlice) → KeepsPictures on true pictures slices →
-    first_by mode slices (map counted pictures) (after_all pictures).buffer s ≡ first_slice_rules mode pictures s
-first-rules mode true pictures slices s k = rw (k.newest_idr, k.prev_ref, k.held) refl
-first-rules mode false pictures slices s k = rw (k.newest_idr, k.prev_ref, k.held) refl
+pub first-rules : (depth : Depth) (on : Bool) (pictures : List CodedPicture) (slices : Slices) (s : CodedSlice) → KeepsPictures on true pictures slices →
+    first_by depth slices (map counted pictures) (after_all pictures).buffer s ≡ first_slice_rules depth pictures s
+first-rules depth true pictures slices s k = rw (k.newest_idr, k.prev_ref, k.held) refl
+first-rules depth false pictures slices s k = rw (k.newest_idr, k.prev_ref, k.held) refl
 
 -- what is true wherever there is a decoder, of a picture that is no IDR picture
 idr-some : (idr : Bool) (P : Decoder → Type 0) (d : Option Decoder) → (idr ≡ false → IfSome d P) → IfSome d (λ (x : Decoder). idr ≡ false → P x)
@@ -67,32 +67,32 @@ idr-some idr P None f = tt
 idr-some idr P (Some d) f = f
 
 -- after the gap
-abbrev Gap : (ℕ → Frame) → List CodedPicture → CodedSlice → ℕ → References → Decoder → Type 0
+abbrev Gap : Family → List CodedPicture → CodedSlice → ℕ → References → Decoder → Type 0
 Gap frames pictures slice prev held =
     FillsFrames frames (turn_then (after_all pictures)
     (gaps_turn (numbering_of slice.sps slice.header) (unused_short_term_frame_nums (is_idr slice.header) prev (numbering_of slice.sps slice.header))
     held)) (length pictures)
 
-enters-held : (mode : Mode) (frames : ℕ → Frame) (on : Bool) (pictures : List CodedPicture) (slice : CodedSlice) (d : Option Decoder) →
+enters-held : (depth : Depth) (frames : Family) (on : Bool) (pictures : List CodedPicture) (slice : CodedSlice) (d : Option Decoder) →
     (is_idr slice.header ≡ false → IsMadeAs (format_of slice.sps) d) →
-    WhereMade mode (Gap frames pictures slice (prev_ref_frame_num_of pictures) (held_after pictures)) d →
-    WhereMade mode (EntersBy frames true slice on pictures) d
-enters-held mode frames on pictures slice d m k =
-    made-with _ _ _ mode d (λ x k m. record { format = m; output = k.output; settled = k.settled }) k
+    WhereMade depth (Gap frames pictures slice (prev_ref_frame_num_of pictures) (held_after pictures)) d →
+    WhereMade depth (EntersBy frames true slice on pictures) d
+enters-held depth frames on pictures slice d m k =
+    made-with _ _ _ depth d (λ x k m. record { format = m; output = k.output; settled = k.settled }) k
     (idr-some (is_idr slice.header) (λ (x : Decoder). x.format ≡ Some (format_of slice.sps)) d m)
 
 pub held-all : (on : Bool) (pictures : List CodedPicture) (slices : Slices) → KeepsPictures on true pictures slices → slices.held ≡ held_after pictures
 held-all true pictures slices k = k.held
 held-all false pictures slices k = k.held
 
-pub enters-first : {X E : Type 0} (r : Result X E) (mode : Mode) (frames : ℕ → Frame) (on : Bool) (pictures : List CodedPicture) (slices : Slices)
-    (slice : CodedSlice) (old new : Option Decoder) → WhereMade mode (KeepsFrames frames on true pictures) old → format_in new ≡ format_in old →
+pub enters-first : {X E : Type 0} (r : Result X E) (depth : Depth) (frames : Family) (on : Bool) (pictures : List CodedPicture) (slices : Slices)
+    (slice : CodedSlice) (old new : Option Decoder) → WhereMade depth (KeepsFrames frames on true pictures) old → format_in new ≡ format_in old →
     (is_idr slice.header ≡ false → IsMadeAs (format_of slice.sps) old) → KeepsPictures on true pictures slices →
-    OnOk r (WhereMade mode (Gap frames pictures slice slices.prev_ref_frame_num slices.held) new) →
-    OnOk r (WhereMade mode (EntersBy frames true slice on pictures) new)
-enters-first (Err e) mode frames on pictures slices slice old new keeps same m k g = tt
-enters-first (Ok x) mode frames on pictures slices slice old new keeps same m k g =
-    enters-held mode frames on pictures slice new (λ i. made-same _ _ mode (format_of slice.sps) old new keeps g same (m i))
+    OnOk r (WhereMade depth (Gap frames pictures slice slices.prev_ref_frame_num slices.held) new) →
+    OnOk r (WhereMade depth (EntersBy frames true slice on pictures) new)
+enters-first (Err e) depth frames on pictures slices slice old new keeps same m k g = tt
+enters-first (Ok x) depth frames on pictures slices slice old new keeps same m k g =
+    enters-held depth frames on pictures slice new (λ i. made-same _ _ depth (format_of slice.sps) old new keeps g same (m i))
     (rw (k.prev_ref, held-all on pictures slices k) at g)
 
 -- a picture that is no IDR picture goes on with the sequence of those before it
@@ -103,43 +103,43 @@ module _ (sps : Sps) (usable : is_usable sps ≡ true) where
   settled-places : (d : Decoder) → d.format ≡ Some (format_of sps) → IsSettled d → frame_places sps.max_num_ref_frames ≤ size_of d.output
   settled-places d e s = fit (size_of d.output) (sized d.format (format_of sps) d.output e s.sized)
 
-  format-with : (frames : ℕ → Frame) (on : Bool) (pictures : List CodedPicture) → HasSet sps pictures →
+  format-with : (frames : Family) (on : Bool) (pictures : List CodedPicture) → HasSet sps pictures →
       (d : Decoder) → KeepsFrames frames on true pictures d → d.format ≡ Some (format_of sps)
   format-with frames on [] h d k = absurd h
   format-with frames on (p ∷ ps) h d k = k.format ∙ ap (λ (x : Sps). Some (format_of x)) h
 
-  places-with : (frames : ℕ → Frame) (on : Bool) (pictures : List CodedPicture) → HasSet sps pictures →
+  places-with : (frames : Family) (on : Bool) (pictures : List CodedPicture) → HasSet sps pictures →
       (d : Decoder) → KeepsFrames frames on true pictures d → frame_places sps.max_num_ref_frames ≤ size_of d.output
   places-with frames on pictures h d k = settled-places d (format-with frames on pictures h d k) (gap-by frames on pictures d k).settled
 
-  goes-after : (mode : Mode) (frames : ℕ → Frame) (on : Bool) (pictures : List CodedPicture) (slices : Slices) (decoder : Option Decoder) →
-      KeepsPictures on true pictures slices → AreSound (has_ended on true) pictures → WhereMade mode (KeepsFrames frames on true pictures) decoder →
+  goes-after : (depth : Depth) (frames : Family) (on : Bool) (pictures : List CodedPicture) (slices : Slices) (decoder : Option Decoder) →
+      KeepsPictures on true pictures slices → AreSound (has_ended on true) pictures → WhereMade depth (KeepsFrames frames on true pictures) decoder →
       HasSet sps pictures → GoesWith sps slices.held decoder
-  goes-after mode frames on pictures slices decoder k s f h = record {
+  goes-after depth frames on pictures slices decoder k s f h = record {
     few = subst (λ (r : References). length r.frames ≤ frame_places sps.max_num_ref_frames) (sym (held-all on pictures slices k))
         (set-few sps pictures h (ended-sound-of on pictures s));
-    places = made-some _ mode decoder (made-then _ (λ d. frame_places sps.max_num_ref_frames ≤ size_of d.output) mode decoder
+    places = made-some _ depth decoder (made-then _ (λ d. frame_places sps.max_num_ref_frames ≤ size_of d.output) depth decoder
         (places-with frames on pictures h) f);
-    format = made-some _ mode decoder (made-then _ (λ d. d.format ≡ Some (format_of sps)) mode decoder (format-with frames on pictures h) f);
+    format = made-some _ depth decoder (made-then _ (λ d. d.format ≡ Some (format_of sps)) depth decoder (format-with frames on pictures h) f);
   }
 
-  pub goes-with : (mode : Mode) (begins : Bool) (frames : ℕ → Frame) (before : History) (slices : Slices) (decoder : Option Decoder) → begins ≡ true →
-      KeepsSlices before begins slices → WhereMade mode (KeepsFrames frames (goes_on before) begins (runs_of before)) decoder → HasSet sps (runs_of before) →
+  pub goes-with : (depth : Depth) (begins : Bool) (frames : Family) (before : History) (slices : Slices) (decoder : Option Decoder) → begins ≡ true →
+      KeepsSlices before begins slices → WhereMade depth (KeepsFrames frames (goes_on before) begins (runs_of before)) decoder → HasSet sps (runs_of before) →
       GoesWith sps slices.held decoder
-  goes-with mode true frames before slices decoder b k f h = goes-after mode frames (goes_on before) (runs_of before) slices decoder k.kept k.sound f h
-  goes-with mode false frames before slices decoder b k f h = cc
+  goes-with depth true frames before slices decoder b k f h = goes-after depth frames (goes_on before) (runs_of before) slices decoder k.kept k.sound f h
+  goes-with depth false frames before slices decoder b k f h = cc
 
 -- ---- a slice that goes on
 
-enters-on : (frames : ℕ → Frame) (on : Bool) (pictures : List CodedPicture) (slice : CodedSlice) (h : Header) → begins_after (open_of on pictures) h ≡ false →
+enters-on : (frames : Family) (on : Bool) (pictures : List CodedPicture) (slice : CodedSlice) (h : Header) → begins_after (open_of on pictures) h ≡ false →
     (d : Decoder) → KeepsFrames frames on false pictures d → EntersBy frames false slice on pictures d
 enters-on frames on [] slice h b d k = cc
 enters-on frames on (p ∷ ps) slice h b d k = k
 
-pub enters-later : (mode : Mode) (frames : ℕ → Frame) (on : Bool) (pictures : List CodedPicture) (slice : CodedSlice) (h : Header)
-    (decoder : Option Decoder) → begins_after (open_of on pictures) h ≡ false → WhereMade mode (KeepsFrames frames on false pictures) decoder →
-    WhereMade mode (EntersBy frames false slice on pictures) decoder
-enters-later mode frames on pictures slice h decoder b k = made-then _ _ mode decoder (enters-on frames on pictures slice h b) k
+pub enters-later : (depth : Depth) (frames : Family) (on : Bool) (pictures : List CodedPicture) (slice : CodedSlice) (h : Header)
+    (decoder : Option Decoder) → begins_after (open_of on pictures) h ≡ false → WhereMade depth (KeepsFrames frames on false pictures) decoder →
+    WhereMade depth (EntersBy frames false slice on pictures) decoder
+enters-later depth frames on pictures slice h decoder b k = made-then _ _ depth decoder (enters-on frames on pictures slice h b) k
 
 later-open : (p : CodedPicture) (ps : List CodedPicture) (slices : Slices) (pps : Pps) (sps : Sps) (h : Header) (unit : NalUnit) (o : Option OpenPicture) →
     slices.picture ≡ o → HoldsOpen (Some p) o → slices.held ≡ held_in (p ∷ ps) →

@@ -1,10 +1,9 @@
 -- A slice has taken its place, and its rules are judged.
 use Rattle.std.proofs.Common.{◌≡◌, ℕ, Bool, true, false, List, [], ◌∷◌, Option, Some, Result, OnOk, sym, subst}
-use Rattle.h264_base.specs.declared.mode.Mode.{Mode}
+use Rattle.h264_verify.specs.declared.state.Depth.{Depth}
 use Rattle.h264_base.specs.declared.stop.Stop.{Stop}
 use Rattle.h264_base.specs.Call.{Call, span}
 use Rattle.h264_units.specs.Stream.{NalUnit}
-use Rattle.h264_plane.specs.declared.frame.Frame.{Frame}
 use Rattle.h264_near.specs.Coded.{CodedMacroblock}
 use Rattle.h264_sps.specs.declared.sps.Sps.{Sps}
 use Rattle.h264_sps.specs.Usable.{is_usable}
@@ -18,7 +17,7 @@ use Rattle.h264_marking.specs.Gaps.{all_filled, unused_short_term_frame_nums}
 use Rattle.h264_verify.specs.declared.decoder.Decoder.{Decoder}
 use Rattle.h264_verify.specs.declared.slices.Slices.{Slices}
 use Rattle.h264_verify.specs.declared.state.State.{State}
-use Rattle.h264_verify.specs.Telling.{took_with, frame_span}
+use Rattle.h264_verify.specs.Telling.{took_with, frame_span, Family}
 use Rattle.h264_verify.specs.Outcome.{Plays}
 use Rattle.h264_verify.specs.StepOutcome.{steps_outcome}
 use Rattle.h264_verify.specs.Content as contents
@@ -32,12 +31,12 @@ use Rattle.h264_verify.proofs.Ruling.{goes-with}
 use Rattle.h264_verify.proofs.Standing.{stands-if, before-active, joined-sound, gap-filled, joined-active, joined-named}
 use Rattle.h264_verify.proofs.Judged.{closed-on, own-then}
 
-module _ {S : Type 0} (mode : Mode) (took : S → List Call → Type 0) (failures : S → ℕ) (frames : ℕ → Frame) (before : History) (unit : NalUnit) (h : Header)
-    (begins : Bool) (old mid : State) (s s1 : S) (placed : PlacesSlice mode (frame_span took failures frames s s1) (slice_after before unit h begins) old mid)
+module _ {S : Type 0} (depth : Depth) (took : S → List Call → Type 0) (failures : S → ℕ) (frames : Family) (before : History) (unit : NalUnit) (h : Header)
+    (begins : Bool) (old mid : State) (s s1 : S) (placed : PlacesSlice depth (frame_span took failures frames s s1) (slice_after before unit h begins) old mid)
   where
     -- there are pictures of which this is kept before its rules
     pub some-rules : KeepsSomeRules begins mid.slices mid.decoder
-    some-rules = record { mode = mode; frames = placed.closes.made; before = before; slices_are = placed.ended; keeps = placed.closes.keeps }
+    some-rules = record { depth = depth; frames = placed.closes.made; before = before; slices_are = placed.ended; keeps = placed.closes.keeps }
 
     module _ (pps : Pps) (sps : Sps) (m : old.sets ≡ maps_of before) (sets : sets_of old.sets h.pic_parameter_set_id.value ≡ Some (pps, sps)) where
       abbrev slice : List CodedMacroblock → CodedSlice
@@ -48,20 +47,20 @@ module _ {S : Type 0} (mode : Mode) (took : S → List Call → Type 0) (failure
       goes-on-with usable begun i =
           let set = stands-if begins _ (runs_of before) old.sets sps _ h (before-active before begins _ _ placed.ended m) (placed.stands (pps, sps) sets) begun
           i in
-          goes-with sps usable mode begins placed.closes.made before mid.slices mid.decoder begun placed.ended placed.closes.keeps set
+          goes-with sps usable depth begins placed.closes.made before mid.slices mid.decoder begun placed.ended placed.closes.keeps set
 
       module _ (b : begins ≡ begins_at before h) where
         -- what comes to pass of it
         pub judges-rules : (new : Option Decoder) (s2 : S) (r : Result (Unit {0}) Stop) →
             Plays (span (took_with placed.closes.made took) failures s1 s2) (λ (x : Unit {0}). x)
-            (steps_outcome (told_rules mode begins (runs_of before) (slice []))) r →
-            OnOk r (WhereMade mode (EntersBy placed.closes.made begins (slice []) (goes_on before) (runs_of before)) new) →
-            JudgesSlice mode (frame_span took failures frames s s2) (slice_after before unit h begins) (pps, sps) new r
+            (steps_outcome (told_rules depth begins (runs_of before) (slice []))) r →
+            OnOk r (WhereMade depth (EntersBy placed.closes.made begins (slice []) (goes_on before) (runs_of before)) new) →
+            JudgesSlice depth (frame_span took failures frames s s2) (slice_after before unit h begins) (pps, sps) new r
         judges-rules new s2 r plays enters = record {
           made = placed.closes.made;
           same = placed.closes.same;
-          plays = closed-on (took_with placed.closes.made took) failures mode before unit h begins b s s1 s2 tt r placed.closes.plays
-              (own-then (took_with placed.closes.made took) failures mode before unit h begins b mid.slices.due old.sets placed.ended.due m (pps, sps) sets tt
+          plays = closed-on (took_with placed.closes.made took) failures depth before unit h begins b s s1 s2 tt r placed.closes.plays
+              (own-then (took_with placed.closes.made took) failures depth before unit h begins b mid.slices.due old.sets placed.ended.due m (pps, sps) sets tt
               (placed.stands (pps, sps) sets) tt placed.first s1 s2 r plays);
           enters = enters;
         }

@@ -16,7 +16,7 @@ use Rattle.h264_header.proofs.Named.{named-pair}
 use Rattle.h264_sets.specs.declared.SetPair.{SetPair}
 use Rattle.h264_header.specs.declared.header.Header.{Header}
 use Rattle.h264_header.specs.Layout.{sets_of}
-use Rattle.h264_base.specs.declared.mode.Mode.{Mode}
+use Rattle.h264_verify.specs.declared.state.Depth.{Depth}
 use Rattle.h264_verify.specs.Content as contents
 use Rattle.h264_verify.specs.Outcome.{Outcome, answers, Plays, IsNamed}
 use Rattle.h264_verify.specs.Demands.{Demand, judged}
@@ -161,10 +161,10 @@ refused took failures steps s e h n = subst (λ (o : Outcome (Unit {0})). Plays 
     (answers-plays took failures e s n)
 
 -- The steps of a slice, after what is kept of the units before it.
-module _ (mode : Mode) (before : History) (unit : NalUnit) (h : Header) (begins : Bool) (b : begins ≡ begins_at before h) where
+module _ (depth : Depth) (before : History) (unit : NalUnit) (h : Header) (begins : Bool) (b : begins ≡ begins_at before h) where
   -- its own rules, and that it is told
   abbrev pub own_steps : List Step
-  own_steps = steps_by mode (sets_at before h) before unit h
+  own_steps = steps_by depth (sets_at before h) before unit h
 
   module _ (due : Bool) (maps : Maps) (due-is : due ≡ is_idr_due before) (maps-are : maps ≡ maps_of before) where
     abbrev slice : Pps × Sps → CodedSlice
@@ -175,30 +175,30 @@ module _ (mode : Mode) (before : History) (unit : NalUnit) (h : Header) (begins 
     call sets = Said (slice_call (joined_to begins (slice sets) (runs_of before)) (slice sets))
 
     abbrev place : List Demand
-    place = first_mb_demands mode (coded_before begins (runs_of before)) h
+    place = first_mb_demands depth (coded_before begins (runs_of before)) h
 
     abbrev pub rules_then : Pps × Sps → List Step
-    rules_then sets = told_rules mode begins (runs_of before) (slice sets)
+    rules_then sets = told_rules depth begins (runs_of before) (slice sets)
 
     three : (xs ys zs ts : List Step) → (xs ++ (ys ++ zs)) ++ ts ≡ xs ++ (ys ++ (zs ++ ts))
     three xs ys zs ts = append_assoc xs (ys ++ zs) ts ∙ ap (λ (l : List Step). xs ++ l) (append_assoc ys zs ts)
 
-    standing-rest : (begins : Bool) (sets : Pps × Sps) (ts : List Step) → rules_of mode begins due maps (runs_of before) (slice sets) ++ ts ≡
+    standing-rest : (begins : Bool) (sets : Pps × Sps) (ts : List Step) → rules_of depth begins due maps (runs_of before) (slice sets) ++ ts ≡
         needs (standing_demands begins sets.1 due maps (8 * unit.from) h) ++
-        (needs (first_mb_demands mode (coded_before begins (runs_of before)) h) ++ (slice_rules mode begins (runs_of before) (slice sets) ++ ts))
-    standing-rest true sets ts = three (needs (standing_demands true sets.1 due maps (8 * unit.from) h)) (needs (first_mb_demands mode 0 h))
-        (slice_rules mode true (runs_of before) (slice sets)) ts
+        (needs (first_mb_demands depth (coded_before begins (runs_of before)) h) ++ (slice_rules depth begins (runs_of before) (slice sets) ++ ts))
+    standing-rest true sets ts = three (needs (standing_demands true sets.1 due maps (8 * unit.from) h)) (needs (first_mb_demands depth 0 h))
+        (slice_rules depth true (runs_of before) (slice sets)) ts
     standing-rest false sets ts = three (needs (standing_demands false sets.1 due maps (8 * unit.from) h))
-        (needs (first_mb_demands mode (coded_before false (runs_of before)) h)) (slice_rules mode false (runs_of before) (slice sets)) ts
+        (needs (first_mb_demands depth (coded_before false (runs_of before)) h)) (slice_rules depth false (runs_of before) (slice sets)) ts
 
     with-sets : (sets : Pps × Sps) → sets_of maps h.pic_parameter_set_id.value ≡ Some sets →
         steps_outcome own_steps ≡ after_rules (judged (standing_demands begins sets.1 due maps (8 * unit.from) h)) (needs place ++ rules_then sets)
     with-sets sets n =
-        ap (λ o. steps_outcome (steps_by mode o before unit h)) (ap (λ m. sets_of m h.pic_parameter_set_id.value) (sym maps-are) ∙ n)
-        ∙ ap (λ x. steps_outcome (rules_of mode x (is_idr_due before) (maps_of before) (runs_of before) (slice sets) ++
+        ap (λ o. steps_outcome (steps_by depth o before unit h)) (ap (λ m. sets_of m h.pic_parameter_set_id.value) (sym maps-are) ∙ n)
+        ∙ ap (λ x. steps_outcome (rules_of depth x (is_idr_due before) (maps_of before) (runs_of before) (slice sets) ++
         Tells (Said (slice_call (joined_to x (slice sets) (runs_of before)) (slice sets))) ∷ [])) (sym b)
-        ∙ ap (λ x. steps_outcome (rules_of mode begins x (maps_of before) (runs_of before) (slice sets) ++ Tells (call sets) ∷ [])) (sym due-is)
-        ∙ ap (λ m. steps_outcome (rules_of mode begins due m (runs_of before) (slice sets) ++ Tells (call sets) ∷ [])) (sym maps-are)
+        ∙ ap (λ x. steps_outcome (rules_of depth begins x (maps_of before) (runs_of before) (slice sets) ++ Tells (call sets) ∷ [])) (sym due-is)
+        ∙ ap (λ m. steps_outcome (rules_of depth begins due m (runs_of before) (slice sets) ++ Tells (call sets) ∷ [])) (sym maps-are)
         ∙ ap steps_outcome (standing-rest begins sets (Tells (call sets) ∷ []))
         ∙ needs-first (standing_demands begins sets.1 due maps (8 * unit.from) h) (needs place ++ rules_then sets)
 
@@ -217,5 +217,5 @@ module _ (mode : Mode) (before : History) (unit : NalUnit) (h : Header) (begins 
       at-place e p = after-standing ∙ needs-err place (rules_then sets) e (sym p)
 
       -- the rules of the slice, and then it is told
-      pub after-place : (y : Unit {0}) → Ok y ≡ judged place → steps_outcome own_steps ≡ steps_outcome (told_rules mode begins (runs_of before) (slice sets))
+      pub after-place : (y : Unit {0}) → Ok y ≡ judged place → steps_outcome own_steps ≡ steps_outcome (told_rules depth begins (runs_of before) (slice sets))
       after-place y placed = after-standing ∙ needs-ok place (rules_then sets) y (sym placed)

@@ -11,7 +11,7 @@ use Rattle.h264_bits.specs.declared.element.Found.{Found}
 use Rattle.h264_sps.specs.declared.sps.Sps.{Sps}
 use Rattle.h264_sps.specs.Usable.{is_usable, is_frame_size, crops_within, given_frames, dpb_frames, holds_references, buffers_within}
 use Rattle.h264_header.specs.declared.header.Marking.{Marking}
-use Rattle.h264_header.specs.declared.header.Marking.TheVariants as mode
+use Rattle.h264_header.specs.declared.header.Marking.TheVariants as depth
 use Rattle.h264_header.specs.Picture.{is_idr, is_reference}
 use Rattle.h264_marking.specs.declared.frame.ReferenceFrame.{ReferenceFrame}
 use Rattle.h264_marking.specs.declared.frame.Numbering.{Numbering}
@@ -138,14 +138,14 @@ joined-own c picture bit (Ok marks) next is = own-held c picture marks next (fro
 marked-own : (c : Numbering) (picture bit : ℕ) (marking : Marking) (refs next : References) → marked c picture bit marking refs ≡ Ok next →
     is_held (names next) picture ≡ true
 unfolding marked
-marked-own c picture bit (mode.Idr no_output long_term) refs next is =
+marked-own c picture bit (depth.Idr no_output long_term) refs next is =
     let e : ◌≡◌ {A = List (Option ℕ)} (Some picture ∷ []) (names next) = ap (λ (r : Result References ℕ). names (result_unwrap_or r refs)) is in
     subst (λ (l : List (Option ℕ)). is_held l picture ≡ true) e (true-or _ _ (is-same picture))
-marked-own c picture bit mode.SlidingWindow refs next is =
+marked-own c picture bit depth.SlidingWindow refs next is =
     let s = then-some (λ frames. with_own c picture (with_frames (marks_of refs) frames)) (slide c refs.frames) next
     (from-ok (slid_and_joined c picture refs) bit next is) in
     own-held c picture (with_frames (marks_of refs) s.0) next s.2
-marked-own c picture bit (mode.Adaptive operations) refs next is = joined-own c picture bit (all_operated c operations.items (marks_of refs)) next is
+marked-own c picture bit (depth.Adaptive operations) refs next is = joined-own c picture bit (all_operated c operations.items (marks_of refs)) next is
 
 marked-among : (n : Numbering) (number bit : ℕ) (marking : Marking) (refs : References) (r : Result References ℕ) → marked n number bit marking refs ≡ r →
     is_met r ≡ true → is_held (names (result_unwrap_or r refs)) number ≡ true

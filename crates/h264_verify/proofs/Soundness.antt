@@ -1,8 +1,8 @@
 -- With one unit more the pictures are sound, where its rules are met.
 use Rattle.std.proofs.Common.{◌≡◌, ℕ, ◌&&◌, not, Bool, true, false, List, [], ◌∷◌, ◌++◌, Option, Some, None, refl, if◌then◌else◌}
 use Rattle.std.specs.Option.{is_some, option_and_then}
-use Rattle.h264_base.specs.declared.mode.Mode.{Mode}
-use Rattle.h264_base.specs.declared.mode.Mode.TheVariants as modes
+use Rattle.h264_verify.specs.declared.state.Depth.{Depth}
+use Rattle.h264_verify.specs.declared.state.Depth.TheVariants as depths
 use Rattle.h264_marking.specs.declared.frame.Numbering.{Numbering}
 use Rattle.h264_marking.specs.Frames.{References}
 use Rattle.h264_marking.specs.Window.{filled}
@@ -52,24 +52,24 @@ filled-on None steps next t m f = cc
 filled-on (Some held) steps next t m f = f held m
 
 -- its missing numbers were filled
-missing-filled : (mode : Mode) (bit : ℕ) (n : Numbering) (numbers : List ℕ) (refs : References) (b : Buffered Shown) →
-    Met (missing_steps mode bit n numbers refs b) → is_some (all_filled n numbers refs) ≡ true
-missing-filled mode bit n [] refs b m = refl
-missing-filled mode bit n (number ∷ numbers) refs b m =
+missing-filled : (depth : Depth) (bit : ℕ) (n : Numbering) (numbers : List ℕ) (refs : References) (b : Buffered Shown) →
+    Met (missing_steps depth bit n numbers refs b) → is_some (all_filled n numbers refs) ≡ true
+missing-filled depth bit n [] refs b m = refl
+missing-filled depth bit n (number ∷ numbers) refs b m =
     filled-on (filled (record n { frame_num = number }) refs)
-    (λ held. told_frames mode (missing_turn held b).written ++ missing_steps mode bit n numbers held (missing_turn held b).buffer) (all_filled n numbers)
+    (λ held. told_frames depth (missing_turn held b).written ++ missing_steps depth bit n numbers held (missing_turn held b).buffer) (all_filled n numbers)
     m.0 m.1
-    (λ held k. missing-filled mode bit n numbers held (missing_turn held b).buffer
-    (met-last (told_frames mode (missing_turn held b).written) (missing_steps mode bit n numbers held (missing_turn held b).buffer) k))
+    (λ held k. missing-filled depth bit n numbers held (missing_turn held b).buffer
+    (met-last (told_frames depth (missing_turn held b).written) (missing_steps depth bit n numbers held (missing_turn held b).buffer) k))
 
 -- where a slice that begins a picture has met its rules
-pub begun-filled : (begins due : Bool) (maps : Maps) (pictures : List CodedPicture) (s : CodedSlice) → Met (rules_of modes.Full begins due maps pictures s) →
+pub begun-filled : (begins due : Bool) (maps : Maps) (pictures : List CodedPicture) (s : CodedSlice) → Met (rules_of depths.Full begins due maps pictures s) →
     begins ≡ true → has_gap_filled (record { first = s; later = [] }) pictures ≡ true
 begun-filled true due maps pictures s m b =
     let n = numbering_of s.sps s.header in
     let missing = missing_before (record { first = s; later = [] }) pictures in
-    let steps = missing_steps modes.Full s.header.frame_num.bit n missing (held_after pictures) (after_all pictures).buffer in
-    missing-filled modes.Full s.header.frame_num.bit n missing (held_after pictures) (after_all pictures).buffer
+    let steps = missing_steps depths.Full s.header.frame_num.bit n missing (held_after pictures) (after_all pictures).buffer in
+    missing-filled depths.Full s.header.frame_num.bit n missing (held_after pictures) (after_all pictures).buffer
     (met-first steps _ (met-first (steps ++ _) _ m.1.1.1.1.1.1))
 begun-filled false due maps pictures s m b = cc
 

@@ -2,9 +2,9 @@
 use Rattle.std.proofs.Common.{◌≡◌, ℕ, ◌*◌, arith, append_assoc, ⊎_elim, Bool, true, false, List, [], ◌∷◌, ◌++◌, length, ◌⊎◌, inl, inr, Option, Some, None}
 use Rattle.std.proofs.Common.{Result, Ok, Err, refl, ap, sym, ◌∙◌, subst, if◌then◌else◌}
 use Rattle.std.proofs.lemmas.List.{append-nil}
-use Rattle.h264_verify.specs.Units.{terms_of}
+use Rattle.h264_verify.specs.Units.{extent_at}
 use Rattle.h264_base.specs.declared.mode.Target.{Target}
-use Rattle.h264_base.specs.declared.mode.Mode.TheVariants as modes
+use Rattle.h264_verify.specs.declared.state.Depth.TheVariants as depths
 use Rattle.h264_base.specs.declared.stop.Stop.{Stop}
 use Rattle.h264_base.specs.Body.{Body}
 use Rattle.h264_base.specs.Call.{Call}
@@ -16,7 +16,7 @@ use Rattle.h264_pps.specs.declared.Pps.{Pps}
 use Rattle.h264_header.specs.declared.header.Header.{Header}
 use Rattle.h264_plane.specs.declared.frame.Frame.{Frame}
 use Rattle.h264_base.specs.declared.summary.Summary.{Summary}
-use Rattle.h264_verify.specs.Telling.{Told, Said, Decodes, Shows, calls_of, HasFrame, AreDecoded, AreOf}
+use Rattle.h264_verify.specs.Telling.{Told, Said, Decodes, Shows, calls_of, HasFrame, AreDecoded, AreOf, Family}
 use Rattle.h264_verify.specs.Demands.{Demand}
 use Rattle.h264_verify.specs.Outcome.{Outcome}
 use Rattle.h264_verify.specs.Steps.{Step, Needs, Tells, needs, AreMet, IsFirstStop, told}
@@ -61,8 +61,8 @@ of-unit target before unit =
     record {
       rules = λ ds. of-keeps n (needs ds) (needs-of n ds);
       said = λ call. of-keeps n (Tells (Said call) ∷ []) (tt, tt);
-      ends = of-keeps n (end_steps_at before unit) (picture-end-of (terms_of modes.Full target) before unit n (λ e. omega arith));
-      slice = λ h. of-keeps n (slice_steps modes.Full before unit h) (slice-of n modes.Full before unit h (λ e. omega arith));
+      ends = of-keeps n (end_steps_at before unit) (picture-end-of (extent_at depths.Full target) before unit n (λ e. omega arith));
+      slice = λ h. of-keeps n (slice_steps depths.Full before unit h) (slice-of n depths.Full before unit h (λ e. omega arith));
     }
 
 -- ---- it tells of no frame before the picture that may go on has ended
@@ -97,7 +97,7 @@ module _ (before : History) (p : CodedPicture) (ps : List CodedPicture) (runs : 
 
   -- the picture has its frame, or no picture is told
   abbrev Knows : List Told → Type 0
-  Knows calls = (frames : ℕ → Frame) → AreDecoded frames calls → HasFrame frames (p ∷ ps)
+  Knows calls = (frames : Family) → AreDecoded frames calls → HasFrame frames (p ∷ ps)
 
   fair-frames : (n : ℕ) (calls : List Told) → IsFair calls → AreOf n calls ⊎ Knows calls
   fair-frames n [] h = inl tt
@@ -151,7 +151,7 @@ module _ (before : History) (p : CodedPicture) (ps : List CodedPicture) (runs : 
   if-fair true steps h = h
   if-fair false steps h = tt
 
-  whole-fair : AreFair (whole_steps modes.Full before)
+  whole-fair : AreFair (whole_steps depths.Full before)
   whole-fair = if-fair (goes_on before) (whole_picture (runs_of before)) (by (runs_of before))
     where
       by : (pictures : List CodedPicture) → AreFair (whole_picture pictures)
@@ -159,42 +159,43 @@ module _ (before : History) (p : CodedPicture) (ps : List CodedPicture) (runs : 
       by (q ∷ qs) = tt
 
   -- the end of the picture, and whatever comes after it
-  closing-fair : (more : List Step) → AreFair (closing_frames modes.Full before ++ more)
+  closing-fair : (more : List Step) → AreFair (closing_frames depths.Full before ++ more)
   closing-fair more =
-      let go : AreFair (end_frames modes.Full (runs_of before) ++ more) =
-      subst (λ pictures. AreFair (end_frames modes.Full pictures ++ more)) (sym runs) refl in
-      subst (λ (b : Bool). AreFair ((if b then end_frames modes.Full (runs_of before) else []) ++ more)) (sym on) go
+      let go : AreFair (end_frames depths.Full (runs_of before) ++ more) =
+      subst (λ pictures. AreFair (end_frames depths.Full pictures ++ more)) (sym runs) refl in
+      subst (λ (b : Bool). AreFair ((if b then end_frames depths.Full (runs_of before) else []) ++ more)) (sym on) go
 
-  closes-fair : AreFair (closing_frames modes.Full before)
-  closes-fair = if-fair (goes_on before) (end_frames modes.Full (runs_of before)) (subst (λ pictures. AreFair (end_frames modes.Full pictures)) (sym runs) refl)
+  closes-fair : AreFair (closing_frames depths.Full before)
+  closes-fair = if-fair (goes_on before) (end_frames depths.Full (runs_of before))
+      (subst (λ pictures. AreFair (end_frames depths.Full pictures)) (sym runs) refl)
 
   ends-fair : (unit : NalUnit) → AreFair (end_steps_at before unit)
   ends-fair unit =
       let kind = nal_unit_type (header_of unit) in
-      steps-fair (whole_at modes.Full kind before) (needs (closing_at kind before) ++ frames_at modes.Full kind before)
-      (if-fair (ends_picture kind) (whole_steps modes.Full before) whole-fair)
-      (steps-fair (needs (closing_at kind before)) (frames_at modes.Full kind before) (needs-fair (closing_at kind before))
-      (if-fair (ends_picture kind) (closing_frames modes.Full before) closes-fair))
+      steps-fair (whole_at depths.Full kind before) (needs (closing_at kind before) ++ frames_at depths.Full kind before)
+      (if-fair (ends_picture kind) (whole_steps depths.Full before) whole-fair)
+      (steps-fair (needs (closing_at kind before)) (frames_at depths.Full kind before) (needs-fair (closing_at kind before))
+      (if-fair (ends_picture kind) (closing_frames depths.Full before) closes-fair))
 
-  later-fair : (unit : NalUnit) (h : Header) → begins_at before h ≡ false → (o : Option (Pps × Sps)) → AreFair (steps_by modes.Full o before unit h)
+  later-fair : (unit : NalUnit) (h : Header) → begins_at before h ≡ false → (o : Option (Pps × Sps)) → AreFair (steps_by depths.Full o before unit h)
   later-fair unit h b None = tt
   later-fair unit h b (Some sets) =
       let s = with_sets unit h [] sets in
-      steps-fair (rules_of modes.Full (begins_at before h) (is_idr_due before) (maps_of before) (runs_of before) s)
+      steps-fair (rules_of depths.Full (begins_at before h) (is_idr_due before) (maps_of before) (runs_of before) s)
       (Tells (Said (slice_call (joined_to (begins_at before h) s (runs_of before)) s)) ∷ [])
-      (subst (λ (x : Bool). AreFair (rules_of modes.Full x (is_idr_due before) (maps_of before) (runs_of before) s)) (sym b) (tt)) tt
+      (subst (λ (x : Bool). AreFair (rules_of depths.Full x (is_idr_due before) (maps_of before) (runs_of before) s)) (sym b) (tt)) tt
 
   begins-fair : (unit : NalUnit) (h : Header) (b : Bool) → begins_at before h ≡ b →
-      AreFair ((if b then closing_frames modes.Full before else []) ++ steps_by modes.Full (sets_at before h) before unit h)
-  begins-fair unit h true e = closing-fair (steps_by modes.Full (sets_at before h) before unit h)
+      AreFair ((if b then closing_frames depths.Full before else []) ++ steps_by depths.Full (sets_at before h) before unit h)
+  begins-fair unit h true e = closing-fair (steps_by depths.Full (sets_at before h) before unit h)
   begins-fair unit h false e = later-fair unit h e (sets_at before h)
 
-  slice-fair : (unit : NalUnit) (h : Header) → AreFair (slice_steps modes.Full before unit h)
+  slice-fair : (unit : NalUnit) (h : Header) → AreFair (slice_steps depths.Full before unit h)
   slice-fair unit h =
       let b = begins_at before h in
       let closing = needs (if b then closing_demands before else []) in
-      let rest = (if b then closing_frames modes.Full before else []) ++ steps_by modes.Full (sets_at before h) before unit h in
-      steps-fair (if b then whole_steps modes.Full before else []) (closing ++ rest) (if-fair b (whole_steps modes.Full before) whole-fair)
+      let rest = (if b then closing_frames depths.Full before else []) ++ steps_by depths.Full (sets_at before h) before unit h in
+      steps-fair (if b then whole_steps depths.Full before else []) (closing ++ rest) (if-fair b (whole_steps depths.Full before) whole-fair)
       (steps-fair closing rest (needs-fair (if b then closing_demands before else [])) (begins-fair unit h b refl))
 
   fair-unit : (unit : NalUnit) → UnitKeeps IsFair before unit
@@ -202,21 +203,21 @@ module _ (before : History) (p : CodedPicture) (ps : List CodedPicture) (runs : 
     rules = λ ds. fair-keeps (needs ds) (needs-fair ds);
     said = λ call. fair-keeps (Tells (Said call) ∷ []) tt;
     ends = fair-keeps (end_steps_at before unit) (ends-fair unit);
-    slice = λ h. fair-keeps (slice_steps modes.Full before unit h) (slice-fair unit h);
+    slice = λ h. fair-keeps (slice_steps depths.Full before unit h) (slice-fair unit h);
   }
 
-  end-fair : (bit : ℕ) → AreFair (end_steps modes.Full before bit)
+  end-fair : (bit : ℕ) → AreFair (end_steps depths.Full before bit)
   end-fair bit =
-      let rest = closing_frames modes.Full before ++ (needs (picture_demand modes.Full before bit ∷ []) ++ last_frames modes.Full (runs_of before)) in
-      steps-fair (whole_steps modes.Full before) (needs (closing_demands before) ++ rest) whole-fair
+      let rest = closing_frames depths.Full before ++ (needs (picture_demand depths.Full before bit ∷ []) ++ last_frames depths.Full (runs_of before)) in
+      steps-fair (whole_steps depths.Full before) (needs (closing_demands before) ++ rest) whole-fair
       (steps-fair (needs (closing_demands before)) rest (needs-fair (closing_demands before))
-      (closing-fair (needs (picture_demand modes.Full before bit ∷ []) ++ last_frames modes.Full (runs_of before))))
+      (closing-fair (needs (picture_demand depths.Full before bit ∷ []) ++ last_frames depths.Full (runs_of before))))
 
   after-fair : (target : Target) (units : List NalUnit) (tail : Tail) (end : ℕ) (stop : Stop) (calls : List Told) →
-      IsStopAfter (terms_of modes.Full target) before (remainder units tail end) stop calls → IsFair calls
+      IsStopAfter (extent_at depths.Full target) before (remainder units tail end) stop calls → IsFair calls
   after-fair target units tail end stop calls (AtNext unit later e h) = stop-keeps IsFair fair-closed target before unit (fair-unit unit) stop calls h
   after-fair target units tail end stop calls (AtTail e h n) = none-fair calls n
-  after-fair target units tail end stop calls (AtEnd e t h) = stop-fair (end_steps modes.Full before (8 * end)) (end-fair (8 * end)) calls stop h
+  after-fair target units tail end stop calls (AtEnd e t h) = stop-fair (end_steps depths.Full before (8 * end)) (end-fair (8 * end)) calls stop h
 
 -- ---- what is told after legal units
 
@@ -233,38 +234,39 @@ told-first before calls xs ys e t = record {
 }
 
 -- a unit that is legal
-told-unit : (target : Target) (before : History) (r : ReadUnit) (calls : List Told) → IsLegal (terms_of modes.Full target) before r calls → IsTold before calls
+told-unit : (target : Target) (before : History) (r : ReadUnit) (calls : List Told) → IsLegal (extent_at depths.Full target) before r calls →
+    IsTold before calls
 told-unit target before r calls l =
     let n = length (runs_of before) in
     record {
-      of = course-keeps (AreOf n) (of-closed n) (body_of r.unit) (unit_course (terms_of modes.Full target) before r.unit)
+      of = course-keeps (AreOf n) (of-closed n) (body_of r.unit) (unit_course (extent_at depths.Full target) before r.unit)
           (unit-keeps (AreOf n) target before r.unit (of-unit target before r.unit)) calls (Ok r.content) l.runs;
       fair = λ p ps runs on.
           let Q = IsFair before p ps runs on in
-          course-keeps Q (fair-closed before p ps runs on) (body_of r.unit) (unit_course (terms_of modes.Full target) before r.unit)
+          course-keeps Q (fair-closed before p ps runs on) (body_of r.unit) (unit_course (extent_at depths.Full target) before r.unit)
           (unit-keeps Q target before r.unit (fair-unit before p ps runs on r.unit)) calls (Ok r.content) l.runs;
     }
 
 -- the end of the input
-told-end : (before : History) (bit : ℕ) (calls : List Told) → AreMet (end_steps modes.Full before bit) calls → IsTold before calls
+told-end : (before : History) (bit : ℕ) (calls : List Told) → AreMet (end_steps depths.Full before bit) calls → IsTold before calls
 told-end before bit calls h = record {
-  of = subst (AreOf (length (runs_of before))) (ap (λ (o : Outcome (Unit {0})). o.calls) (met-is (end_steps modes.Full before bit) calls h))
-      (end-of modes.Full before bit);
-  fair = λ p ps runs on. met-fair before p ps runs on (end_steps modes.Full before bit) (end-fair before p ps runs on bit) calls h;
+  of = subst (AreOf (length (runs_of before))) (ap (λ (o : Outcome (Unit {0})). o.calls) (met-is (end_steps depths.Full before bit) calls h))
+      (end-of depths.Full before bit);
+  fair = λ p ps runs on. met-fair before p ps runs on (end_steps depths.Full before bit) (end-fair before p ps runs on bit) calls h;
 }
 
 -- a stop
 following-of : (target : Target) (before : History) (units : List NalUnit) (tail : Tail) (end : ℕ) (stop : Stop) (calls : List Told) →
-    IsStopAfter (terms_of modes.Full target) before (remainder units tail end) stop calls → AreOf (length (runs_of before)) calls
+    IsStopAfter (extent_at depths.Full target) before (remainder units tail end) stop calls → AreOf (length (runs_of before)) calls
 following-of target before units tail end stop calls (AtNext unit later e h) =
     stop-keeps (AreOf (length (runs_of before))) (of-closed (length (runs_of before))) target before unit (of-unit target before unit) stop calls h
 following-of target before units tail end stop calls (AtTail e h n) = subst (AreOf (length (runs_of before))) (sym n) tt
 following-of target before units tail end stop calls (AtEnd e t h) =
-    subst (AreOf (length (runs_of before))) (ap (λ (o : Outcome (Unit {0})). o.calls) (stop-is (end_steps modes.Full before (8 * end)) calls stop h))
-    (end-of modes.Full before (8 * end))
+    subst (AreOf (length (runs_of before))) (ap (λ (o : Outcome (Unit {0})). o.calls) (stop-is (end_steps depths.Full before (8 * end)) calls stop h))
+    (end-of depths.Full before (8 * end))
 
 told-stop : (target : Target) (before : History) (units : List NalUnit) (tail : Tail) (end : ℕ) (stop : Stop) (calls : List Told) →
-    IsStopAfter (terms_of modes.Full target) before (remainder units tail end) stop calls → IsTold before calls
+    IsStopAfter (extent_at depths.Full target) before (remainder units tail end) stop calls → IsTold before calls
 told-stop target before units tail end stop calls h = record {
   of = following-of target before units tail end stop calls h;
   fair = λ p ps runs on. after-fair before p ps runs on target units tail end stop calls h;
@@ -273,7 +275,7 @@ told-stop target before units tail end stop calls h = record {
 -- it is of the pictures that have ended, or of all, of which the newest has then ended
 abbrev IsEnded : History → List Told → Type 0
 IsEnded before calls = AreOf (ended_in before) calls ⊎
-    (AreOf (length (runs_of before)) calls × ((frames : ℕ → Frame) → AreDecoded frames calls → HasFrame frames (runs_of before)))
+    (AreOf (length (runs_of before)) calls × ((frames : Family) → AreDecoded frames calls → HasFrame frames (runs_of before)))
 
 told-ended : (before : History) (calls : List Told) → IsTold before calls → IsEnded before calls
 told-ended before calls t = by (goes_on before) refl (runs_of before) refl
@@ -290,7 +292,7 @@ told-ended before calls t = by (goes_on before) refl (runs_of before) refl
         (fair-frames before p ps runs on (ended_in before) calls (t.fair p ps runs on))
 
 -- the newest of these pictures has ended too
-newest-frames : (frames : ℕ → Frame) (on : Bool) (pictures : List CodedPicture) → HaveFrames frames (ended_pictures on false pictures) →
+newest-frames : (frames : Family) (on : Bool) (pictures : List CodedPicture) → HaveFrames frames (ended_pictures on false pictures) →
     HasFrame frames pictures → HaveFrames frames pictures
 newest-frames frames on [] h k = tt
 newest-frames frames true (p ∷ ps) h k = (k, h)
@@ -315,36 +317,37 @@ front-of (t ∷ told) rest (x ∷ xs) ys e =
 
 module _ (frames others : ℕ → Frame) where
   -- after legal units
-  after-output : (target : Target) (before : History) (first last all : List Told) → AreLegal (terms_of modes.Full target) before first →
-      all ≡ first ++ last → IsEnded before last → AreDecoded frames all → AreDecoded others all → calls_of frames all ≡ calls_of others all
+  after-output : (target : Target) (before : History) (first last all : List Told) → AreLegal (extent_at depths.Full target) before first →
+      all ≡ first ++ last → IsEnded before last → AreDecoded (Some frames) all → AreDecoded (Some others) all →
+      calls_of (Some frames) all ≡ calls_of (Some others) all
   after-output target before first last all l e (inl of) d d' =
       let pictures = ended_pictures (goes_on before) false (runs_of before) in
-      let one = decoded-first frames first last (subst (AreDecoded frames) e d) in
-      let other = decoded-first others first last (subst (AreDecoded others) e d') in
+      let one = decoded-first (Some frames) first last (subst (AreDecoded (Some frames)) e d) in
+      let other = decoded-first (Some others) first last (subst (AreDecoded (Some others)) e d') in
       let shown = shown-alike frames others pictures (legal-family frames others target before first l one other)
-      (legal-frames target before first l frames one) (legal-frames target before first l others other) in
+      (legal-frames target before first l (Some frames) one) (legal-frames target before first l (Some others) other) in
       calls-same frames others (length pictures) all shown
       (subst (AreOf (length pictures)) (sym e) (of-both (length pictures) first last (legal-of target before first l) of))
   after-output target before first last all l e (inr more) d d' =
       let pictures = runs_of before in
       let n = length pictures in
-      let whole : (family : ℕ → Frame) → AreDecoded family all → HaveFrames family pictures = λ family x.
-      let y = subst (AreDecoded family) e x in
-      newest-frames family (goes_on before) pictures (legal-frames target before first l family (decoded-first family first last y))
-      (more.1 family (decoded-last family first last y)) in
+      let whole : (family : ℕ → Frame) → AreDecoded (Some family) all → HaveFrames (Some family) pictures = λ family x.
+      let y = subst (AreDecoded (Some family)) e x in
+      newest-frames (Some family) (goes_on before) pictures (legal-frames target before first l (Some family) (decoded-first (Some family) first last y))
+      (more.1 (Some family) (decoded-last (Some family) first last y)) in
       let shown = shown-alike frames others pictures (same-on frames others pictures (legal-read target before first l) (whole frames d) (whole others d'))
       (whole frames d) (whole others d') in
       let of = of-both n first last (of-more (ended_in before) n first (ended-few (goes_on before) pictures) (legal-of target before first l)) more.0 in
       calls-same frames others n all shown (subst (AreOf n) (sym e) of)
 
-  part-output : (target : Target) (before : History) (first last part rest told : List Told) → AreLegal (terms_of modes.Full target) before first →
-      IsTold before last → told ≡ first ++ part → last ≡ part ++ rest → AreDecoded frames told → AreDecoded others told →
-      calls_of frames told ≡ calls_of others told
+  part-output : (target : Target) (before : History) (first last part rest told : List Told) → AreLegal (extent_at depths.Full target) before first →
+      IsTold before last → told ≡ first ++ part → last ≡ part ++ rest → AreDecoded (Some frames) told → AreDecoded (Some others) told →
+      calls_of (Some frames) told ≡ calls_of (Some others) told
   part-output target before first last part rest told l t e p d d' =
       after-output target before first part told l e (told-ended before part (told-first before last part rest p t)) d d'
 
-  legal-front : (target : Target) (before : History) (calls told rest : List Told) → AreLegal (terms_of modes.Full target) before calls →
-      told ++ rest ≡ calls → AreDecoded frames told → AreDecoded others told → calls_of frames told ≡ calls_of others told
+  legal-front : (target : Target) (before : History) (calls told rest : List Told) → AreLegal (extent_at depths.Full target) before calls →
+      told ++ rest ≡ calls → AreDecoded (Some frames) told → AreDecoded (Some others) told → calls_of (Some frames) told ≡ calls_of (Some others) told
   legal-front target [] calls [] rest l e d d' = refl
   legal-front target [] calls (t ∷ told) rest l e d d' = absurd (let none : t ∷ (told ++ rest) ≡ [] = e ∙ l in cc)
   legal-front target (r ∷ before) calls told rest l e d d' = ⊎_elim
@@ -353,8 +356,9 @@ module _ (frames others : ℕ → Frame) where
       (told-unit target before r l.1 l.3) m.1 m.2 d d')
       (front-of told rest l.0 l.1 (e ∙ l.4))
 
-  after-front : (target : Target) (before : History) (first last told rest : List Told) → AreLegal (terms_of modes.Full target) before first →
-      IsTold before last → told ++ rest ≡ first ++ last → AreDecoded frames told → AreDecoded others told → calls_of frames told ≡ calls_of others told
+  after-front : (target : Target) (before : History) (first last told rest : List Told) → AreLegal (extent_at depths.Full target) before first →
+      IsTold before last → told ++ rest ≡ first ++ last → AreDecoded (Some frames) told → AreDecoded (Some others) told →
+      calls_of (Some frames) told ≡ calls_of (Some others) told
   after-front target before first last told rest l t e d d' = ⊎_elim
       (λ (m : (more : List Told) × (first ≡ told ++ more)). legal-front target before first told m.0 l (sym m.1) d d')
       (λ (m : (part : List Told) × (told ≡ first ++ part) × (last ≡ part ++ rest)). part-output target before first last m.0 rest told l t m.1 m.2 d d')
@@ -362,8 +366,8 @@ module _ (frames others : ℕ → Frame) where
 
   -- a front of what is told of a stream up to its verdict
   pub front-output : (target : Target) (bytes : List ℕ) (told rest : List Told) (answer : Result Summary Stop) →
-      Verdict (terms_of modes.Full target) bytes (told ++ rest) answer → AreDecoded frames told → AreDecoded others told →
-      calls_of frames told ≡ calls_of others told
+      Verdict (extent_at depths.Full target) bytes (told ++ rest) answer → AreDecoded (Some frames) told → AreDecoded (Some others) told →
+      calls_of (Some frames) told ≡ calls_of (Some others) told
   front-output target bytes told rest (Ok summary) h d d' =
       after-front target h.units h.first h.last told rest h.legal (told-end h.units (8 * length bytes) h.last h.end) h.calls_are d d'
   front-output target bytes told rest (Err stop) h d d' =
@@ -372,37 +376,41 @@ module _ (frames others : ℕ → Frame) where
 
   -- all of it
   pub verdict-output : (target : Target) (bytes : List ℕ) (all : List Told) (answer : Result Summary Stop) →
-      Verdict (terms_of modes.Full target) bytes all answer → AreDecoded frames all → AreDecoded others all → calls_of frames all ≡ calls_of others all
+      Verdict (extent_at depths.Full target) bytes all answer → AreDecoded (Some frames) all → AreDecoded (Some others) all →
+      calls_of (Some frames) all ≡ calls_of (Some others) all
   verdict-output target bytes all answer h d d' =
-      front-output target bytes all [] answer (subst (λ (l : List Told). Verdict (terms_of modes.Full target) bytes l answer) (sym (append-nil all)) h) d d'
+      front-output target bytes all [] answer (subst (λ (l : List Told). Verdict (extent_at depths.Full target) bytes l answer) (sym (append-nil all)) h) d d'
 
   -- what legal units tell
-  pub legal-output : (target : Target) (before : History) (told : List Told) → AreLegal (terms_of modes.Full target) before told → AreDecoded frames told →
-      AreDecoded others told → calls_of frames told ≡ calls_of others told
+  pub legal-output : (target : Target) (before : History) (told : List Told) → AreLegal (extent_at depths.Full target) before told →
+      AreDecoded (Some frames) told →
+      AreDecoded (Some others) told → calls_of (Some frames) told ≡ calls_of (Some others) told
   legal-output target before told l d d' = legal-front target before told told [] l (append-nil told) d d'
 
 -- the longer of two fronts begins with the shorter
 longer : (frames others : ℕ → Frame) (target : Target) (bytes : List ℕ) (told other part more : List Told) (answer : Result Summary Stop) → other ≡ told ++
-    part → Verdict (terms_of modes.Full target) bytes (other ++ more) answer → AreDecoded frames told → AreDecoded others other → (rest : List Call) ×
-    (calls_of others other ≡ calls_of frames told ++ rest)
+    part → Verdict (extent_at depths.Full target) bytes (other ++ more) answer → AreDecoded (Some frames) told → AreDecoded (Some others) other →
+    (rest : List Call) ×
+    (calls_of (Some others) other ≡ calls_of (Some frames) told ++ rest)
 longer frames others target bytes told other part more answer e v d d' =
-    let first = decoded-first others told part (subst (AreDecoded others) e d') in
-    let front = subst (λ (l : List Told). Verdict (terms_of modes.Full target) bytes l answer)
+    let first = decoded-first (Some others) told part (subst (AreDecoded (Some others)) e d') in
+    let front = subst (λ (l : List Told). Verdict (extent_at depths.Full target) bytes l answer)
     (ap (λ (l : List Told). l ++ more) e ∙ append_assoc told part more) v in
     let same = front-output frames others target bytes told (part ++ more) answer front d first in (
-      calls_of others part,
-      ap (λ (l : List Told). calls_of others l) e ∙ calls-both others told part ∙
-          ap (λ (l : List Call). l ++ calls_of others part) (sym same),
+      calls_of (Some others) part,
+      ap (λ (l : List Told). calls_of (Some others) l) e ∙ calls-both (Some others) told part ∙
+          ap (λ (l : List Call). l ++ calls_of (Some others) part) (sym same),
     )
 
 -- two fronts, with two families: one begins with the other
 pub fronts-output : (target : Target) (bytes : List ℕ) (told rest other more : List Told) (answer another : Result Summary Stop) →
-    Verdict (terms_of modes.Full target) bytes (told ++ rest) answer → Verdict (terms_of modes.Full target) bytes (other ++ more) another →
-    (frames others : ℕ → Frame) → AreDecoded frames told → AreDecoded others other → IsFrontOf (calls_of frames told) (calls_of others other) ⊎
-    IsFrontOf (calls_of others other) (calls_of frames told)
+    Verdict (extent_at depths.Full target) bytes (told ++ rest) answer → Verdict (extent_at depths.Full target) bytes (other ++ more) another →
+    (frames others : ℕ → Frame) → AreDecoded (Some frames) told → AreDecoded (Some others) other →
+    IsFrontOf (calls_of (Some frames) told) (calls_of (Some others) other) ⊎
+    IsFrontOf (calls_of (Some others) other) (calls_of (Some frames) told)
 fronts-output target bytes told rest other more answer another v w frames others d d' = ⊎_elim
     (λ (m : (extra : List Told) × (other ≡ told ++ extra)). let l = longer frames others target bytes told other m.0 more another m.1 w d d' in
     inl (record { rest = l.0; whole = l.1 }))
     (λ (m : (part : List Told) × (told ≡ other ++ part) × (more ≡ part ++ rest)). let l =
     longer others frames target bytes other told m.0 rest answer m.1 v d' d in inr (record { rest = l.0; whole = l.1 }))
-    (front-of told rest other more (one-verdict (terms_of modes.Full target) bytes (told ++ rest) (other ++ more) answer another v w).0)
+    (front-of told rest other more (one-verdict (extent_at depths.Full target) bytes (told ++ rest) (other ++ more) answer another v w).0)

@@ -1,7 +1,7 @@
 -- What derives for the target Baseline derives for MainIP, with the same elements and values.
 use Rattle.std.proofs.Common.{◌≡◌, ℕ, ◌*◌, ◌==◌, ◌||◌, ◌&&◌, Bool, true, false, List, [], ◌∷◌, ◌++◌, length, Result, Ok, Err, refl, ap, sym, ◌∙◌, subst, inl}
 use Rattle.std.proofs.Common.{inr, if◌then◌else◌}
-use Rattle.h264_base.specs.declared.mode.Mode.{Mode}
+use Rattle.h264_verify.specs.declared.state.Depth.{Depth}
 use Rattle.h264_base.specs.declared.mode.Target.{Target}
 use Rattle.h264_base.specs.declared.mode.Target.TheVariants.{Baseline, MainIP}
 use Rattle.h264_base.specs.declared.rule.Rule.{Rule}
@@ -26,7 +26,7 @@ use Rattle.h264_verify.specs.Order.{closing_at}
 use Rattle.h264_verify.specs.Order.{whole_at}
 use Rattle.h264_verify.specs.History.{History}
 use Rattle.h264_base.specs.declared.summary.Summary.{Summary}
-use Rattle.h264_verify.specs.Units.{terms_of, other_content, unit_call}
+use Rattle.h264_verify.specs.Units.{extent_at, other_content, unit_call}
 use Rattle.h264_verify.specs.Order.{content, content_steps, data_course, frames_at, unit_course}
 use Rattle.h264_verify.specs.Verdict.{AreLegal, Holds}
 
@@ -119,13 +119,13 @@ pps-follows =
 
 -- ---- units
 
-module _ (mode : Mode) where
+module _ (depth : Depth) where
   content-follows : (kind : ℕ) (before : History) (unit : NalUnit) →
-      Follows (content (terms_of mode Baseline) kind before unit) (content (terms_of mode MainIP) kind before unit)
+      Follows (content (extent_at depth Baseline) kind before unit) (content (extent_at depth MainIP) kind before unit)
   unfolding content
   content-follows kind before unit =
       follows-if (kind == 7) (follows-then sps-follows (λ set. follows-same _))
-      (follows-if (kind == 8) (follows-then pps-follows (λ set. follows-same _)) (follows-same (other_content mode kind before unit)))
+      (follows-if (kind == 8) (follows-then pps-follows (λ set. follows-same _)) (follows-same (other_content depth kind before unit)))
 
   says-follows : {A : Type 0} {g g' : Grammar A} → Follows g g' → (body : Body) (i : ℕ) (es : List Element) (v : A) (j : ℕ) → Says g body i es (Ok (v, j)) →
       Says g' body i es (Ok (v, j))
@@ -154,18 +154,18 @@ module _ (mode : Mode) where
   said_steps unit = Tells (Said (unit_call unit.from (header_of unit) (length unit.body))) ∷ []
 
   abbrev ending_steps : History → NalUnit → List Step
-  ending_steps before unit = whole_at mode (nal_unit_type (header_of unit)) before ++
-      (needs (closing_at (nal_unit_type (header_of unit)) before) ++ frames_at mode (nal_unit_type (header_of unit)) before)
+  ending_steps before unit = whole_at depth (nal_unit_type (header_of unit)) before ++
+      (needs (closing_at (nal_unit_type (header_of unit)) before) ++ frames_at depth (nal_unit_type (header_of unit)) before)
 
   abbrev after_content : History → NalUnit → Content → ℕ → Course
-  after_content before unit found bit = Takes (content_steps mode before unit found) (data_course mode before unit found bit)
+  after_content before unit found bit = Takes (content_steps depth before unit found) (data_course depth before unit found bit)
 
   abbrev read_for : Target → History → NalUnit → Course
-  read_for target before unit = Reads (content (terms_of mode target) (nal_unit_type (header_of unit)) before unit) 0 (after_content before unit)
+  read_for target before unit = Reads (content (extent_at depth target) (nal_unit_type (header_of unit)) before unit) 0 (after_content before unit)
 
   unit-follows : (before : History) (unit : NalUnit) (c : Content) (calls : List Told) →
-      Runs (body_of unit) (unit_course (terms_of mode Baseline) before unit) calls (Ok c) →
-      Runs (body_of unit) (unit_course (terms_of mode MainIP) before unit) calls (Ok c)
+      Runs (body_of unit) (unit_course (extent_at depth Baseline) before unit) calls (Ok c) →
+      Runs (body_of unit) (unit_course (extent_at depth MainIP) before unit) calls (Ok c)
   unit-follows before unit c calls r =
       let body = body_of unit in
       let ended : Target → Course = λ target. Takes (ending_steps before unit) (read_for target before unit) in
@@ -176,7 +176,7 @@ module _ (mode : Mode) where
       (reads-follows body (after_content before unit) c (content-follows (nal_unit_type (header_of unit)) before unit))))
       calls r
 
-  legal-follows : (units : History) (calls : List Told) → AreLegal (terms_of mode Baseline) units calls → AreLegal (terms_of mode MainIP) units calls
+  legal-follows : (units : History) (calls : List Told) → AreLegal (extent_at depth Baseline) units calls → AreLegal (extent_at depth MainIP) units calls
   legal-follows [] calls l = l
   legal-follows (r ∷ before) calls l = (
     l.0,
@@ -186,8 +186,8 @@ module _ (mode : Mode) where
     l.4,
   )
 
-  pub holds-follows : (bytes : List ℕ) (told : List Told) (summary : Summary) → Holds (terms_of mode Baseline) bytes told summary →
-      Holds (terms_of mode MainIP) bytes told summary
+  pub holds-follows : (bytes : List ℕ) (told : List Told) (summary : Summary) → Holds (extent_at depth Baseline) bytes told summary →
+      Holds (extent_at depth MainIP) bytes told summary
   holds-follows bytes told summary h = record {
     units = h.units;
     stream = h.stream;

@@ -2,8 +2,8 @@
 use Rattle.std.specs.Prelude.{ℕ, Option, Some, None, List, [], ◌∷◌, ◌++◌, map, length, ℤ, pos, if◌then◌else◌}
 use Rattle.std.specs.Int.{int_min}
 use Rattle.std.specs.Option.{is_some}
-use Rattle.h264_base.specs.declared.mode.Mode.{Mode}
-use Rattle.h264_base.specs.declared.mode.Mode.TheVariants as modes
+use Rattle.h264_verify.specs.declared.state.Depth.{Depth}
+use Rattle.h264_verify.specs.declared.state.Depth.TheVariants as depths
 use Rattle.h264_base.specs.declared.rule.Rule.TheVariants.{FrameNum}
 use Rattle.h264_poc.specs.declared.picture.Picture.{Picture}
 use Rattle.h264_poc.specs.declared.picture.Count.{Count}
@@ -79,44 +79,44 @@ taken_after before = places_taken (if goes_on before then within_newest (runs_of
 -- ---- what comes to pass of frames
 
 -- each frame that is written, where frames are made
-abbrev pub told_frames : Mode → List (Entry Shown) → List Step
-told_frames modes.Units written = []
-told_frames modes.Headers written = []
-told_frames modes.Full written = map (λ e. Tells (Shows e)) written
+abbrev pub told_frames : Depth → List (Entry Shown) → List Step
+told_frames depths.Units written = []
+told_frames depths.Headers written = []
+told_frames depths.Full written = map (λ e. Tells (Shows e)) written
 
 -- the newest of these pictures is decoded, where frames are made
-abbrev pub told_picture : Mode → List CodedPicture → List Step
-told_picture modes.Units pictures = []
-told_picture modes.Headers pictures = []
-told_picture modes.Full pictures = Tells (Decodes pictures) ∷ []
+abbrev pub told_picture : Depth → List CodedPicture → List Step
+told_picture depths.Units pictures = []
+told_picture depths.Headers pictures = []
+told_picture depths.Full pictures = Tells (Decodes pictures) ∷ []
 
 -- it is decoded, and then the frames are written that its end writes
-abbrev pub end_frames : Mode → List CodedPicture → List Step
-end_frames mode [] = []
-end_frames mode (p ∷ ps) = told_picture mode (p ∷ ps) ++ told_frames mode (ended_turn p ps (within_newest (p ∷ ps)).buffer).written
+abbrev pub end_frames : Depth → List CodedPicture → List Step
+end_frames depth [] = []
+end_frames depth (p ∷ ps) = told_picture depth (p ∷ ps) ++ told_frames depth (ended_turn p ps (within_newest (p ∷ ps)).buffer).written
 
 -- those of the picture that may go on after these units, if there is such a picture
-abbrev pub closing_frames : Mode → History → List Step
-closing_frames mode before = if goes_on before then end_frames mode (runs_of before) else []
+abbrev pub closing_frames : Depth → History → List Step
+closing_frames depth before = if goes_on before then end_frames depth (runs_of before) else []
 
 -- The missing numbers before a picture, in turn: each can be filled, and then the frames are written that its place costs (7.4.3, 8.2.5.2).
 abbrev pub missing_on : Option References → (References → List Step) → List Step
 missing_on None next = []
 missing_on (Some refs) next = next refs
 
-abbrev pub missing_steps : Mode → ℕ → Numbering → List ℕ → References → Buffered Shown → List Step
-missing_steps mode bit n [] refs b = []
-missing_steps mode bit n (number ∷ numbers) refs b =
+abbrev pub missing_steps : Depth → ℕ → Numbering → List ℕ → References → Buffered Shown → List Step
+missing_steps depth bit n [] refs b = []
+missing_steps depth bit n (number ∷ numbers) refs b =
     Needs (record { rule = FrameNum; bit = bit; met = is_some (filled (record n { frame_num = number }) refs) })
     ∷ missing_on (filled (record n { frame_num = number }) refs) (λ held.
-    told_frames mode (missing_turn held b).written ++ missing_steps mode bit n numbers held (missing_turn held b).buffer)
+    told_frames depth (missing_turn held b).written ++ missing_steps depth bit n numbers held (missing_turn held b).buffer)
 
 -- the frames that the end of the input writes, once all pictures have ended
-abbrev pub last_frames : Mode → List CodedPicture → List Step
-last_frames mode pictures = told_frames mode (last_turn (after_all pictures).buffer).written
+abbrev pub last_frames : Depth → List CodedPicture → List Step
+last_frames depth pictures = told_frames depth (last_turn (after_all pictures).buffer).written
 
 -- how many frames a stream of these pictures writes, where frames are made
-abbrev pub frames_written : Mode → List CodedPicture → ℕ
-frames_written modes.Units pictures = 0
-frames_written modes.Headers pictures = 0
-frames_written modes.Full pictures = length (turn_then (after_all pictures) last_turn).written
+abbrev pub frames_written : Depth → List CodedPicture → ℕ
+frames_written depths.Units pictures = 0
+frames_written depths.Headers pictures = 0
+frames_written depths.Full pictures = length (turn_then (after_all pictures) last_turn).written

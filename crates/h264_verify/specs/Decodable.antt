@@ -1,8 +1,8 @@
 -- To be read beside the standard. What holds of each picture of a stream that is legal: its predictions refer to pictures that are held, and the buffer
 -- stays within its level's frames (8.4.2.1, A.3.1, C.4.2, C.4.4, C.4.5).
 use Rattle.std.specs.Prelude.{List, [], ◌∷◌}
-use Rattle.h264_base.specs.declared.mode.Mode.{Mode}
-use Rattle.h264_base.specs.declared.mode.Mode.TheVariants as modes
+use Rattle.h264_verify.specs.declared.state.Depth.{Depth}
+use Rattle.h264_verify.specs.declared.state.Depth.TheVariants as depths
 use Rattle.h264_verify.specs.Pictures.{CodedPicture, held_in}
 use Rattle.h264_verify.specs.Buffering.{within_newest}
 use Rattle.h264_verify.specs.Held.{AreAmong}
@@ -24,7 +24,7 @@ EachIsDecodable [] = Unit {0}
 EachIsDecodable (p ∷ ps) = IsDecodable p ps × EachIsDecodable ps
 
 -- where slice data are read
-abbrev pub AreDecodable : Mode → List CodedPicture → Type 0
-AreDecodable modes.Units pictures = Unit {0}
-AreDecodable modes.Headers pictures = Unit {0}
-AreDecodable modes.Full pictures = EachIsDecodable pictures
+abbrev pub AreDecodable : Depth → List CodedPicture → Type 0
+AreDecodable depths.Units pictures = Unit {0}
+AreDecodable depths.Headers pictures = Unit {0}
+AreDecodable depths.Full pictures = EachIsDecodable pictures

@@ -1,6 +1,6 @@
 -- Two families of frames, by number in decoding order, beside the pictures of a stream, and what sinks are told of it. To be read beside the standard.
-use Rattle.std.specs.Prelude.{◌≡◌, ℕ, ◌*◌, ◌<◌, List, [], ◌∷◌, ◌++◌, length}
-use Rattle.h264_base.specs.Call.{Call}
+use Rattle.std.specs.Prelude.{◌≡◌, ℕ, ◌*◌, ◌<◌, ◌⊎◌, List, [], ◌∷◌, ◌++◌, length}
+use Rattle.h264_base.specs.Call.{Call, OfUnit, OfSlice, OfElement, OfFrame}
 use Rattle.h264_plane.specs.declared.frame.Component.{Component}
 use Rattle.h264_plane.specs.declared.frame.Frame.{Frame}
 use Rattle.h264_plane.specs.Frames.{plane_of}
@@ -23,3 +23,17 @@ AreSameOn frames others (p ∷ ps) = HaveSameSamples frames others (length ps) p
 pub record IsFrontOf (calls more : List Call) : Type 0 where
   pub rest : List Call
   pub whole : more ≡ calls ++ rest
+
+-- it tells a frame
+abbrev pub IsFrame : Call → Type 0
+IsFrame (OfUnit byte kind importance length) = ⊥
+IsFrame (OfSlice byte first kind number count) = ⊥
+IsFrame (OfElement name bit value) = ⊥
+IsFrame (OfFrame count width height samples) = Unit {0}
+
+-- The first list is the second without its frames.
+abbrev pub LeavesFramesOut : List Call → List Call → Type 0
+LeavesFramesOut [] [] = Unit {0}
+LeavesFramesOut (c ∷ calls) [] = ⊥
+LeavesFramesOut [] (o ∷ others) = IsFrame o × LeavesFramesOut [] others
+LeavesFramesOut (c ∷ calls) (o ∷ others) = ((c ≡ o) × LeavesFramesOut calls others) ⊎ (IsFrame o × LeavesFramesOut (c ∷ calls) others)

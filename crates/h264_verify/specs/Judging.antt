@@ -1,6 +1,6 @@
 -- A stream judged unit by unit, whatever is judged of a unit. A working form.
 use Rattle.std.specs.Prelude.{◌≡◌, ℕ, ◌+◌, ◌*◌, List, [], ◌∷◌, length, Option, Some, None, Err}
-use Rattle.h264_verify.specs.declared.state.Terms.{Terms}
+use Rattle.h264_verify.specs.declared.state.Extent.{Extent}
 use Rattle.h264_base.specs.declared.stop.Stop.{Stop}
 use Rattle.h264_units.specs.Stream.{NalUnit, Tail, Splits, tail_stop}
 use Rattle.h264_verify.specs.Outcome.{Outcome, ◌>>=◌, answers}
@@ -38,5 +38,5 @@ pub record Comes {State Summary : Type 0} (j : Judging State Summary) (at : ℕ)
   pub is : o ≡ units_outcome j state units tail (at + length bytes)
 
 -- the units of a stream judged by these terms, after one another
-abbrev pub judging : Terms → Judging History Summary
-judging terms = record { unit = unit_outcome terms; end = end_outcome terms.mode; grows = ChangesFormat terms.mode }
+abbrev pub judging : Extent → Judging History Summary
+judging extent = record { unit = unit_outcome extent; end = end_outcome extent.depth; grows = ChangesFormat extent.depth }

@@ -1,5 +1,5 @@
 -- What is kept of the slices so far. A working form: it ties values of the program to the list of units.
-use Rattle.std.specs.Prelude.{◌≡◌, ◌≢◌, ℕ, ◌+◌, ◌-◌, ◌*◌, ◌%◌, ◌<◌, ◌≤◌, ◌^◌, get_or, not, ◌||◌, List, [], ◌∷◌, ◌++◌, map, length, ℤ, Option, Some, None}
+use Rattle.std.specs.Prelude.{◌≡◌, ◌≢◌, ℕ, ◌+◌, ◌-◌, ◌*◌, ◌%◌, ◌<◌, ◌≤◌, ◌^◌, get_or, not, ◌||◌, ◌⊎◌, List, [], ◌∷◌, ◌++◌, map, length, ℤ, Option, Some, None}
 use Rattle.std.specs.Prelude.{IfSome, Bool, true, false, if◌then◌else◌}
 use Rattle.std.specs.Option.{option_map_or}
 use Rattle.h264_near.specs.Coded.{CodedMacroblock}
@@ -21,14 +21,14 @@ use Rattle.h264_verify.specs.declared.slices.Slice.{Slice}
 use Rattle.h264_verify.specs.declared.slices.Slices.{Slices}
 use Rattle.h264_verify.specs.declared.picture.OpenPicture.{OpenPicture}
 use Rattle.h264_verify.specs.declared.picture.Types.{Types}
-use Rattle.h264_base.specs.declared.mode.Mode.{Mode}
-use Rattle.h264_base.specs.declared.mode.Mode.TheVariants as modes
+use Rattle.h264_verify.specs.declared.state.Depth.{Depth}
+use Rattle.h264_verify.specs.declared.state.Depth.TheVariants as depths
 use Rattle.h264_base.specs.declared.rule.Rule.TheVariants.{SliceType}
 use Rattle.h264_picture.specs.declared.work.Work.{Work}
 use Rattle.h264_picture.specs.Holds.{HoldsMacroblocks, Serves}
 use Rattle.h264_picture.specs.Making.{Making, HoldsSamples}
 use Rattle.h264_picture.specs.declared.frames.TheConstants.{PLACES}
-use Rattle.h264_picture.specs.Places.{lent, first_place, places, is_active_place, IsReleased, HasBegun, HasSize}
+use Rattle.h264_picture.specs.Places.{lent, first_place, places, is_active_place, purpose_of, MakesFrames, IsReleased, HasBegun, HasSize}
 use Rattle.h264_plane.specs.declared.frame.Frame.{Frame}
 use Rattle.h264_dpb.specs.Bumping.{is_held}
 use Rattle.h264_dpb.specs.Turns.{Shown, Turn, stays, no_buffer, names, missing_turn, last_turn}
@@ -48,7 +48,7 @@ use Rattle.h264_verify.specs.Order.{closing_demands}
 use Rattle.h264_verify.specs.Order.{whole_steps}
 use Rattle.h264_poc.specs.OfSlice.{picture_of}
 use Rattle.h264_marking.specs.Ended.{numbering_of}
-use Rattle.h264_verify.specs.Telling.{Said}
+use Rattle.h264_verify.specs.Telling.{Said, Family, IsFamilyFor}
 use Rattle.h264_verify.specs.Steps.{Step, Tells, needs}
 use Rattle.h264_verify.specs.Slices.{is_i, has_i, has_p, states_type, is_idr_due, newest_idr_of, idr_demand, set_demand, type_demand, idr_num_demand, first_bit}
 use Rattle.h264_verify.specs.Slices.{id_demand, count_demand, qp_demand, list_demand, marking_demand, slice_call}
@@ -189,10 +189,11 @@ pub record IsSettled (d : Decoder) : Type 0 where
   pub released : IsReleased d.work
   pub sized : IsSized d.format d.output
 
--- what is kept of the buffer: it is this one, each frame in it is lent at its place, and the pictures in it are among so many
-pub record KeepsOutput (frames : ℕ → Frame) (t : Turn) (next : ℕ) (d : Decoder) : Type 0 where
+-- what is kept of the buffer: it is this one, each frame in it is lent at its place, where frames are made, and the pictures in it are among so many
+pub record KeepsOutput (frames : Family) (t : Turn) (next : ℕ) (d : Decoder) : Type 0 where
   pub buffer : KeepsBuffer t.buffer (length t.written) d.output
-  pub frames_are : HasFrames frames (lent d.work) d.output
+  pub made : IsFamilyFor (purpose_of d.work) frames
+  pub frames_are : IfSome frames (λ f. HasFrames f (lent d.work) d.output)
   pub ordered : IsOrdered next d.output
   pub ready : AreReady (lent d.work) d.output
   pub format : HasFormat d.format d.work
@@ -220,19 +221,23 @@ pub record IsNear (d : Decoder) (n place : ℕ) : Type 0 where
   pub to : place < first_place d.work + places d.work
   pub near : place < first_place d.work + PLACES
 
+-- a place of the sequence is free: the buffer has fewer frames than there are places, or none stands at the first one
+abbrev pub HasFreePlace : Decoder → Type 0
+HasFreePlace d = ((next : ℕ) × IsOrdered next d.output × (size_of d.output < places d.work)) ⊎ (is_occupied (first_place d.work) d.output ≡ false)
+
 -- it has such a place
 pub record HasPlace (d : Decoder) (n : ℕ) : Type 0 where
   pub place : ℕ
   pub near : IsNear d n place
 
--- the work holds the macroblocks before a slice of this number, and each picture that the slice's list names has its place
+-- the work holds the macroblocks before a slice of this number, and where frames are made each picture that the slice's list names has its place
 pub record SlicesSome (number : ℕ) (references : List (Option ℕ)) (d : Decoder) : Type 0 where
   pub width : ℕ
   pub size : ℕ
   pub macroblocks : List CodedMacroblock
   pub holds : HoldsMacroblocks width size macroblocks d.work
   pub next : number ≡ length macroblocks
-  pub named : (k n : ℕ) → k < 16 → get_or references k None ≡ Some n → HasPlace d n
+  pub named : MakesFrames d.work → (k n : ℕ) → k < 16 → get_or references k None ≡ Some n → HasPlace d n
 
 -- those that the list of a slice names are
 pub record HasReferences (frames : ℕ → Frame) (pictures : List CodedPicture) (count : ℕ) (d : Decoder) (s : CodedSlice) : Type 0 where
@@ -243,28 +248,37 @@ abbrev pub AreFalling : ℕ → List CodedSlice → Type 0
 AreFalling high [] = Unit {0}
 AreFalling high (s ∷ slices) = (number_of s < high) × AreFalling (number_of s) slices
 
--- what is kept of these slices of a picture, and of their macroblocks
-pub record HoldsSlices (frames : ℕ → Frame) (p : CodedPicture) (ps : List CodedPicture) (slices : List CodedSlice) (macroblocks : List CodedMacroblock)
+-- what is kept of the samples of these slices of a picture, which are decoded from these frames
+pub record HoldsFrames (frames : ℕ → Frame) (p : CodedPicture) (ps : List CodedPicture) (slices : List CodedSlice) (macroblocks : List CodedMacroblock)
     (d : Decoder) : Type 0 where
-  pub holds : HoldsMacroblocks p.first.sps.frame_size.width (picture_size p.first.sps) macroblocks d.work
-  pub numbers : AreFalling (length macroblocks) slices
-  pub sets : EachSlice (λ s. s.pps ≡ p.first.pps) slices
   pub references : EachSlice (HasReferences frames (p ∷ ps) (length ps) d) slices
   pub samples : (making : Making) → IsMaking p.first.pps.chroma_qp_index_offset slices d making →
       HoldsSamples p.first.sps.frame_size.width (picture_size p.first.sps) making macroblocks d.work
 
--- what is kept of a picture that is decoded after these: where, its format, and its slices so far
-pub record HoldsBegun (frames : ℕ → Frame) (p : CodedPicture) (ps : List CodedPicture) (slices : List CodedSlice) (macroblocks : List CodedMacroblock)
+-- what is kept of these slices of a picture, and of their macroblocks
+pub record HoldsSlices (frames : Family) (p : CodedPicture) (ps : List CodedPicture) (slices : List CodedSlice) (macroblocks : List CodedMacroblock)
     (d : Decoder) : Type 0 where
-  pub begun : HasBegun d.place d.work
+  pub holds : HoldsMacroblocks p.first.sps.frame_size.width (picture_size p.first.sps) macroblocks d.work
+  pub numbers : AreFalling (length macroblocks) slices
+  pub sets : EachSlice (λ s. s.pps ≡ p.first.pps) slices
+  pub frames_are : IfSome frames (λ f. HoldsFrames f p ps slices macroblocks d)
+
+-- the picture that is decoded has a place of its own among those of its sequence
+pub record IsPlaced (d : Decoder) : Type 0 where
   pub active : is_active_place (first_place d.work) d.place ≡ true
   pub free : is_occupied d.place d.output ≡ false
+
+-- what is kept of a picture that is decoded after these: where, its format, and its slices so far
+pub record HoldsBegun (frames : Family) (p : CodedPicture) (ps : List CodedPicture) (slices : List CodedSlice) (macroblocks : List CodedMacroblock)
+    (d : Decoder) : Type 0 where
+  pub begun : HasBegun d.place d.work
+  pub placed : IfSome frames (λ f. IsPlaced d)
   pub format : d.format ≡ Some (format_of p.first.sps)
   pub settled : is_idr p.first.header ≡ false → IsSettled d
   pub so_far : HoldsSlices frames p ps slices macroblocks d
 
 -- the picture that is decoded, if there is one: more slices may come to the newest, which has not ended
-abbrev pub HoldsFrame : (ℕ → Frame) → Bool → Bool → List CodedPicture → Decoder → Type 0
+abbrev pub HoldsFrame : Family → Bool → Bool → List CodedPicture → Decoder → Type 0
 HoldsFrame frames on ended [] d = IsSettled d
 HoldsFrame frames true true (p ∷ ps) d = IsSettled d
 HoldsFrame frames true false (p ∷ ps) d = HoldsBegun frames p ps (slices_of p) (last_slice p).macroblocks d
@@ -276,45 +290,45 @@ HasFormatOf [] d = Unit {0}
 HasFormatOf (p ∷ ps) d = d.format ≡ Some (format_of p.first.sps)
 
 -- what is kept of the frames of these pictures
-pub record KeepsFrames (frames : ℕ → Frame) (on ended : Bool) (pictures : List CodedPicture) (d : Decoder) : Type 0 where
+pub record KeepsFrames (frames : Family) (on ended : Bool) (pictures : List CodedPicture) (d : Decoder) : Type 0 where
   pub format : HasFormatOf pictures d
   pub output : KeepsOutput frames (buffer_by on ended pictures) (length (ended_pictures on ended pictures)) d
   pub picture : HoldsFrame frames on ended pictures d
 
--- Frames are made in one mode. There is a decoder then, of which this is true, and none else.
-unfoldable pub WhereMade : Mode → (Decoder → Type 0) → Option Decoder → Type 0
-WhereMade modes.Units P None = Unit {0}
-WhereMade modes.Units P (Some d) = ⊥
-WhereMade modes.Headers P None = Unit {0}
-WhereMade modes.Headers P (Some d) = ⊥
-WhereMade modes.Full P None = ⊥
-WhereMade modes.Full P (Some d) = P d
+-- Slice data are read at one depth. There is a decoder then, of which this is true, and none else.
+unfoldable pub WhereMade : Depth → (Decoder → Type 0) → Option Decoder → Type 0
+WhereMade depths.Units P None = Unit {0}
+WhereMade depths.Units P (Some d) = ⊥
+WhereMade depths.Headers P None = Unit {0}
+WhereMade depths.Headers P (Some d) = ⊥
+WhereMade depths.Full P None = ⊥
+WhereMade depths.Full P (Some d) = P d
 
 -- what is kept of them once the rules of a slice are met: after the gap before a picture that it begins, nothing is decoded yet
-pub record EntersFrames (frames : ℕ → Frame) (slice : CodedSlice) (pictures : List CodedPicture) (d : Decoder) : Type 0 where
+pub record EntersFrames (frames : Family) (slice : CodedSlice) (pictures : List CodedPicture) (d : Decoder) : Type 0 where
   pub format : is_idr slice.header ≡ false → d.format ≡ Some (format_of slice.sps)
   pub output : KeepsOutput frames (within_newest (joined_to true slice pictures)) (length pictures) d
   pub settled : IsSettled d
 
 -- there is a picture before whose first slice data this is kept
 pub record EntersSome (d : Decoder) : Type 0 where
-  pub frames : ℕ → Frame
+  pub frames : Family
   pub slice : CodedSlice
   pub pictures : List CodedPicture
   pub keeps : EntersFrames frames slice pictures d
 
-abbrev pub EntersBy : (ℕ → Frame) → Bool → CodedSlice → Bool → List CodedPicture → Decoder → Type 0
+abbrev pub EntersBy : Family → Bool → CodedSlice → Bool → List CodedPicture → Decoder → Type 0
 EntersBy frames true slice on pictures d = EntersFrames frames slice pictures d
 EntersBy frames false slice on [] d = ⊥
 EntersBy frames false slice on (p ∷ ps) d = KeepsFrames frames on false (p ∷ ps) d
 
 -- what is kept of them where a picture begins with this slice, of which nothing was read
-pub record BegunFrames (frames : ℕ → Frame) (slice : CodedSlice) (pictures : List CodedPicture) (d : Decoder) : Type 0 where
+pub record BegunFrames (frames : Family) (slice : CodedSlice) (pictures : List CodedPicture) (d : Decoder) : Type 0 where
   pub output : KeepsOutput frames (within_newest (joined_to true slice pictures)) (length pictures) d
   pub picture : HoldsBegun frames (record { first = slice; later = [] }) pictures [] [] d
 
 -- what is kept before slice data are read
-abbrev pub BeginsFrames : (ℕ → Frame) → Bool → CodedSlice → List CodedPicture → Decoder → Type 0
+abbrev pub BeginsFrames : Family → Bool → CodedSlice → List CodedPicture → Decoder → Type 0
 BeginsFrames frames true slice pictures d = BegunFrames frames slice pictures d
 BeginsFrames frames false slice [] d = ⊥
 BeginsFrames frames false slice (p ∷ ps) d = KeepsFrames frames true false (p ∷ ps) d
@@ -328,7 +342,7 @@ pub record IsRead (place : SlicePlace) (kept : Slice) (pictures : List CodedPict
 
 -- there is such a slice, before whose data this is kept
 pub record ReadsSome (place : SlicePlace) (kept : Slice) (d : Decoder) : Type 0 where
-  pub frames : ℕ → Frame
+  pub frames : Family
   pub on : Bool
   pub pictures : List CodedPicture
   pub slice : CodedSlice
@@ -340,7 +354,7 @@ pub record ReadsSome (place : SlicePlace) (kept : Slice) (d : Decoder) : Type 0 
   pub keeps : EntersBy frames place.begins slice on pictures d
 
 -- what is kept while the missing numbers before a picture are filled, where frames are made
-pub record FillsFrames (frames : ℕ → Frame) (t : Turn) (next : ℕ) (d : Decoder) : Type 0 where
+pub record FillsFrames (frames : Family) (t : Turn) (next : ℕ) (d : Decoder) : Type 0 where
   pub output : KeepsOutput frames t next d
   pub settled : IsSettled d
 
@@ -349,10 +363,10 @@ abbrev pub HasWritten : Turn → Decoder → Type 0
 HasWritten t d = KeepsBuffer (last_turn t.buffer).buffer (length t.written + length (last_turn t.buffer).written) d.output
 
 -- where frames are made, the frame of one more missing number, where these frames are held with it, writes nothing and leaves the buffer as it is
-unfoldable pub BufferStays : Mode → References → Buffered Shown → Type 0
-BufferStays modes.Units held b = Unit {0}
-BufferStays modes.Headers held b = Unit {0}
-BufferStays modes.Full held b = missing_turn held b ≡ stays b
+unfoldable pub BufferStays : Depth → References → Buffered Shown → Type 0
+BufferStays depths.Units held b = Unit {0}
+BufferStays depths.Headers held b = Unit {0}
+BufferStays depths.Full held b = missing_turn held b ≡ stays b
 
 -- where frames are made, the buffer has so many places
 abbrev pub HasPlaces : ℕ → Option Decoder → Type 0
@@ -379,7 +393,7 @@ numbers_in gap = numbers_from gap.count ((gap.prev_ref_frame_num + 1) % gap.numb
 
 -- there are frames of which this is kept
 pub record FillsSome (d : Decoder) : Type 0 where
-  pub frames : ℕ → Frame
+  pub frames : Family
   pub turn : Turn
   pub next : ℕ
   pub few : next < 2 ^ 62
@@ -387,17 +401,17 @@ pub record FillsSome (d : Decoder) : Type 0 where
 
 -- there are such frames, where frames are made
 pub record KeepsSomeGap (decoder : Option Decoder) : Type 0 where
-  pub mode : Mode
-  pub frames : ℕ → Frame
+  pub depth : Depth
+  pub frames : Family
   pub turn : Turn
   pub next : ℕ
   pub few : next < 2 ^ 62
-  pub keeps : WhereMade mode (FillsFrames frames turn next) decoder
+  pub keeps : WhereMade depth (FillsFrames frames turn next) decoder
 
 -- there is a picture that is decoded, and of which the buffer is told this, where these frames are held: no more than there are places, and a reference picture
 -- among them
 pub record KeepsSomeEnd (ended : Ended) (held : References) (d : Decoder) : Type 0 where
-  pub frames : ℕ → Frame
+  pub frames : Family
   pub p : CodedPicture
   pub ps : List CodedPicture
   pub is : ended ≡ ended_picture p ps
@@ -407,34 +421,34 @@ pub record KeepsSomeEnd (ended : Ended) (held : References) (d : Decoder) : Type
 
 -- there are pictures of which this is kept; the newest has been marked, or not
 pub record KeepsSomeFrames (ended : Bool) (slices : Slices) (decoder : Option Decoder) : Type 0 where
-  pub mode : Mode
-  pub frames : ℕ → Frame
+  pub depth : Depth
+  pub frames : Family
   pub before : History
   pub slices_are : KeepsSlices before ended slices
-  pub keeps : WhereMade mode (KeepsFrames frames (goes_on before) false (runs_of before)) decoder
+  pub keeps : WhereMade depth (KeepsFrames frames (goes_on before) false (runs_of before)) decoder
 
 -- there are pictures of which this is kept, the newest of which has ended here, or not
 pub record KeepsSomeRules (ended : Bool) (slices : Slices) (decoder : Option Decoder) : Type 0 where
-  pub mode : Mode
-  pub frames : ℕ → Frame
+  pub depth : Depth
+  pub frames : Family
   pub before : History
   pub slices_are : KeepsSlices before ended slices
-  pub keeps : WhereMade mode (KeepsFrames frames (goes_on before) ended (runs_of before)) decoder
+  pub keeps : WhereMade depth (KeepsFrames frames (goes_on before) ended (runs_of before)) decoder
 
 -- there are units of which this is kept
 pub record KeepsSomeSlice (slices : Slices) (sets : Maps) (decoder : Option Decoder) : Type 0 where
-  pub mode : Mode
-  pub frames : ℕ → Frame
+  pub depth : Depth
+  pub frames : Family
   pub before : History
   pub sets_are : sets ≡ maps_of before
   pub slices_are : KeepsSlices before false slices
-  pub keeps : WhereMade mode (KeepsFrames frames (goes_on before) false (runs_of before)) decoder
+  pub keeps : WhereMade depth (KeepsFrames frames (goes_on before) false (runs_of before)) decoder
 
 -- The rules of a picture's first slice from its type on, by what is kept of the pictures before it.
-abbrev pub first_by : Mode → Slices → List Picture → Buffered Shown → CodedSlice → List Step
-first_by mode slices pictures b s =
+abbrev pub first_by : Depth → Slices → List Picture → Buffered Shown → CodedSlice → List Step
+first_by depth slices pictures b s =
     needs (type_demand s.sps s.header ∷ idr_num_demand s.header ∷ [])
-    ++ (gap_rules mode s slices.prev_ref_frame_num slices.held b
+    ++ (gap_rules depth s slices.prev_ref_frame_num slices.held b
     ++ needs (id_demand slices.newest_idr s.header
     ∷ count_demand (picture_of s.sps s.header ∷ pictures) (first_bit s)
     ∷ qp_demand s.pps s.header
@@ -479,13 +493,13 @@ standing_demands true sps due maps bit h = idr_demand due bit h ∷ set_demand (
 standing_demands false sps due maps bit h = set_demand false maps sps h ∷ []
 
 -- The rules after these, by the pictures.
-abbrev pub slice_rules : Mode → Bool → List CodedPicture → CodedSlice → List Step
-slice_rules mode true pictures s = first_slice_rules mode pictures s
-slice_rules mode false pictures s = needs (later_slice_rules pictures s)
+abbrev pub slice_rules : Depth → Bool → List CodedPicture → CodedSlice → List Step
+slice_rules depth true pictures s = first_slice_rules depth pictures s
+slice_rules depth false pictures s = needs (later_slice_rules pictures s)
 
 -- These rules, and then the slice is told.
-abbrev pub told_rules : Mode → Bool → List CodedPicture → CodedSlice → List Step
-told_rules mode begins pictures s = slice_rules mode begins pictures s ++ Tells (Said (slice_call (joined_to begins s pictures) s)) ∷ []
+abbrev pub told_rules : Depth → Bool → List CodedPicture → CodedSlice → List Step
+told_rules depth begins pictures s = slice_rules depth begins pictures s ++ Tells (Said (slice_call (joined_to begins s pictures) s)) ∷ []
 
 -- how many macroblocks are coded before a slice
 abbrev pub coded_before : Bool → List CodedPicture → ℕ
@@ -493,8 +507,8 @@ coded_before true pictures = 0
 coded_before false pictures = length (coded_of pictures)
 
 -- What the end of the picture that may go on goes through, where it ends here: its macroblocks, its marking, its frame.
-abbrev pub close_steps : Mode → Bool → History → List Step
-close_steps mode ends before =
-    (if ends then whole_steps mode before else [])
+abbrev pub close_steps : Depth → Bool → History → List Step
+close_steps depth ends before =
+    (if ends then whole_steps depth before else [])
     ++ (needs (if ends then closing_demands before else [])
-    ++ (if ends then closing_frames mode before else []))
+    ++ (if ends then closing_frames depth before else []))

@@ -1,5 +1,6 @@
 pub mod KeepingUnits
 pub mod Memory
+pub mod Modes
 pub mod Units
 pub mod Order
 pub mod UnitOutcome

@@ -1,7 +1,7 @@
 -- A working form. Where judging a unit may want memory: for the bytes of one that is read, and for a picture of another format than the one before it.
 use Rattle.std.specs.Prelude.{◌≡◌, ◌≢◌, ℕ, ◌==◌, ◌&&◌, ◌||◌, Bool, true, false, Option, Some, None, List, [], ◌∷◌, if◌then◌else◌}
-use Rattle.h264_base.specs.declared.mode.Mode.{Mode}
-use Rattle.h264_base.specs.declared.mode.Mode.TheVariants as modes
+use Rattle.h264_verify.specs.declared.state.Depth.{Depth}
+use Rattle.h264_verify.specs.declared.state.Depth.TheVariants as depths
 use Rattle.h264_base.specs.Body.{Body}
 use Rattle.h264_base.specs.Grammar.{Element, Derives}
 use Rattle.h264_units.specs.Stream.{NalUnit}
@@ -19,21 +19,21 @@ use Rattle.h264_units.specs.UnitHeader.{is_slice}
 use Rattle.h264_verify.specs.Units.{slice_unit}
 
 -- in Units slices are passed over
-abbrev pub reads_slices : Mode → Bool
-reads_slices modes.Units = false
-reads_slices modes.Headers = true
-reads_slices modes.Full = true
+abbrev pub reads_slices : Depth → Bool
+reads_slices depths.Units = false
+reads_slices depths.Headers = true
+reads_slices depths.Full = true
 
 -- a unit of this type is read: a parameter set, or a slice where slices are read
-abbrev pub is_kind_read : Mode → ℕ → Bool
-is_kind_read mode kind = kind == 7 || kind == 8 || is_slice kind && reads_slices mode
+abbrev pub is_kind_read : Depth → ℕ → Bool
+is_kind_read depth kind = kind == 7 || kind == 8 || is_slice kind && reads_slices depth
 
-abbrev pub is_read : Mode → NalUnit → Bool
-is_read mode unit = is_kind_read mode (nal_unit_type (header_of unit))
+abbrev pub is_read : Depth → NalUnit → Bool
+is_read depth unit = is_kind_read depth (nal_unit_type (header_of unit))
 
 -- the RBSP of a unit that is read
-abbrev pub bytes_of : Mode → NalUnit → Option Body
-bytes_of mode unit = if is_read mode unit then Some (body_of unit) else None
+abbrev pub bytes_of : Depth → NalUnit → Option Body
+bytes_of depth unit = if is_read depth unit then Some (body_of unit) else None
 
 -- pictures of this sequence have frames of another size, or another number of them in the buffer, than the newest of these, or are the first
 abbrev pub HasAnotherFormat : List CodedPicture → Sps → Type 0
@@ -52,7 +52,7 @@ pub record BeginsAnotherFormat (before : History) (unit : NalUnit) : Type 0 wher
   pub is_another : HasAnotherFormat (runs_of before) sets.1
 
 -- Slice data are read, and such a slice stands in this unit.
-pub record ChangesFormat (mode : Mode) (before : History) (unit : NalUnit) : Type 0 where
-  pub full : mode ≡ modes.Full
+pub record ChangesFormat (depth : Depth) (before : History) (unit : NalUnit) : Type 0 where
+  pub full : depth ≡ depths.Full
   pub slice : is_slice (nal_unit_type (header_of unit)) ≡ true
   pub begins : BeginsAnotherFormat before unit

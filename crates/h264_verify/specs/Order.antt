@@ -1,8 +1,9 @@
 -- The order of all checks, on one page: each list is judged from its first rule to its last. To be read beside the standard, and beside docs/RULES.md.
--- A mode leaves out what it says at once: `Units` passes slices over, and `Headers` slice data with what they give.
+-- A depth leaves out what it says at once: `Units` passes slices over, and `Headers` slice data with what they give. The mode `Verdict` leaves out
+-- nothing here: it is judged in full, and its sink is told no frames (Modes, Telling).
 use Rattle.std.specs.Prelude.{ℕ, Bool, true, not, List, [], ◌∷◌, ◌==◌, if◌then◌else◌, length, ◌*◌, false, Option, Some, None, map, ◌++◌}
 use Rattle.h264_base.specs.Grammar.{Grammar, ◌>>=◌, Done}
-use Rattle.h264_base.specs.declared.mode.Mode.{Mode}
+use Rattle.h264_verify.specs.declared.state.Depth.{Depth}
 use Rattle.h264_base.specs.declared.rule.Rule.TheVariants.{ForbiddenBit, RefIdc, Partition, Incomplete}
 use Rattle.h264_dpb.specs.Buffered.{Buffered}
 use Rattle.h264_dpb.specs.Turns.{Shown}
@@ -34,8 +35,8 @@ use Rattle.h264_verify.specs.Steps.{Step, Needs, needs, Course, Takes, Reads, En
 use Rattle.h264_verify.specs.Telling.{Said}
 use Rattle.h264_units.specs.UnitHeader.{header_of, nal_unit_type, nal_ref_idc, forbidden_zero_bit, is_partition, fits_kind}
 use Rattle.h264_verify.specs.Units.{unit_call, other_content, picture_demand}
-use Rattle.h264_verify.specs.declared.state.Terms.{Terms}
-use Rattle.h264_base.specs.declared.mode.Mode.TheVariants as modes
+use Rattle.h264_verify.specs.declared.state.Extent.{Extent}
+use Rattle.h264_verify.specs.declared.state.Depth.TheVariants as depths
 use Rattle.h264_verify.specs.Content as contents
 use Rattle.h264_verify.specs.Steps as step
 
@@ -59,14 +60,14 @@ whole_picture (p ∷ pictures) =
     ∷ []
 
 -- This comes before the rules at the end of the picture that may go on, where slice data are read.
-abbrev pub whole_steps : Mode → History → List Step
-whole_steps modes.Units before = []
-whole_steps modes.Headers before = []
-whole_steps modes.Full before = if goes_on before then whole_picture (runs_of before) else []
+abbrev pub whole_steps : Depth → History → List Step
+whole_steps depths.Units before = []
+whole_steps depths.Headers before = []
+whole_steps depths.Full before = if goes_on before then whole_picture (runs_of before) else []
 
 -- It comes before the content of a unit whose type ends the picture.
-abbrev pub whole_at : Mode → ℕ → History → List Step
-whole_at mode kind before = if ends_picture kind then whole_steps mode before else []
+abbrev pub whole_at : Depth → ℕ → History → List Step
+whole_at depth kind before = if ends_picture kind then whole_steps depth before else []
 
 -- The rules at the end of the picture that may go on after these units, if there is one.
 abbrev pub closing_demands : History → List Demand
@@ -77,25 +78,25 @@ abbrev pub closing_at : ℕ → History → List Demand
 closing_at kind before = if ends_picture kind then closing_demands before else []
 
 -- Then frames are written, before the content of such a unit (C.4.4, C.4.5).
-abbrev pub frames_at : Mode → ℕ → History → List Step
-frames_at mode kind before = if ends_picture kind then closing_frames mode before else []
+abbrev pub frames_at : Depth → ℕ → History → List Step
+frames_at depth kind before = if ends_picture kind then closing_frames depth before else []
 
 -- ---- the first slice of a picture
 
 -- The rules on frame_num of a picture that this slice begins, and between them the missing numbers before it, each of which is filled,
 -- where PrevRefFrameNum, the held frames and the picture buffer are these.
-abbrev pub gap_rules : Mode → CodedSlice → ℕ → References → Buffered Shown → List Step
-gap_rules mode s prev refs b =
+abbrev pub gap_rules : Depth → CodedSlice → ℕ → References → Buffered Shown → List Step
+gap_rules depth s prev refs b =
     needs (gap_demand (is_idr s.header) s.sps.gaps_in_frame_num_value_allowed_flag s.header.frame_num.bit prev (numbering_of s.sps s.header) ∷ [])
-    ++ (missing_steps mode s.header.frame_num.bit (numbering_of s.sps s.header)
+    ++ (missing_steps depth s.header.frame_num.bit (numbering_of s.sps s.header)
     (unused_short_term_frame_nums (is_idr s.header) prev (numbering_of s.sps s.header)) refs b
     ++ needs (new_num_demand (is_idr s.header) (is_reference s.header) s.header.frame_num.bit prev (numbering_of s.sps s.header) refs ∷ []))
 
 -- The rules of a picture's first slice after these pictures, the newest of which has ended, from its type on.
-abbrev pub first_slice_rules : Mode → List CodedPicture → CodedSlice → List Step
-first_slice_rules mode pictures s =
+abbrev pub first_slice_rules : Depth → List CodedPicture → CodedSlice → List Step
+first_slice_rules depth pictures s =
     needs (type_demand s.sps s.header ∷ idr_num_demand s.header ∷ [])
-    ++ (gap_rules mode s (prev_ref_frame_num_of pictures) (held_after pictures) (after_all pictures).buffer
+    ++ (gap_rules depth s (prev_ref_frame_num_of pictures) (held_after pictures) (after_all pictures).buffer
     ++ needs (id_demand (newest_idr_of pictures) s.header
     ∷ count_demand (picture_of s.sps s.header ∷ map counted pictures) (first_bit s)
     ∷ qp_demand s.pps s.header
@@ -103,11 +104,11 @@ first_slice_rules mode pictures s =
     ∷ []))
 
 -- All rules of a picture's first slice. FirstMb is judged where slice data are read.
-abbrev pub first_slice_demands : Mode → Bool → Maps → List CodedPicture → CodedSlice → List Step
-first_slice_demands mode due maps pictures s =
+abbrev pub first_slice_demands : Depth → Bool → Maps → List CodedPicture → CodedSlice → List Step
+first_slice_demands depth due maps pictures s =
     needs (idr_demand due (first_bit s) s.header ∷ set_demand (is_idr s.header) maps s.sps s.header ∷ [])
-    ++ (needs (first_mb_demands mode 0 s.header)
-    ++ first_slice_rules mode pictures s)
+    ++ (needs (first_mb_demands depth 0 s.header)
+    ++ first_slice_rules depth pictures s)
 
 -- ---- a later slice
 
@@ -123,85 +124,85 @@ later_slice_rules pictures s =
     ∷ []
 
 -- All rules of a later slice.
-abbrev pub later_slice_demands : Mode → Maps → List CodedPicture → CodedSlice → List Step
-later_slice_demands mode maps pictures s =
+abbrev pub later_slice_demands : Depth → Maps → List CodedPicture → CodedSlice → List Step
+later_slice_demands depth maps pictures s =
     needs (set_demand false maps s.sps s.header ∷ [])
-    ++ (needs (first_mb_demands mode (length (coded_of pictures)) s.header)
+    ++ (needs (first_mb_demands depth (length (coded_of pictures)) s.header)
     ++ needs (later_slice_rules pictures s))
 
 -- ---- a slice: the end of the picture before it, its rules, and what is told of it
 
 -- A slice begins a picture, or is a later one.
-abbrev pub rules_of : Mode → Bool → Bool → Maps → List CodedPicture → CodedSlice → List Step
-rules_of mode true due maps pictures s = first_slice_demands mode due maps pictures s
-rules_of mode false due maps pictures s = later_slice_demands mode maps pictures s
+abbrev pub rules_of : Depth → Bool → Bool → Maps → List CodedPicture → CodedSlice → List Step
+rules_of depth true due maps pictures s = first_slice_demands depth due maps pictures s
+rules_of depth false due maps pictures s = later_slice_demands depth maps pictures s
 
 -- the steps of a slice with its sets; a header that was read has them
-abbrev pub steps_by : Mode → Option (Pps × Sps) → History → NalUnit → Header → List Step
-steps_by mode None before unit h = []
-steps_by mode (Some sets) before unit h =
-    rules_of mode (begins_at before h) (is_idr_due before) (maps_of before) (runs_of before) (with_sets unit h [] sets)
+abbrev pub steps_by : Depth → Option (Pps × Sps) → History → NalUnit → Header → List Step
+steps_by depth None before unit h = []
+steps_by depth (Some sets) before unit h =
+    rules_of depth (begins_at before h) (is_idr_due before) (maps_of before) (runs_of before) (with_sets unit h [] sets)
     ++ step.Tells (Said (slice_call (joined_to (begins_at before h) (with_sets unit h [] sets) (runs_of before)) (with_sets unit h [] sets)))
     ∷ []
 
 -- A slice after these units: where it begins a picture, the one before it ends first; then come its rules, and it is told.
-abbrev pub slice_steps : Mode → History → NalUnit → Header → List Step
-slice_steps mode before unit h =
-    (if begins_at before h then whole_steps mode before else [])
+abbrev pub slice_steps : Depth → History → NalUnit → Header → List Step
+slice_steps depth before unit h =
+    (if begins_at before h then whole_steps depth before else [])
     ++ (needs (if begins_at before h then closing_demands before else [])
-    ++ ((if begins_at before h then closing_frames mode before else [])
-    ++ steps_by mode (sets_at before h) before unit h))
+    ++ ((if begins_at before h then closing_frames depth before else [])
+    ++ steps_by depth (sets_at before h) before unit h))
 
 -- ---- a unit: its first byte, the end of the picture before it, the structure in it, the rules on what that gives, and slice data
 
 -- The syntax structure in a unit of this type, after these units; of a slice its header (7.3.1, table 7-1).
-unfoldable pub content : Terms → ℕ → History → NalUnit → Grammar Content
-content terms kind before unit =
-    if kind == 7 then sps terms.target >>= (λ set. Done (contents.OfSps set))
-    else (if kind == 8 then pps terms.target >>= (λ set. Done (contents.OfPps set))
-    else other_content terms.mode kind before unit)
+unfoldable pub content : Extent → ℕ → History → NalUnit → Grammar Content
+content extent kind before unit =
+    if kind == 7 then sps extent.target >>= (λ set. Done (contents.OfSps set))
+    else (if kind == 8 then pps extent.target >>= (λ set. Done (contents.OfPps set))
+    else other_content extent.depth kind before unit)
 
 -- The rules on what is in a unit, beside its own syntax, and what the sink is told once they are met.
-abbrev pub content_steps : Mode → History → NalUnit → Content → List Step
-content_steps mode before unit (contents.OfSps set) = []
-content_steps mode before unit (contents.OfPps set) = []
-content_steps mode before unit (contents.OfSlice h macroblocks) = slice_steps mode before unit h
-content_steps mode before unit contents.Passed = []
+abbrev pub content_steps : Depth → History → NalUnit → Content → List Step
+content_steps depth before unit (contents.OfSps set) = []
+content_steps depth before unit (contents.OfPps set) = []
+content_steps depth before unit (contents.OfSlice h macroblocks) = slice_steps depth before unit h
+content_steps depth before unit contents.Passed = []
 
 -- What stands after that in the unit: slice data after the header of a slice, from this bit on, where they are read.
-abbrev pub data_course : Mode → History → NalUnit → Content → ℕ → Course
-data_course mode before unit (contents.OfSps set) bit = Ends (contents.OfSps set)
-data_course mode before unit (contents.OfPps set) bit = Ends (contents.OfPps set)
-data_course modes.Units before unit (contents.OfSlice h macroblocks) bit = Ends (contents.OfSlice h macroblocks)
-data_course modes.Headers before unit (contents.OfSlice h macroblocks) bit = Ends (contents.OfSlice h macroblocks)
-data_course modes.Full before unit (contents.OfSlice h macroblocks) bit =
+abbrev pub data_course : Depth → History → NalUnit → Content → ℕ → Course
+data_course depth before unit (contents.OfSps set) bit = Ends (contents.OfSps set)
+data_course depth before unit (contents.OfPps set) bit = Ends (contents.OfPps set)
+data_course depths.Units before unit (contents.OfSlice h macroblocks) bit = Ends (contents.OfSlice h macroblocks)
+data_course depths.Headers before unit (contents.OfSlice h macroblocks) bit = Ends (contents.OfSlice h macroblocks)
+data_course depths.Full before unit (contents.OfSlice h macroblocks) bit =
     Reads (slice_data_at before unit h >>= (λ ms. Done (contents.OfSlice h ms))) bit (λ whole end. Ends whole)
-data_course mode before unit contents.Passed bit = Ends contents.Passed
+data_course depth before unit contents.Passed bit = Ends contents.Passed
 
 -- After the unit's first byte: its elements, the rules on what they give, and the elements after these.
-abbrev pub content_course : Terms → History → NalUnit → Course
-content_course terms before unit =
-    Reads (content terms (nal_unit_type (header_of unit)) before unit) 0 (λ found bit.
-    Takes (content_steps terms.mode before unit found)
-    (data_course terms.mode before unit found bit))
+abbrev pub content_course : Extent → History → NalUnit → Course
+content_course extent before unit =
+    Reads (content extent (nal_unit_type (header_of unit)) before unit) 0 (λ found bit.
+    Takes (content_steps extent.depth before unit found)
+    (data_course extent.depth before unit found bit))
 
 -- The course of a unit whose bytes are sound. A fault in its bytes is judged before all else (7.4.1, `AtBytes` of Verdict). Then come the rules
 -- of its first byte; the sink is told of it; a picture ends before it; and last comes what is in it.
-abbrev pub unit_course : Terms → History → NalUnit → Course
-unit_course terms before unit =
+abbrev pub unit_course : Extent → History → NalUnit → Course
+unit_course extent before unit =
     Takes (needs (header_demands (8 * unit.from) (header_of unit)))
     (Takes (step.Tells (Said (unit_call unit.from (header_of unit) (length unit.body))) ∷ [])
-    (Takes (whole_at terms.mode (nal_unit_type (header_of unit)) before
-    ++ (needs (closing_at (nal_unit_type (header_of unit)) before) ++ frames_at terms.mode (nal_unit_type (header_of unit)) before))
-    (content_course terms before unit)))
+    (Takes (whole_at extent.depth (nal_unit_type (header_of unit)) before
+    ++ (needs (closing_at (nal_unit_type (header_of unit)) before) ++ frames_at extent.depth (nal_unit_type (header_of unit)) before))
+    (content_course extent before unit)))
 
 -- ---- the end of the input
 
 -- The end of the input, at this bit: the last picture ends, there is one, and all frames that wait are written.
-abbrev pub end_steps : Mode → History → ℕ → List Step
-end_steps mode before bit =
-    whole_steps mode before
+abbrev pub end_steps : Depth → History → ℕ → List Step
+end_steps depth before bit =
+    whole_steps depth before
     ++ (needs (closing_demands before)
-    ++ (closing_frames mode before
-    ++ (needs (picture_demand mode before bit ∷ [])
-    ++ last_frames mode (runs_of before))))
+    ++ (closing_frames depth before
+    ++ (needs (picture_demand depth before bit ∷ [])
+    ++ last_frames depth (runs_of before))))

@@ -4,8 +4,8 @@ use Rattle.std.specs.Prelude.{int_le, if◌then◌else◌}
 use Rattle.std.specs.List.{list_any}
 use Rattle.std.specs.Option.{is_some}
 use Rattle.h264_base.specs.declared.rule.Rule.TheVariants as rule
-use Rattle.h264_base.specs.declared.mode.Mode.{Mode}
-use Rattle.h264_base.specs.declared.mode.Mode.TheVariants as modes
+use Rattle.h264_verify.specs.declared.state.Depth.{Depth}
+use Rattle.h264_verify.specs.declared.state.Depth.TheVariants as depths
 use Rattle.h264_base.specs.Call.{Call, OfSlice}
 use Rattle.h264_bits.specs.declared.element.Found.{Found}
 use Rattle.h264_sps.specs.declared.sps.Sps.{Sps}
@@ -113,10 +113,10 @@ abbrev pub set_demand : Bool → Maps → Sps → Header → Demand
 set_demand renews maps sps h = record { rule = rule.SetChanged; bit = h.pic_parameter_set_id.bit; met = renews || is_active maps sps }
 
 -- first_mb_in_slice is the number of macroblocks that are already coded in the picture (7.4.3). Slice data tell it.
-abbrev pub first_mb_demands : Mode → ℕ → Header → List Demand
-first_mb_demands modes.Units coded h = []
-first_mb_demands modes.Headers coded h = []
-first_mb_demands modes.Full coded h = record { rule = rule.FirstMb; bit = h.first_mb_in_slice.bit; met = h.first_mb_in_slice.value == coded } ∷ []
+abbrev pub first_mb_demands : Depth → ℕ → Header → List Demand
+first_mb_demands depths.Units coded h = []
+first_mb_demands depths.Headers coded h = []
+first_mb_demands depths.Full coded h = record { rule = rule.FirstMb; bit = h.first_mb_in_slice.bit; met = h.first_mb_in_slice.value == coded } ∷ []
 
 -- IDR slices, and all where there are no reference frames, are I (7.4.3).
 abbrev pub type_demand : Sps → Header → Demand

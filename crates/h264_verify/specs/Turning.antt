@@ -1,13 +1,12 @@
 -- What was judged of a unit, and of the end of the input, and what the sink was told of it. A working form.
 use Rattle.std.specs.Prelude.{ℕ, OnOk, Result}
-use Rattle.h264_base.specs.declared.mode.Mode.{Mode}
+use Rattle.h264_verify.specs.declared.state.Depth.{Depth}
 use Rattle.h264_base.specs.declared.stop.Stop.{Stop}
-use Rattle.h264_plane.specs.declared.frame.Frame.{Frame}
 use Rattle.h264_units.specs.Stream.{NalUnit}
 use Rattle.h264_verify.specs.declared.state.State.{State}
 use Rattle.h264_base.specs.declared.summary.Summary.{Summary}
-use Rattle.h264_verify.specs.declared.state.Terms.{Terms}
-use Rattle.h264_verify.specs.Telling.{FrameSpan, with_frames, Agree}
+use Rattle.h264_verify.specs.declared.state.Extent.{Extent}
+use Rattle.h264_verify.specs.Telling.{FrameSpan, with_frames, Agree, Family}
 use Rattle.h264_verify.specs.Outcome.{Outcome, Plays}
 use Rattle.h264_verify.specs.History.{History}
 use Rattle.h264_verify.specs.KeepingUnits.{Keeps}
@@ -15,23 +14,23 @@ use Rattle.h264_verify.specs.Keeping.{ended_in}
 use Rattle.h264_verify.specs.UnitOutcome.{unit_outcome, end_outcome}
 
 -- After these units a unit was judged, and the sink was told what comes of it.
-pub record Turns {S X : Type 0} (terms : Terms) (w : FrameSpan S) (before : History) (unit : NalUnit) (new : State) (result : Result X Stop) : Type 0 where
-  pub made : ℕ → Frame
+pub record Turns {S X : Type 0} (extent : Extent) (w : FrameSpan S) (before : History) (unit : NalUnit) (new : State) (result : Result X Stop) : Type 0 where
+  pub made : Family
   pub same : Agree (ended_in before) w.frames made
   pub after : History
-  pub plays : Plays (with_frames made w.sink) (λ (x : X). after) (unit_outcome terms before unit) result
-  pub keeps : OnOk result (Keeps terms.mode made after new)
+  pub plays : Plays (with_frames made w.sink) (λ (x : X). after) (unit_outcome extent before unit) result
+  pub keeps : OnOk result (Keeps extent.depth made after new)
 
 -- What is in a unit was read and judged, where so many pictures had ended, and the sink was told what comes of it.
-pub record Joins {S X : Type 0} (mode : Mode) (w : FrameSpan S) (ended : ℕ) (o : Outcome History) (new : State) (result : Result X Stop) : Type 0 where
-  pub made : ℕ → Frame
+pub record Joins {S X : Type 0} (depth : Depth) (w : FrameSpan S) (ended : ℕ) (o : Outcome History) (new : State) (result : Result X Stop) : Type 0 where
+  pub made : Family
   pub same : Agree ended w.frames made
   pub after : History
   pub plays : Plays (with_frames made w.sink) (λ (x : X). after) o result
-  pub keeps : OnOk result (Keeps mode made after new)
+  pub keeps : OnOk result (Keeps depth made after new)
 
 -- The end of the input was judged, and the sink was told what comes of it.
-pub record EndsAll {S X : Type 0} (mode : Mode) (w : FrameSpan S) (before : History) (bit : ℕ) (view : X → Summary) (result : Result X Stop) : Type 0 where
-  pub made : ℕ → Frame
+pub record EndsAll {S X : Type 0} (depth : Depth) (w : FrameSpan S) (before : History) (bit : ℕ) (view : X → Summary) (result : Result X Stop) : Type 0 where
+  pub made : Family
   pub same : Agree (ended_in before) w.frames made
-  pub plays : Plays (with_frames made w.sink) view (end_outcome mode before bit) result
+  pub plays : Plays (with_frames made w.sink) view (end_outcome depth before bit) result

@@ -5,38 +5,39 @@ ghost use Rattle.std.specs.Prelude.{◌≡◌, true, IfOk, IfErr};
 ghost use Rattle.h264_units.specs.UnitTypes.{type_number};
 ghost use Rattle.h264_verify.specs.Memory.{reads_slices, is_kind_read, is_read, bytes_of};
 
-use h264_base::{Mode, Stop};
+use crate::state::Depth;
+use h264_base::Stop;
 use h264_rbsp::Rbsp;
 use h264_units::{NalUnit, NalUnitType};
 use std::alloc::Global;
 
 /// Whether slices are read.
-fn reads_slices(mode: Mode) -> bool
-    ensures { result ≡ reads_slices mode }
+fn reads_slices(depth: Depth) -> bool
+    ensures { result ≡ reads_slices depth }
 {
-    match mode {
-        Mode::Units => false,
-        Mode::Headers => true,
-        Mode::Full => true,
+    match depth {
+        Depth::Units => false,
+        Depth::Headers => true,
+        Depth::Full => true,
     }
 }
 
 /// Whether a unit of this type is read: a parameter set, or a slice where slices are read.
-fn is_kind_read(mode: Mode, kind: NalUnitType) -> bool
-    ensures { result ≡ is_kind_read mode (type_number kind) }
+fn is_kind_read(depth: Depth, kind: NalUnitType) -> bool
+    ensures { result ≡ is_kind_read depth (type_number kind) }
 {
     let is_set = matches!(kind, NalUnitType::SequenceSet | NalUnitType::PictureSet);
-    is_set || kind.is_slice() && reads_slices(mode)
+    is_set || kind.is_slice() && reads_slices(depth)
 }
 
 /// The RBSP of a unit that is read in this mode (7.3.1); None for one that is passed over, of which no byte is copied.
 ///
 /// Err: Memory alone, and only for a unit that is read.
-pub fn read_bytes(alloc: Global, mode: Mode, unit: &NalUnit) -> Result<Option<Rbsp>, Stop>
-    ensures bytes { IfOk result (λ rbsp. rbsp ≡ bytes_of mode unit.now) }
-    ensures err { IfErr result (λ e. (e ≡ Stop.Memory) × (is_read mode unit.now ≡ true)) }
+pub fn read_bytes(alloc: Global, depth: Depth, unit: &NalUnit) -> Result<Option<Rbsp>, Stop>
+    ensures bytes { IfOk result (λ rbsp. rbsp ≡ bytes_of depth unit.now) }
+    ensures err { IfErr result (λ e. (e ≡ Stop.Memory) × (is_read depth unit.now ≡ true)) }
 {
-    if !is_kind_read(mode, NalUnitType::of(unit.body()[0])) {
+    if !is_kind_read(depth, NalUnitType::of(unit.body()[0])) {
         return Ok(None);
     }
     match Rbsp::of(alloc, unit) {

@@ -3,9 +3,9 @@
 
 ghost use Rattle.std.specs.Prelude.{◌≡◌, ℕ, ◌-◌, ◌<◌, ◌≤◌, ◌^◌, false, OnOk, IsErrOf, Ok, [], IfErr, if◌then◌else◌};
 ghost use Rattle.h264_base.specs.Call.{HasRoom, IsQuiet};
-ghost use Rattle.h264_base.specs.declared.mode.Mode.{Mode};
+ghost use Rattle.h264_verify.specs.declared.state.Depth.{Depth};
 ghost use Rattle.h264_plane.specs.declared.frame.Frame.{Frame};
-ghost use Rattle.h264_verify.specs.Telling.{frame_span};
+ghost use Rattle.h264_verify.specs.Telling.{frame_span, Family};
 ghost use Rattle.h264_verify.specs.History.{History};
 ghost use Rattle.h264_verify.specs.Pictures.{goes_on, runs_of};
 ghost use Rattle.h264_verify.specs.Order.{closing_demands};
@@ -26,9 +26,9 @@ use h264_marking::mark_end;
 
 /// The end of the slice data of the picture that may go on, where they are read and it ends here: all its macroblocks are coded.
 fn end_data_if(ends: bool, slices: &Slices, decoder: &Option<Decoder>) -> Result<(), Stop>
-    ensures judged { (mode : Mode) (frames : ℕ → Frame) (before : History) → KeepsSlices before false slices.now →
-        WhereMade mode (KeepsFrames frames (goes_on before) false (runs_of before)) decoder.now →
-        answers result ≡ steps_outcome (if ends then whole_steps mode before else []) }
+    ensures judged { (depth : Depth) (frames : Family) (before : History) → KeepsSlices before false slices.now →
+        WhereMade depth (KeepsFrames frames (goes_on before) false (runs_of before)) decoder.now →
+        answers result ≡ steps_outcome (if ends then whole_steps depth before else []) }
     ensures named { IfErr result IsNamed }
 {
     if !ends {
@@ -74,11 +74,11 @@ fn end_frame_if<S: FrameSink>(
     requires room { HasRoom S.failures sink.old }
     requires pictures { slices.now.pictures ≤ 2 ^ 42 }
     requires kept { KeepsSomeFrames ends slices.now decoder.old }
-    ensures ends { (mode : Mode) (frames : ℕ → Frame) (before : History) → KeepsSlices before ends slices.now →
-        answers (Ok tt) ≡ steps_outcome (if ends then whole_steps mode before else []) →
-        WhereMade mode (KeepsFrames frames (goes_on before) false (runs_of before)) decoder.old →
-        EndsFrames mode (frame_span S.took S.failures frames sink.old sink.new) (closing (goes_on before) ends (runs_of before))
-        (steps_outcome (if ends then closing_frames mode before else [])) decoder.new result }
+    ensures ends { (depth : Depth) (frames : Family) (before : History) → KeepsSlices before ends slices.now →
+        answers (Ok tt) ≡ steps_outcome (if ends then whole_steps depth before else []) →
+        WhereMade depth (KeepsFrames frames (goes_on before) false (runs_of before)) decoder.old →
+        EndsFrames depth (frame_span S.took S.failures frames sink.old sink.new) (closing (goes_on before) ends (runs_of before))
+        (steps_outcome (if ends then closing_frames depth before else [])) decoder.new result }
     ensures format { format_in decoder.new ≡ format_in decoder.old }
     ensures kept { OnOk result (IsQuiet S.failures sink.old sink.new) }
     ensures no_memory { IfErr result (λ e. e ≡ Stop.Write) }
@@ -107,10 +107,10 @@ pub fn close_if<S: FrameSink>(
     requires room { HasRoom S.failures sink.old }
     requires pictures { slices.old.pictures ≤ 2 ^ 42 }
     requires kept { KeepsSomeFrames false slices.old decoder.old }
-    ensures closes { (mode : Mode) (frames : ℕ → Frame) (before : History) → KeepsSlices before false slices.old →
-        WhereMade mode (KeepsFrames frames (goes_on before) false (runs_of before)) decoder.old →
-        EndsFrames mode (frame_span S.took S.failures frames sink.old sink.new) (closing (goes_on before) ends (runs_of before))
-        (steps_outcome (close_steps mode ends before)) decoder.new result }
+    ensures closes { (depth : Depth) (frames : Family) (before : History) → KeepsSlices before false slices.old →
+        WhereMade depth (KeepsFrames frames (goes_on before) false (runs_of before)) decoder.old →
+        EndsFrames depth (frame_span S.took S.failures frames sink.old sink.new) (closing (goes_on before) ends (runs_of before))
+        (steps_outcome (close_steps depth ends before)) decoder.new result }
     ensures ended { (before : History) → KeepsSlices before false slices.old → OnOk result (KeepsSlices before ends slices.new) }
     ensures others { slices.new ≡ record slices.old { held = slices.new.held } }
     ensures format { format_in decoder.new ≡ format_in decoder.old }

@@ -4,7 +4,7 @@
 ghost use Rattle.std.specs.Prelude.{◌≡◌, ℕ, ◌-◌, ◌<◌, ◌≤◌, ◌^◌, Bool, true, false, Ok, Some, List, [], length, OnOk, IfErr, IsErrOf};
 ghost use Rattle.h264_base.specs.Call.{HasRoom, IsQuiet};
 ghost use Rattle.h264_sps.specs.Usable.{is_usable};
-ghost use Rattle.h264_verify.specs.Telling.{frame_span};
+ghost use Rattle.h264_verify.specs.Telling.{frame_span, Family};
 ghost use Rattle.h264_verify.specs.Pictures.{CodedSlice, CodedPicture, joined_to};
 ghost use Rattle.h264_plane.specs.declared.frame.Frame.{Frame};
 ghost use Rattle.h264_verify.specs.Data.{coded_so_far, data_in};
@@ -26,7 +26,7 @@ use std::alloc::Global;
 fn begin_if(alloc: Global, begins: bool, sps: &Sps, decoder: &mut Decoder) -> Result<(), Stop>
     requires usable { is_usable sps.now ≡ true }
     requires kept { begins ≡ true → EntersSome decoder.old }
-    ensures holds { (frames : ℕ → Frame) (on : Bool) (s : CodedSlice) (pictures : List CodedPicture) → s.sps ≡ sps.now → (begins ≡ false → on ≡ true) →
+    ensures holds { (frames : Family) (on : Bool) (s : CodedSlice) (pictures : List CodedPicture) → s.sps ≡ sps.now → (begins ≡ false → on ≡ true) →
         EntersBy frames begins s on pictures decoder.old → OnOk result (BeginsFrames frames begins s pictures decoder.new) }
     ensures later { begins ≡ false → result ≡ Ok tt }
     ensures stands { decoder.old.format ≡ Some (format_of sps.now) → result ≡ Ok tt }
@@ -52,7 +52,7 @@ pub(crate) fn read_data<S: Elements>(
     requires room { HasRoom S.failures sink.old }
     requires usable { is_usable place.now.sps.now ≡ true }
     requires kept { ReadsSome place.now slice.now decoder.old }
-    ensures reads { (frames : ℕ → Frame) (on : Bool) (pictures : List CodedPicture) (s : CodedSlice) → IsRead place.now slice.now pictures s →
+    ensures reads { (frames : Family) (on : Bool) (pictures : List CodedPicture) (s : CodedSlice) → IsRead place.now slice.now pictures s →
         s.header.first_mb_in_slice.value ≡ length (coded_so_far place.now.begins pictures) → s.macroblocks ≡ [] →
         (place.now.begins ≡ false → on ≡ true) →
         (place.now.begins ≡ false → HasPps s.pps pictures) → EntersBy frames place.now.begins s on pictures decoder.old →

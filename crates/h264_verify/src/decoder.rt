@@ -2,6 +2,7 @@
 #![tactic(auto)]
 
 ghost use Rattle.std.specs.Prelude.{◌≡◌};
+ghost use Rattle.h264_verify.specs.Telling.{Family, IsFamilyFor};
 ghost use Rattle.h264_base.specs.Call.{HasRoom, IsQuiet, span};
 ghost use Rattle.h264_verify.specs.Keeping.{format_of};
 
@@ -10,7 +11,7 @@ use h264_bits::Bits;
 use h264_dpb::{Ended, FrameSink, Output};
 use h264_header::Header;
 use h264_marking::Held;
-use h264_picture::{PLACES, Work, buffer_size, slice_samples};
+use h264_picture::{PLACES, Purpose, Work, buffer_size, slice_samples};
 use h264_pps::Pps;
 use h264_sps::sps::{FrameSize, Sps};
 use h264_vectors::SliceContext;
@@ -50,7 +51,7 @@ fn format_of(sps: &Sps) -> Format
 
 impl Decoder {
     ghost use Rattle.std.specs.Prelude.{◌≡◌, ℕ, ◌+◌, ◌-◌, ◌<◌, ◌≤◌, ◌^◌, ◌⊎◌, true, false, [], ◌∷◌, List, Some, None, length, get_or, Ok, OnOk, IfErr, IsErrOf};
-    ghost use Rattle.h264_base.specs.declared.mode.Mode.TheVariants as modes;
+    ghost use Rattle.h264_verify.specs.declared.state.Depth.TheVariants as depths;
     ghost use Rattle.h264_plane.specs.declared.frame.Frame.{Frame};
     ghost use Rattle.h264_sps.specs.Usable.{is_usable};
     ghost use Rattle.h264_near.specs.Coded.{CodedMacroblock};
@@ -59,11 +60,12 @@ impl Decoder {
     ghost use Rattle.h264_picture.specs.Levels.{transform_fits};
     ghost use Rattle.h264_picture.specs.Filter.{slice_filter};
     ghost use Rattle.h264_picture.specs.Weights.{slice_weights};
-    ghost use Rattle.h264_picture.specs.Places.{lent, first_place, is_active_place, IsReleased, KeepsFrames as KeepsLent};
+    ghost use Rattle.h264_picture.specs.Places.{lent, first_place, places as places_of, purpose_of, MakesFrames, is_active_place, IsReleased};
+    ghost use Rattle.h264_picture.specs.Places.{KeepsFrames as KeepsLent};
     ghost use Rattle.h264_verify.specs.declared.decoder.Format.{Format as FormatView};
     ghost use Rattle.h264_dpb.specs.Bumping.{missing_in};
     ghost use Rattle.h264_dpb.specs.Turns.{Turn, turn_then, names, empties, missing_turn, last_turn, stays};
-    ghost use Rattle.h264_dpb.specs.Kept.{KeepsBuffer, size_of};
+    ghost use Rattle.h264_dpb.specs.Kept.{KeepsBuffer, size_of, is_occupied};
     ghost use Rattle.h264_verify.specs.Telling.{with_frames, frame_span};
     ghost use Rattle.h264_verify.specs.Outcome.{Plays};
     ghost use Rattle.h264_verify.specs.Pictures.{CodedSlice, CodedPicture, held_after, last_slice, picture_size};
@@ -72,16 +74,16 @@ impl Decoder {
     ghost use Rattle.h264_verify.specs.Buffering.{ended_picture, told_frames, end_frames};
     ghost use Rattle.h264_verify.specs.Keeping.{format_of, HasFormat, IsSized, AreOlder, EntersSome, IsRoomFor, KeepsOutput, FillsFrames};
     ghost use Rattle.h264_verify.specs.Keeping.{KeepsFrames, FillsSome, KeepsSomeEnd, EntersFrames, BegunFrames, HoldsBegun, IsNear};
-    ghost use Rattle.h264_verify.specs.Keeping.{HasPlace, SlicesSome};
+    ghost use Rattle.h264_verify.specs.Keeping.{HasPlace, HasFreePlace, SlicesSome};
     ghost use Rattle.h264_verify.specs.StepOutcome.{steps_outcome, structure_from};
     ghost use Rattle.h264_verify.specs.Framing.{EndsFrames, ReadsSlice, closing};
 
-    /// Before the first picture. It takes no memory.
-    pub fn new() -> Decoder
-        ensures { (frames : ℕ → Frame) → KeepsFrames frames false false [] result }
+    /// Before the first picture, of pictures that are decoded for this. It takes no memory.
+    pub fn new(purpose: Purpose) -> Decoder
+        ensures { (frames : Family) → IsFamilyFor purpose frames → KeepsFrames frames false false [] result }
     {
         Decoder {
-            work: Work::new(),
+            work: Work::new(purpose),
             output: Output::new(),
             format: None,
             place: 0,
@@ -101,6 +103,7 @@ impl Decoder {
         ensures sized { IsReleased self.old.work → IsSized self.old.format self.old.output →
             OnOk result (IsSized self.new.format self.new.output ⊎ AreOlder self.old.work self.new.work) }
         ensures err { IfErr result (λ e. e ≡ Stop.Memory) }
+        ensures purpose { purpose_of self.new.work ≡ purpose_of self.old.work }
     {
         let format = format_of(sps);
         if self.format == Some(format) {
@@ -117,19 +120,37 @@ impl Decoder {
     pub fn begin(&mut self, alloc: Global, sps: &Sps) -> Result<(), Stop>
         requires usable { is_usable sps.now ≡ true }
         requires kept { EntersSome self.old }
-        ensures begins { (frames : ℕ → Frame) (slice : CodedSlice) (pictures : List CodedPicture) → slice.sps ≡ sps.now →
+        ensures begins { (frames : Family) (slice : CodedSlice) (pictures : List CodedPicture) → slice.sps ≡ sps.now →
             EntersFrames frames slice pictures self.old → OnOk result (BegunFrames frames slice pictures self.new) }
         ensures stands { self.old.format ≡ Some (format_of sps.now) → result ≡ Ok tt }
         ensures err { IfErr result (λ e. e ≡ Stop.Memory) }
     {
         self.activate(alloc, sps)?;
-        let first = self.work.first_place();
-        let Some(place) = self.output.free_place(first, self.work.places()) else {
-            unreachable!()
-        };
+        let place = self.free_place();
         self.work.begin(place);
         self.place = place;
         Ok(())
+    }
+
+    /// A place of the sequence at which no frame of the buffer stands; where no frames are made, the first one.
+    fn free_place(&self) -> usize
+        requires some { 0 < places_of self.now.work }
+        requires room { MakesFrames self.now.work → HasFreePlace self.now }
+        ensures from { first_place self.now.work ≤ result }
+        ensures to { result < first_place self.now.work + places_of self.now.work }
+        ensures near { result < first_place self.now.work + 17 }
+        ensures free { MakesFrames self.now.work → is_occupied result self.now.output ≡ false }
+    {
+        let first = self.work.first_place();
+        match self.work.purpose() {
+            Purpose::Verdict => first,
+            Purpose::Frames => {
+                let Some(place) = self.output.free_place(first, self.work.places()) else {
+                    unreachable!()
+                };
+                place
+            }
+        }
     }
 
     /// The place of a reference picture: one of the sequence's.
@@ -146,7 +167,7 @@ impl Decoder {
     }
 
     /// The places of reference pictures by refIdxL0; 0 where there is none.
-    fn places(&self, references: &[Option<u64>; 16]) -> [u8; 16]
+    fn frame_places(&self, references: &[Option<u64>; 16]) -> [u8; 16]
         requires { (k n : ℕ) → k < 16 → get_or references.now k None ≡ Some n → HasPlace self.now n }
         ensures { (k n : ℕ) → k < 16 → get_or references.now k None ≡ Some n → IsNear self.now n (get_or result k 0) }
     {
@@ -157,6 +178,17 @@ impl Decoder {
             }
         }
         places
+    }
+
+    /// These places, where frames are made.
+    fn places(&self, references: &[Option<u64>; 16]) -> [u8; 16]
+        requires { MakesFrames self.now.work → (k n : ℕ) → k < 16 → get_or references.now k None ≡ Some n → HasPlace self.now n }
+        ensures { MakesFrames self.now.work → (k n : ℕ) → k < 16 → get_or references.now k None ≡ Some n → IsNear self.now n (get_or result k 0) }
+    {
+        match self.work.purpose() {
+            Purpose::Verdict => [0; 16],
+            Purpose::Frames => self.frame_places(references),
+        }
     }
 
     /// Reads the slice data of a slice of the picture that was begun, whose reference pictures have places (7.3.4, 8.3 to 8.7). Takes no memory.
@@ -174,7 +206,7 @@ impl Decoder {
         requires qp { slice.now.qp ≤ 51 }
         requires room { HasRoom S.failures sink.old }
         requires kept { SlicesSome slice.now.number slice.now.references self.old }
-        ensures reads { (frames : ℕ → Frame) (p : CodedPicture) (ps : List CodedPicture) (slices : List CodedSlice) (s : CodedSlice)
+        ensures reads { (frames : Family) (p : CodedPicture) (ps : List CodedPicture) (slices : List CodedSlice) (s : CodedSlice)
             (macroblocks : List CodedMacroblock) (t : Turn) → slice.now ≡ context_in (p ∷ ps) s →
             slice_filter pps.now header.now ≡ slice_filter s.pps s.header → slice_weights header.now ≡ slice_weights s.header →
             number_of s ≡ length macroblocks → s.pps ≡ p.first.pps → KeepsOutput frames t (length ps) self.old →
@@ -198,6 +230,7 @@ impl Decoder {
         ensures kept { (p : ℕ) → is_active_place (first_place self.old.work) p ≡ true → lent self.new.work p ≡ lent self.old.work p }
         ensures room { (f : FormatView) → IsRoomFor f self.old.work → IsRoomFor f self.new.work }
         ensures others { self.new ≡ record self.old { work = self.new.work } }
+        ensures purpose { purpose_of self.new.work ≡ purpose_of self.old.work }
     {
         if picture.idr || picture.resets {
             self.work.release();
@@ -217,11 +250,11 @@ impl Decoder {
         requires room { HasRoom S.failures sink.old }
         requires few { picture.now.picture < 2 ^ 62 }
         requires kept { KeepsSomeEnd picture.now held.now self.old }
-        ensures ends { (frames : ℕ → Frame) (p : CodedPicture) (ps : List CodedPicture) → picture.now ≡ ended_picture p ps →
+        ensures ends { (frames : Family) (p : CodedPicture) (ps : List CodedPicture) → picture.now ≡ ended_picture p ps →
             held.now ≡ held_after (p ∷ ps) → length (last_slice p).macroblocks ≡ picture_size p.first.sps →
             KeepsFrames frames true false (p ∷ ps) self.old →
-            EndsFrames modes.Full (frame_span S.took S.failures frames sink.old sink.new) (closing true true (p ∷ ps))
-            (steps_outcome (end_frames modes.Full (p ∷ ps))) (Some self.new) result }
+            EndsFrames depths.Full (frame_span S.took S.failures frames sink.old sink.new) (closing true true (p ∷ ps))
+            (steps_outcome (end_frames depths.Full (p ∷ ps))) (Some self.new) result }
         ensures format { self.new.format ≡ self.old.format }
         ensures kept { OnOk result (IsQuiet S.failures sink.old sink.new) }
         ensures no_memory { IfErr result (λ e. e ≡ Stop.Write) }
@@ -239,10 +272,10 @@ impl Decoder {
         requires missing { 0 < missing_in (names held.now) }
         requires few { length held.now.frames ≤ size_of self.old.output }
         requires kept { FillsSome self.old }
-        ensures plays { (frames : ℕ → Frame) (t : Turn) (next : ℕ) → FillsFrames frames t next self.old →
+        ensures plays { (frames : Family) (t : Turn) (next : ℕ) → FillsFrames frames t next self.old →
             Plays (with_frames frames (span S.took S.failures sink.old sink.new)) (λ x. x)
-            (steps_outcome (told_frames modes.Full (missing_turn held.now t.buffer).written)) result }
-        ensures keeps { (frames : ℕ → Frame) (t : Turn) (next : ℕ) → FillsFrames frames t next self.old →
+            (steps_outcome (told_frames depths.Full (missing_turn held.now t.buffer).written)) result }
+        ensures keeps { (frames : Family) (t : Turn) (next : ℕ) → FillsFrames frames t next self.old →
             OnOk result (FillsFrames frames (turn_then t (missing_turn held.now)) next self.new) }
         ensures sized { size_of self.new.output ≡ size_of self.old.output }
         ensures format { self.new.format ≡ self.old.format }
@@ -254,7 +287,7 @@ impl Decoder {
 
     /// Whether the frame of one more missing frame_num, where these frames are held with it, writes nothing and leaves the buffer as it is.
     pub(crate) fn buffer_stays(&self, held: &Held) -> bool
-        ensures { result ≡ true → (frames : ℕ → Frame) (t : Turn) (next : ℕ) → FillsFrames frames t next self.now →
+        ensures { result ≡ true → (frames : Family) (t : Turn) (next : ℕ) → FillsFrames frames t next self.now →
             missing_turn held.now t.buffer ≡ stays t.buffer }
     {
         self.output.is_steady(held)
@@ -264,10 +297,10 @@ impl Decoder {
     pub fn finish<S: FrameSink>(&mut self, sink: &mut S) -> Result<(), Stop>
         requires room { HasRoom S.failures sink.old }
         requires kept { FillsSome self.old }
-        ensures plays { (frames : ℕ → Frame) (t : Turn) (next : ℕ) → FillsFrames frames t next self.old →
+        ensures plays { (frames : Family) (t : Turn) (next : ℕ) → FillsFrames frames t next self.old →
             Plays (with_frames frames (span S.took S.failures sink.old sink.new)) (λ x. x)
-            (steps_outcome (told_frames modes.Full (last_turn t.buffer).written)) result }
-        ensures written { (frames : ℕ → Frame) (t : Turn) (next : ℕ) → FillsFrames frames t next self.old →
+            (steps_outcome (told_frames depths.Full (last_turn t.buffer).written)) result }
+        ensures written { (frames : Family) (t : Turn) (next : ℕ) → FillsFrames frames t next self.old →
             OnOk result (KeepsBuffer (last_turn t.buffer).buffer (length t.written + length (last_turn t.buffer).written) self.new.output) }
         ensures others { self.new ≡ record self.old { output = self.new.output } }
         ensures no_memory { IfErr result (λ e. e ≡ Stop.Write) }

@@ -6,7 +6,7 @@ ghost use Rattle.h264_base.specs.Call.{HasRoom, IsQuiet, span};
 ghost use Rattle.std.specs.Prelude.{OnOk, IfOk, IfErr, IsErrOf, if◌then◌else◌};
 ghost use Rattle.h264_sps.specs.Usable.{has_lengths};
 ghost use Rattle.std.specs.Prelude.{List};
-ghost use Rattle.h264_base.specs.declared.mode.Mode.{Mode};
+ghost use Rattle.h264_verify.specs.declared.state.Depth.{Depth};
 ghost use Rattle.h264_plane.specs.declared.frame.Frame.{Frame};
 ghost use Rattle.h264_dpb.specs.Bumping.{missing_in};
 ghost use Rattle.h264_marking.specs.Frames.{frame_places};
@@ -14,7 +14,7 @@ ghost use Rattle.h264_dpb.specs.Turns.{Turn, turn_then, names, missing_turn};
 ghost use Rattle.h264_base.specs.declared.rule.Rule.TheVariants.{FrameNum};
 ghost use Rattle.h264_base.specs.declared.stop.Stop.TheVariants.{No};
 ghost use Rattle.h264_marking.specs.Gaps.{is_new_num, entered, last_or, all_filled, unused_short_term_frame_nums};
-ghost use Rattle.h264_verify.specs.Telling.{with_frames};
+ghost use Rattle.h264_verify.specs.Telling.{with_frames, Family};
 ghost use Rattle.h264_verify.specs.Outcome.{Plays};
 ghost use Rattle.h264_verify.specs.Buffering.{told_frames, gaps_turn, missing_steps};
 ghost use Rattle.h264_marking.specs.Steady.{IsSteady};
@@ -79,11 +79,11 @@ fn miss<S: FrameSink>(held: &Held, decoder: &mut Option<Decoder>, sink: &mut S) 
     requires missing { 0 < missing_in (names held.now) }
     requires few { HasPlaces (length held.now.frames) decoder.old }
     requires kept { KeepsSomeGap decoder.old }
-    ensures plays { (mode : Mode) (frames : ℕ → Frame) (t : Turn) (next : ℕ) → WhereMade mode (FillsFrames frames t next) decoder.old →
+    ensures plays { (depth : Depth) (frames : Family) (t : Turn) (next : ℕ) → WhereMade depth (FillsFrames frames t next) decoder.old →
         Plays (with_frames frames (span S.took S.failures sink.old sink.new)) (λ x. x)
-        (steps_outcome (told_frames mode (missing_turn held.now t.buffer).written)) result }
-    ensures keeps { (mode : Mode) (frames : ℕ → Frame) (t : Turn) (next : ℕ) → WhereMade mode (FillsFrames frames t next) decoder.old →
-        OnOk result (WhereMade mode (FillsFrames frames (turn_then t (missing_turn held.now)) next) decoder.new) }
+        (steps_outcome (told_frames depth (missing_turn held.now t.buffer).written)) result }
+    ensures keeps { (depth : Depth) (frames : Family) (t : Turn) (next : ℕ) → WhereMade depth (FillsFrames frames t next) decoder.old →
+        OnOk result (WhereMade depth (FillsFrames frames (turn_then t (missing_turn held.now)) next) decoder.new) }
     ensures no_memory { IfErr result (λ e. e ≡ Stop.Write) }
     ensures sized { (n : ℕ) → HasPlaces n decoder.old → HasPlaces n decoder.new }
     ensures format { format_in decoder.new ≡ format_in decoder.old }
@@ -97,8 +97,8 @@ fn miss<S: FrameSink>(held: &Held, decoder: &mut Option<Decoder>, sink: &mut S) 
 
 /// Where frames are made, whether one more of a missing number leaves the buffer as it is.
 fn buffer_stays(held: &Held, decoder: &Option<Decoder>) -> bool
-    ensures { result ≡ true → (mode : Mode) (frames : ℕ → Frame) (t : Turn) (next : ℕ) → WhereMade mode (FillsFrames frames t next) decoder.now →
-        BufferStays mode held.now t.buffer }
+    ensures { result ≡ true → (depth : Depth) (frames : Family) (t : Turn) (next : ℕ) → WhereMade depth (FillsFrames frames t next) decoder.now →
+        BufferStays depth held.now t.buffer }
 {
     match decoder {
         None => true,
@@ -117,8 +117,8 @@ fn may_skip(
 ) -> bool
     requires { 0 < numbering.now.max_frame_num }
     ensures held { result ≡ true → IsSteady numbering.now last held.now.frames }
-    ensures frames { result ≡ true → (mode : Mode) (frames : ℕ → Frame) (t : Turn) (next : ℕ) → WhereMade mode (FillsFrames frames t next) decoder.now →
-        BufferStays mode held.now t.buffer }
+    ensures frames { result ≡ true → (depth : Depth) (frames : Family) (t : Turn) (next : ℕ) → WhereMade depth (FillsFrames frames t next) decoder.now →
+        BufferStays depth held.now t.buffer }
 {
     if turn != MOST_PLACES {
         return false;
@@ -142,11 +142,11 @@ fn fill_frames<S: FrameSink>(
     requires few { 0 < gap.now.count → length held.old.frames ≤ frame_places gap.now.numbering.max_num_ref_frames }
     requires places { 0 < gap.now.count → HasPlaces (frame_places gap.now.numbering.max_num_ref_frames) decoder.old }
     requires kept { KeepsSomeGap decoder.old }
-    ensures plays { (mode : Mode) (frames : ℕ → Frame) (t : Turn) (next : ℕ) → WhereMade mode (FillsFrames frames t next) decoder.old →
+    ensures plays { (depth : Depth) (frames : Family) (t : Turn) (next : ℕ) → WhereMade depth (FillsFrames frames t next) decoder.old →
         Plays (with_frames frames (span S.took S.failures sink.old sink.new)) (λ _. tt) (steps_outcome
-        (missing_steps mode gap.now.bit gap.now.numbering (numbers_in gap.now) held.old t.buffer)) result }
-    ensures keeps { (mode : Mode) (frames : ℕ → Frame) (t : Turn) (next : ℕ) → WhereMade mode (FillsFrames frames t next) decoder.old →
-        OnOk result (WhereMade mode (FillsFrames frames (turn_then t (gaps_turn gap.now.numbering (numbers_in gap.now) held.old)) next) decoder.new) }
+        (missing_steps depth gap.now.bit gap.now.numbering (numbers_in gap.now) held.old t.buffer)) result }
+    ensures keeps { (depth : Depth) (frames : Family) (t : Turn) (next : ℕ) → WhereMade depth (FillsFrames frames t next) decoder.old →
+        OnOk result (WhereMade depth (FillsFrames frames (turn_then t (gaps_turn gap.now.numbering (numbers_in gap.now) held.old)) next) decoder.new) }
     ensures no_memory { IsErrOf result Stop.Memory → ⊥ }
     ensures format { format_in decoder.new ≡ format_in decoder.old }
     ensures last { IfOk result (λ last. last ≡ last_or gap.now.prev_ref_frame_num (numbers_in gap.now)) }
@@ -209,11 +209,11 @@ pub(crate) fn check_gap<S: FrameSink>(
     requires room { HasRoom S.failures sink.old }
     requires goes { is_idr head.now.header.now ≡ false → GoesWith head.now.place.sps.now held.old decoder.old }
     requires kept { KeepsSomeGap decoder.old }
-    ensures plays { (mode : Mode) (frames : ℕ → Frame) (t : Turn) (next : ℕ) → WhereMade mode (FillsFrames frames t next) decoder.old →
+    ensures plays { (depth : Depth) (frames : Family) (t : Turn) (next : ℕ) → WhereMade depth (FillsFrames frames t next) decoder.old →
         Plays (with_frames frames (span S.took S.failures sink.old sink.new)) (λ x. x) (steps_outcome
-        (gap_rules mode (slice_at head.now.place head.now.header.now []) prev_ref_frame_num.old held.old t.buffer)) result }
-    ensures keeps { (mode : Mode) (frames : ℕ → Frame) (t : Turn) (next : ℕ) → WhereMade mode (FillsFrames frames t next) decoder.old →
-        OnOk result (WhereMade mode (FillsFrames frames (turn_then t (gaps_turn (numbering_of head.now.place.sps.now head.now.header.now)
+        (gap_rules depth (slice_at head.now.place head.now.header.now []) prev_ref_frame_num.old held.old t.buffer)) result }
+    ensures keeps { (depth : Depth) (frames : Family) (t : Turn) (next : ℕ) → WhereMade depth (FillsFrames frames t next) decoder.old →
+        OnOk result (WhereMade depth (FillsFrames frames (turn_then t (gaps_turn (numbering_of head.now.place.sps.now head.now.header.now)
         (unused_short_term_frame_nums (is_idr head.now.header.now) prev_ref_frame_num.old
         (numbering_of head.now.place.sps.now head.now.header.now)) held.old)) next) decoder.new) }
     ensures no_memory { IsErrOf result Stop.Memory → ⊥ }

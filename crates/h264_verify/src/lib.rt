@@ -41,4 +41,4 @@ pub use h264_units::NalUnitType;
 pub use running::run;
 pub use session::Session;
 pub use source::Source;
-pub use state::{State, Terms};
+pub use state::{Depth, Extent, State, Terms};

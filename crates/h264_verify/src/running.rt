@@ -2,9 +2,11 @@
 #![tactic(auto)]
 
 ghost use Rattle.std.specs.Prelude.{◌≡◌, ℕ, ◌+◌, ◌-◌, ◌*◌, ◌<◌, ◌≤◌, ◌^◌, ◌⊎◌, List, [], ◌∷◌, ◌++◌, length, take, OnOk, OnErr, IfOk, IfErr, Ok, Err};
+ghost use Rattle.h264_verify.specs.Telling.{Family, IsFamilyFor};
 ghost use Rattle.h264_base.specs.Call.{HasRoom, IsQuiet, span};
 ghost use Rattle.std.specs.Prelude.{Bool, true, false, None, Some, IsErrOf, IsTrue, IsFalse};
 ghost use Rattle.std.specs.List.{flat_map};
+ghost use Rattle.h264_verify.specs.Modes.{purpose_for};
 ghost use Rattle.h264_verify.specs.Units.{terms_of};
 ghost use Rattle.h264_verify.specs.declared.state.Terms.{Terms};
 ghost use Rattle.h264_plane.specs.declared.frame.Frame.{Frame};
@@ -129,12 +131,13 @@ pub fn run<R: Source, S: FrameSink>(
     requires sink { HasRoom S.failures sink.old }
     requires source { HasRoom R.failures source.old }
     // Yes, no and outside are those of the stream, with the calls up to there; memory, read and write come with the first calls.
-    ensures verdict { (bytes : List ℕ) → R.left source.old ≡ Some bytes → (frames : ℕ → Frame) →
+    ensures verdict { (bytes : List ℕ) → R.left source.old ≡ Some bytes → (frames : Family) → IsFamilyFor (purpose_for mode) frames →
         Judged (terms_of mode target) (span S.took S.failures sink.old sink.new) bytes frames [] result }
     // Of any source it is the verdict on the bytes that it gave, and a yes comes after its end.
     ensures some { (bytes : List ℕ) × (ended : Bool) × Gives (source_span R.left R.gave R.failures source.old source.new) bytes ended
         × OnOk result (ended ≡ true)
-        × ((frames : ℕ → Frame) → Judged (terms_of mode target) (span S.took S.failures sink.old sink.new) bytes frames [] result) }
+        × ((frames : Family) → IsFamilyFor (purpose_for mode) frames →
+        Judged (terms_of mode target) (span S.took S.failures sink.old sink.new) bytes frames [] result) }
     ensures read { IsErrOf result Stop.Read → (R.failures source.new ≡ R.failures source.old + 1)
         ⊎ ((n : ℕ) → R.was_read source.old n → R.was_read source.new (n + 2 ^ 41)) }
     // A read that failed is told as Read, and a write that failed as Write.
@@ -166,7 +169,7 @@ pub fn run_pieces<S: FrameSink>(
     target: Target,
 ) -> Result<Summary, Stop>
     requires { HasRoom S.failures sink.old }
-    ensures verdict { (frames : ℕ → Frame) → Judged (terms_of mode target) (span S.took S.failures sink.old sink.new)
+    ensures verdict { (frames : Family) → IsFamilyFor (purpose_for mode) frames → Judged (terms_of mode target) (span S.took S.failures sink.old sink.new)
         (flat_map (λ piece. piece.items) pieces.now) frames [] result }
     // Nothing is read, so that no read fails; a write that failed is told as Write, and nothing else is.
     ensures no_read { IsErrOf result Stop.Read → ⊥ }

@@ -10,19 +10,20 @@ ghost use Rattle.h264_verify.specs.Memory.{bytes_of, ChangesFormat};
 ghost use Rattle.h264_verify.specs.Turning.{Turns};
 ghost use Rattle.h264_verify.specs.Progress.{IsFresh, LastIsRead};
 ghost use Rattle.h264_plane.specs.declared.frame.Frame.{Frame};
-ghost use Rattle.h264_verify.specs.Telling.{Told, frame_span};
+ghost use Rattle.h264_verify.specs.Telling.{Told, IsFamilyFor, frame_span, Family};
 ghost use Rattle.h264_verify.specs.History.{History};
 ghost use Rattle.h264_verify.specs.KeepingUnits.{Keeps, KeepsSome};
-ghost use Rattle.h264_verify.specs.Units.{terms_of};
+ghost use Rattle.h264_verify.specs.Modes.{depth_of, purpose_for};
+ghost use Rattle.h264_verify.specs.Units.{terms_of, extent_by};
 ghost use Rattle.h264_verify.specs.declared.state.Terms.{Terms};
 ghost use Rattle.h264_verify.specs.Feeding.{standing_after, GoesOn, StopsOn, FinishesOn, WasFed, IsFed};
 ghost use Rattle.h264_verify.specs.Verdict.{Judged};
-ghost use Rattle.h264_base.specs.declared.mode.Mode.TheVariants as modes;
+ghost use Rattle.h264_verify.specs.declared.state.Depth.TheVariants as depths;
 ghost use Rattle.h264_verify.specs.Buffering.{taken_after};
 
 use crate::bytes::read_bytes;
 use crate::unit::{judge_end, judge_unit};
-use crate::{State, Terms};
+use crate::{Extent, State, Terms};
 use h264_base::{Mode, Stop, Summary, Target};
 use h264_dpb::FrameSink;
 use h264_rbsp::Rbsp;
@@ -33,7 +34,7 @@ use std::marker::Model;
 /// Judges a unit, and lets the sink note how many places of the picture buffer are then taken.
 fn judge_next<S: FrameSink>(
     alloc: Global,
-    terms: Terms,
+    extent: Extent,
     state: &mut State,
     unit: &NalUnit,
     rbsp: &Option<Rbsp>,
@@ -42,17 +43,17 @@ fn judge_next<S: FrameSink>(
     requires count { HasRoom S.failures sink.old }
     requires units { state.old.units ≤ 2 ^ 40 }
     requires pictures { state.old.slices.pictures ≤ state.old.units }
-    requires bytes { rbsp.now ≡ bytes_of terms.mode unit.now }
-    requires kept { KeepsSome terms.mode false state.old }
-    ensures turns { (frames : ℕ → Frame) (before : History) → Keeps terms.mode frames before state.old →
-        Turns terms (frame_span S.took S.failures frames sink.old sink.new) before unit.now state.new result }
+    requires bytes { rbsp.now ≡ bytes_of extent.depth unit.now }
+    requires kept { KeepsSome extent.depth false state.old }
+    ensures turns { (frames : Family) (before : History) → Keeps extent.depth frames before state.old →
+        Turns extent (frame_span S.took S.failures frames sink.old sink.new) before unit.now state.new result }
     ensures counts { OnOk result (state.new.units ≡ state.old.units + 1) }
     ensures pictures { OnOk result (state.new.slices.pictures ≤ state.new.units) }
-    ensures no_memory { (frames : ℕ → Frame) (before : History) → Keeps terms.mode frames before state.old → IsErrOf result Stop.Memory →
-        ChangesFormat terms.mode before unit.now }
+    ensures no_memory { (frames : Family) (before : History) → Keeps extent.depth frames before state.old → IsErrOf result Stop.Memory →
+        ChangesFormat extent.depth before unit.now }
     ensures kept { OnOk result (IsQuiet S.failures sink.old sink.new) }
 {
-    match judge_unit(alloc, terms, state, unit, rbsp, sink) {
+    match judge_unit(alloc, extent, state, unit, rbsp, sink) {
         Ok(()) => {
             sink.note_places_taken(state.places_taken());
             Ok(())
@@ -64,7 +65,7 @@ fn judge_next<S: FrameSink>(
 /// Bytes up to the end of a unit, and the unit.
 fn feed_some<S: FrameSink>(
     alloc: Global,
-    terms: Terms,
+    extent: Extent,
     splitter: &mut Splitter,
     state: &mut State,
     piece: &[u8],
@@ -75,25 +76,25 @@ fn feed_some<S: FrameSink>(
     requires runs { (splitter.old.stop ≡ None) × IsFalse splitter.old.waiting × IsFalse splitter.old.ended }
     requires counted { state.old.units ≤ splitter.old.at }
     requires pictures { state.old.slices.pictures ≤ state.old.units }
-    requires keeps { KeepsSome terms.mode false state.old }
+    requires keeps { KeepsSome extent.depth false state.old }
     ensures within { IfOk result (λ n. (0 < n) × (n ≤ length piece.now)) }
-    ensures goes { (frames : ℕ → Frame) (before : History) → Keeps terms.mode frames before state.old →
-        IfOk result (λ n. GoesOn terms (frame_span S.took S.failures frames sink.old sink.new)
+    ensures goes { (frames : Family) (before : History) → Keeps extent.depth frames before state.old →
+        IfOk result (λ n. GoesOn extent (frame_span S.took S.failures frames sink.old sink.new)
         (stretch (standing_after splitter.old before) (standing splitter.new state.new) piece.now (drop n piece.now))) }
     ensures runs { OnOk result ((splitter.new.stop ≡ None) × IsFalse splitter.new.waiting × IsFalse splitter.new.ended) }
     ensures counted { OnOk result (state.new.units ≤ splitter.new.at) }
     ensures pictures { OnOk result (state.new.slices.pictures ≤ state.new.units) }
     ensures undecided { OnOk result (IsUndecided splitter.new.rest) }
     ensures kept { OnOk result (IsQuiet S.failures sink.old sink.new) }
-    ensures stops { (frames : ℕ → Frame) (before : History) → Keeps terms.mode frames before state.old →
-        IfErr result (StopsOn terms (frame_span S.took S.failures frames sink.old sink.new) (standing_after splitter.old before) piece.now) }
+    ensures stops { (frames : Family) (before : History) → Keeps extent.depth frames before state.old →
+        IfErr result (StopsOn extent (frame_span S.took S.failures frames sink.old sink.new) (standing_after splitter.old before) piece.now) }
 {
     let n = splitter.push(piece)?;
     match splitter.take_unit() {
         None => Ok(n),
         Some(unit) => {
-            let bytes = read_bytes(alloc, terms.mode, &unit)?;
-            judge_next(alloc, terms, state, &unit, &bytes, sink)?;
+            let bytes = read_bytes(alloc, extent.depth, &unit)?;
+            judge_next(alloc, extent, state, &unit, &bytes, sink)?;
             Ok(n)
         }
     }
@@ -109,7 +110,7 @@ fn after(piece: &[u8], n: usize) -> &[u8]
 /// All of a piece.
 fn feed_all<S: FrameSink>(
     alloc: Global,
-    terms: Terms,
+    extent: Extent,
     splitter: &mut Splitter,
     state: &mut State,
     piece: &[u8],
@@ -119,22 +120,22 @@ fn feed_all<S: FrameSink>(
     requires runs { (splitter.old.stop ≡ None) × IsFalse splitter.old.waiting × IsFalse splitter.old.ended }
     requires counted { state.old.units ≤ splitter.old.at }
     requires pictures { state.old.slices.pictures ≤ state.old.units }
-    requires keeps { KeepsSome terms.mode false state.old }
-    ensures goes { (frames : ℕ → Frame) (before : History) → Keeps terms.mode frames before state.old →
-        OnOk result (GoesOn terms (frame_span S.took S.failures frames sink.old sink.new)
+    requires keeps { KeepsSome extent.depth false state.old }
+    ensures goes { (frames : Family) (before : History) → Keeps extent.depth frames before state.old →
+        OnOk result (GoesOn extent (frame_span S.took S.failures frames sink.old sink.new)
         (stretch (standing_after splitter.old before) (standing splitter.new state.new) piece.now [])) }
     ensures runs { OnOk result ((splitter.new.stop ≡ None) × IsFalse splitter.new.waiting × IsFalse splitter.new.ended) }
     ensures counted { OnOk result (state.new.units ≤ splitter.new.at) }
     ensures pictures { OnOk result (state.new.slices.pictures ≤ state.new.units) }
     ensures undecided { OnOk result (IsUndecided splitter.old.rest → IsUndecided splitter.new.rest) }
     ensures kept { OnOk result (IsQuiet S.failures sink.old sink.new) }
-    ensures stops { (frames : ℕ → Frame) (before : History) → Keeps terms.mode frames before state.old →
-        IfErr result (StopsOn terms (frame_span S.took S.failures frames sink.old sink.new) (standing_after splitter.old before) piece.now) }
+    ensures stops { (frames : Family) (before : History) → Keeps extent.depth frames before state.old →
+        IfErr result (StopsOn extent (frame_span S.took S.failures frames sink.old sink.new) (standing_after splitter.old before) piece.now) }
     ensures no_bytes { piece.now ≡ [] → (result ≡ Ok tt) × (splitter.new ≡ splitter.old) × (state.new ≡ state.old) × (sink.new ≡ sink.old) }
 {
     let mut rest = piece;
     while !rest.is_empty() {
-        let n = feed_some(alloc, terms, splitter, state, rest, sink)?;
+        let n = feed_some(alloc, extent, splitter, state, rest, sink)?;
         rest = after(rest, n);
     }
     Ok(())
@@ -143,7 +144,7 @@ fn feed_all<S: FrameSink>(
 /// What is left at the end of the input.
 fn finish_all<S: FrameSink>(
     alloc: Global,
-    terms: Terms,
+    extent: Extent,
     splitter: &mut Splitter,
     state: &mut State,
     sink: &mut S,
@@ -152,18 +153,18 @@ fn finish_all<S: FrameSink>(
     requires runs { (splitter.old.stop ≡ None) × IsFalse splitter.old.waiting × IsFalse splitter.old.ended }
     requires counted { state.old.units ≤ splitter.old.at }
     requires pictures { state.old.slices.pictures ≤ state.old.units }
-    requires keeps { KeepsSome terms.mode false state.old }
-    ensures finishes { (frames : ℕ → Frame) (before : History) → Keeps terms.mode frames before state.old →
-        FinishesOn terms (frame_span S.took S.failures frames sink.old sink.new) (standing_after splitter.old before) result }
-    ensures memory { IsErrOf result Stop.Memory → LastIsRead terms.mode splitter.old }
+    requires keeps { KeepsSome extent.depth false state.old }
+    ensures finishes { (frames : Family) (before : History) → Keeps extent.depth frames before state.old →
+        FinishesOn extent (frame_span S.took S.failures frames sink.old sink.new) (standing_after splitter.old before) result }
+    ensures memory { IsErrOf result Stop.Memory → LastIsRead extent.depth splitter.old }
 {
     splitter.finish()?;
     match splitter.take_unit() {
-        None => judge_end(terms.mode, state, 8 * splitter.length(), sink),
+        None => judge_end(extent.depth, state, 8 * splitter.length(), sink),
         Some(unit) => {
-            let bytes = read_bytes(alloc, terms.mode, &unit)?;
-            judge_next(alloc, terms, state, &unit, &bytes, sink)?;
-            judge_end(terms.mode, state, 8 * splitter.length(), sink)
+            let bytes = read_bytes(alloc, extent.depth, &unit)?;
+            judge_next(alloc, extent, state, &unit, &bytes, sink)?;
+            judge_end(extent.depth, state, 8 * splitter.length(), sink)
         }
     }
 }
@@ -188,21 +189,22 @@ impl Model for Session {
 
     ghost view = { λ s. record { terms = s.terms; split = s.splitter; state = s.state; stop = s.stop } };
 
-    ghost invariant = { λ s. IsSession s.terms.mode s.stop s.splitter s.state };
+    ghost invariant = { λ s. IsSession s.terms.depth s.stop s.splitter s.state };
 }
 
 impl Session {
-    /// A session before the first byte, of a stream that is judged so far and for this target. It takes the places of the parameter sets and a first
+    /// A session before the first byte, of a stream that is judged in this mode and for this target. It takes the places of the parameter sets and a first
     /// place of contexts: Memory where they are refused.
     pub fn new(alloc: Global, mode: Mode, target: Target) -> Result<Session, Stop>
-        ensures fresh { IfOk result (λ s. IsFresh s (terms_of mode target)) }
-        ensures fed { IfOk result (λ s. (frames : ℕ → Frame) → WasFed (terms_of mode target) s [] frames []) }
+        ensures fresh { IfOk result (IsFresh (terms_of mode target)) }
+        ensures fed { IfOk result (λ s. (frames : Family) → IsFamilyFor (purpose_for mode) frames → WasFed (terms_of mode target) s [] frames []) }
         ensures err { IfErr result (λ e. e ≡ Stop.Memory) }
     {
-        let state = State::new(alloc, mode)?;
+        let terms = Terms::of(mode, target);
+        let state = State::new(alloc, terms)?;
         Ok(Session {
             alloc,
-            terms: Terms { mode, target },
+            terms,
             splitter: Splitter::new(alloc),
             state,
             stop: None,
@@ -214,15 +216,16 @@ impl Session {
         requires count { HasRoom S.failures sink.old }
         requires runs { self.old.stop ≡ None }
         // However the input goes on, what comes is what the sink was told now and what comes later.
-        ensures goes { (frames : ℕ → Frame) (before : History) → Keeps self.old.terms.mode frames before self.old.state →
-            OnOk result (GoesOn self.old.terms (frame_span S.took S.failures frames sink.old sink.new)
+        ensures goes { (frames : Family) (before : History) → Keeps self.old.terms.depth frames before self.old.state →
+            OnOk result (GoesOn (extent_by self.old.terms) (frame_span S.took S.failures frames sink.old sink.new)
             (stretch (standing_after self.old.split before) (standing self.new.split self.new.state) piece.now [])) }
         ensures undecided { OnOk result (IsUndecided self.old.split.rest → IsUndecided self.new.split.rest) }
         ensures going { OnOk result (self.new.stop ≡ None) }
         ensures kept { OnOk result (IsQuiet S.failures sink.old sink.new) }
         // The stop is the stream's, or the sink failed, or memory was refused.
-        ensures stops { (frames : ℕ → Frame) (before : History) → Keeps self.old.terms.mode frames before self.old.state →
-            IfErr result (StopsOn self.old.terms (frame_span S.took S.failures frames sink.old sink.new) (standing_after self.old.split before) piece.now) }
+        ensures stops { (frames : Family) (before : History) → Keeps self.old.terms.depth frames before self.old.state →
+            IfErr result (StopsOn (extent_by self.old.terms) (frame_span S.took S.failures frames sink.old sink.new) (standing_after self.old.split before)
+            piece.now) }
         ensures stopped { IfErr result (λ stop. self.new.stop ≡ Some stop) }
         ensures terms { self.new.terms ≡ self.old.terms }
         ensures write { IsErrOf result Stop.Write → S.failures sink.new ≡ S.failures sink.old + 1 }
@@ -230,9 +233,10 @@ impl Session {
         ensures no_read { IsErrOf result Stop.Read → ⊥ }
         ensures no_bytes { piece.now ≡ [] → (result ≡ Ok tt) × (self.new ≡ self.old) × (sink.new ≡ sink.old) }
     {
+        let Terms { depth, target, .. } = self.terms;
         match feed_all(
             self.alloc,
-            self.terms,
+            Extent { depth, target },
             &mut self.splitter,
             &mut self.state,
             piece,
@@ -250,16 +254,23 @@ impl Session {
     pub(crate) fn conclude<S: FrameSink>(self, sink: &mut S) -> Result<Summary, Stop>
         requires count { HasRoom S.failures sink.old }
         requires runs { self.stop ≡ None }
-        ensures finishes { (frames : ℕ → Frame) (before : History) → Keeps self.terms.mode frames before self.state →
-            FinishesOn self.terms (frame_span S.took S.failures frames sink.old sink.new) (standing_after self.split before) result }
+        ensures finishes { (frames : Family) (before : History) → Keeps self.terms.depth frames before self.state →
+            FinishesOn (extent_by self.terms) (frame_span S.took S.failures frames sink.old sink.new) (standing_after self.split before) result }
         ensures write { IsErrOf result Stop.Write → S.failures sink.new ≡ S.failures sink.old + 1 }
         ensures write_told { (IsQuiet S.failures sink.old sink.new) ⊎ IsErrOf result Stop.Write }
         ensures no_read { IsErrOf result Stop.Read → ⊥ }
-        ensures memory { IsErrOf result Stop.Memory → LastIsRead self.terms.mode self.split }
+        ensures memory { IsErrOf result Stop.Memory → LastIsRead self.terms.depth self.split }
     {
         let mut splitter = self.splitter;
         let mut state = self.state;
-        let judged = finish_all(self.alloc, self.terms, &mut splitter, &mut state, sink);
+        let Terms { depth, target, .. } = self.terms;
+        let judged = finish_all(
+            self.alloc,
+            Extent { depth, target },
+            &mut splitter,
+            &mut state,
+            sink,
+        );
         let_go(splitter, state);
         judged
     }
@@ -270,10 +281,10 @@ impl Session {
     }
 
     /// How many places of the picture buffer are taken: by frames that wait for output or are used for reference, and by the frames of missing
-    /// numbers (C.4.2). Frames are made in `Mode::Full` alone.
+    /// numbers (C.4.2). Slice data are read in `Mode::Verdict` and `Mode::Full` alone.
     pub fn places_taken(&self) -> usize
-        ensures { (bytes : List ℕ) (frames : ℕ → Frame) (told : List Told) → (fed : WasFed self.now.terms self.now bytes frames told) →
-            self.now.terms.mode ≡ modes.Full → result ≡ taken_after fed.before }
+        ensures { (bytes : List ℕ) (frames : Family) (told : List Told) → (fed : WasFed self.now.terms self.now bytes frames told) →
+            self.now.terms.depth ≡ depths.Full → result ≡ taken_after fed.before }
     {
         self.state.places_taken()
     }
@@ -283,10 +294,10 @@ impl Session {
     pub fn feed<S: FrameSink>(&mut self, piece: &[u8], sink: &mut S) -> Result<(), Stop>
         requires { self.old.stop ≡ None → HasRoom S.failures sink.old }
         // It was then fed the piece too.
-        ensures fed { (terms : Terms) (bytes : List ℕ) (frames : ℕ → Frame) (told : List Told) → WasFed terms self.old bytes frames told →
+        ensures fed { (terms : Terms) (bytes : List ℕ) (frames : Family) (told : List Told) → WasFed terms self.old bytes frames told →
             OnOk result (IsFed terms (span S.took S.failures sink.old sink.new) self.new (bytes ++ piece.now) frames told) }
         // However the input goes on, this is its verdict.
-        ensures stops { (terms : Terms) (bytes : List ℕ) (frames : ℕ → Frame) (told : List Told) → WasFed terms self.old bytes frames told →
+        ensures stops { (terms : Terms) (bytes : List ℕ) (frames : Family) (told : List Told) → WasFed terms self.old bytes frames told →
             IfErr result (λ stop. (later : List ℕ) → Judged terms (span S.took S.failures sink.old sink.new) ((bytes ++ piece.now) ++ later) frames told
             (Err stop)) }
         ensures stopped { IfErr result (λ stop. self.new.stop ≡ Some stop) }
@@ -310,14 +321,14 @@ impl Session {
     pub fn finish<S: FrameSink>(self, sink: &mut S) -> Result<Summary, Stop>
         requires { self.stop ≡ None → HasRoom S.failures sink.old }
         // The verdict on all that it was fed.
-        ensures verdict { (terms : Terms) (bytes : List ℕ) (frames : ℕ → Frame) (told : List Told) → WasFed terms self bytes frames told →
+        ensures verdict { (terms : Terms) (bytes : List ℕ) (frames : Family) (told : List Told) → WasFed terms self bytes frames told →
             Judged terms (span S.took S.failures sink.old sink.new) bytes frames told result }
         // Write comes where the sink failed, and only there.
         ensures write { self.stop ≡ None → IsErrOf result Stop.Write → S.failures sink.new ≡ S.failures sink.old + 1 }
         ensures write_told { (IsQuiet S.failures sink.old sink.new) ⊎ IsErrOf result Stop.Write }
         ensures no_read { self.stop ≡ None → IsErrOf result Stop.Read → ⊥ }
         // Memory comes only where a unit was left open, and is read.
-        ensures memory { self.stop ≡ None → IsErrOf result Stop.Memory → LastIsRead self.terms.mode self.split }
+        ensures memory { self.stop ≡ None → IsErrOf result Stop.Memory → LastIsRead self.terms.depth self.split }
         ensures again { IfSome self.stop (λ stop. (result ≡ Err stop) × (sink.new ≡ sink.old)) }
     {
         match self.stop {

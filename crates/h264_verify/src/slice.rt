@@ -7,10 +7,10 @@ ghost use Rattle.std.specs.Option.{is_some};
 ghost use Rattle.h264_header.specs.Layout.{sets_of};
 ghost use Rattle.h264_pps.specs.declared.Pps.{Pps};
 ghost use Rattle.h264_sps.specs.declared.sps.Sps.{Sps};
-ghost use Rattle.h264_verify.specs.Telling.{frame_span};
+ghost use Rattle.h264_verify.specs.Telling.{frame_span, Family};
 ghost use Rattle.h264_verify.specs.Demands.{judged};
 ghost use Rattle.h264_verify.specs.History.{History, maps_with, maps_of};
-ghost use Rattle.h264_base.specs.declared.mode.Mode.{Mode};
+ghost use Rattle.h264_verify.specs.declared.state.Depth.{Depth};
 ghost use Rattle.h264_plane.specs.declared.frame.Frame.{Frame};
 ghost use Rattle.h264_verify.specs.Keeping.{KeepsSlices, KeepsFrames, WhereMade, KeepsSomeSlice, begins_by, coded_before, HoldsNewest, format_in};
 ghost use Rattle.h264_verify.specs.Framing.{JudgesSlice, PlacesSlice, slice_after};
@@ -40,8 +40,8 @@ fn coded_before(begins: bool, work: &Work) -> u32
 
 /// Whether a slice begins where its picture's macroblocks so far end, where slice data are read.
 fn check_first_mb(begins: bool, decoder: &Option<Decoder>, header: &Header) -> Result<(), Stop>
-    ensures judged { (mode : Mode) (pictures : List CodedPicture) → WhereMade mode (λ d. HoldsNewest begins pictures d.work) decoder.now →
-        result ≡ judged (first_mb_demands mode (coded_before begins pictures) header.now) }
+    ensures judged { (depth : Depth) (pictures : List CodedPicture) → WhereMade depth (λ d. HoldsNewest begins pictures d.work) decoder.now →
+        result ≡ judged (first_mb_demands depth (coded_before begins pictures) header.now) }
     ensures no_memory { IsErrOf result Stop.Memory → ⊥ }
 {
     match decoder {
@@ -71,14 +71,14 @@ pub(crate) fn place_slice<S: FrameSink>(
     requires named { is_some (sets_of state.old.sets state.old.slice.header.pic_parameter_set_id.value) ≡ true }
     requires pictures { state.old.slices.pictures < 2 ^ 42 }
     requires kept { KeepsSomeSlice state.old.slices state.old.sets state.old.decoder }
-    ensures refused { (mode : Mode) (frames : ℕ → Frame) (before : History) (named : Pps × Sps) → KeepsSlices before false state.old.slices →
+    ensures refused { (depth : Depth) (frames : Family) (before : History) (named : Pps × Sps) → KeepsSlices before false state.old.slices →
         state.old.sets ≡ maps_of before → sets_of state.old.sets state.old.slice.header.pic_parameter_set_id.value ≡ Some named →
-        WhereMade mode (KeepsFrames frames (goes_on before) false (runs_of before)) state.old.decoder →
-        OnErr result (JudgesSlice mode (frame_span S.took S.failures frames sink.old sink.new)
+        WhereMade depth (KeepsFrames frames (goes_on before) false (runs_of before)) state.old.decoder →
+        OnErr result (JudgesSlice depth (frame_span S.took S.failures frames sink.old sink.new)
         (slice_after before unit.now state.old.slice.header begins) named state.new.decoder result) }
-    ensures placed { (mode : Mode) (frames : ℕ → Frame) (before : History) → KeepsSlices before false state.old.slices →
-        WhereMade mode (KeepsFrames frames (goes_on before) false (runs_of before)) state.old.decoder →
-        OnOk result (PlacesSlice mode (frame_span S.took S.failures frames sink.old sink.new)
+    ensures placed { (depth : Depth) (frames : Family) (before : History) → KeepsSlices before false state.old.slices →
+        WhereMade depth (KeepsFrames frames (goes_on before) false (runs_of before)) state.old.decoder →
+        OnOk result (PlacesSlice depth (frame_span S.took S.failures frames sink.old sink.new)
         (slice_after before unit.now state.old.slice.header begins) state.old state.new) }
     ensures sets { OnOk result (state.new.sets ≡ maps_with state.old.sets (contents.OfSlice state.old.slice.header [])) }
     ensures named { OnOk result (is_some (sets_of state.new.sets state.new.slice.header.pic_parameter_set_id.value) ≡ true) }

@@ -11,10 +11,10 @@ ghost use Rattle.h264_poc.specs.Counts.{Keeps as KeepsCounts};
 ghost use Rattle.h264_verify.specs.Outcome.{Plays, tells};
 ghost use Rattle.h264_verify.specs.Demands.{judged};
 ghost use Rattle.h264_verify.specs.History.{History};
-ghost use Rattle.h264_base.specs.declared.mode.Mode.{Mode};
+ghost use Rattle.h264_verify.specs.declared.state.Depth.{Depth};
 ghost use Rattle.h264_plane.specs.declared.frame.Frame.{Frame};
 ghost use Rattle.h264_dpb.specs.Turns.{Turn, turn_then};
-ghost use Rattle.h264_verify.specs.Telling.{Said, with_frames};
+ghost use Rattle.h264_verify.specs.Telling.{Said, with_frames, Family};
 ghost use Rattle.h264_verify.specs.Buffering.{gaps_turn, ended_picture, frame_count, newest_count};
 ghost use Rattle.h264_verify.specs.Keeping.{KeepsSlices, KeepsFrames, WhereMade, FillsFrames, EntersBy, KeepsSomeGap, GoesWith, KeepsSomeRules};
 ghost use Rattle.h264_verify.specs.Keeping.{HoldsEnd, format_in};
@@ -160,12 +160,12 @@ fn check_first_slice<S: FrameSink>(
     requires room { HasRoom S.failures sink.old }
     requires goes { is_idr head.now.header.now ≡ false → GoesWith head.now.place.sps.now slices.old.held decoder.old }
     requires kept { KeepsSomeGap decoder.old }
-    ensures plays { (mode : Mode) (frames : ℕ → Frame) (t : Turn) (next : ℕ) (pictures : List Picture) →
-        WhereMade mode (FillsFrames frames t next) decoder.old → KeepsCounts pictures slices.old.counts →
+    ensures plays { (depth : Depth) (frames : Family) (t : Turn) (next : ℕ) (pictures : List Picture) →
+        WhereMade depth (FillsFrames frames t next) decoder.old → KeepsCounts pictures slices.old.counts →
         Plays (with_frames frames (span S.took S.failures sink.old sink.new)) (λ x. x)
-        (steps_outcome (first_by mode slices.old pictures t.buffer (slice_at head.now.place head.now.header.now []))) result }
-    ensures gap { (mode : Mode) (frames : ℕ → Frame) (t : Turn) (next : ℕ) → WhereMade mode (FillsFrames frames t next) decoder.old →
-        OnOk result (WhereMade mode (FillsFrames frames (turn_then t (gaps_turn (numbering_of head.now.place.sps.now head.now.header.now)
+        (steps_outcome (first_by depth slices.old pictures t.buffer (slice_at head.now.place head.now.header.now []))) result }
+    ensures gap { (depth : Depth) (frames : Family) (t : Turn) (next : ℕ) → WhereMade depth (FillsFrames frames t next) decoder.old →
+        OnOk result (WhereMade depth (FillsFrames frames (turn_then t (gaps_turn (numbering_of head.now.place.sps.now head.now.header.now)
         (unused_short_term_frame_nums (is_idr head.now.header.now) slices.old.prev_ref_frame_num
         (numbering_of head.now.place.sps.now head.now.header.now)) slices.old.held)) next) decoder.new) }
     ensures no_memory { IsErrOf result Stop.Memory → ⊥ }
@@ -242,18 +242,18 @@ fn check_rules<S: FrameSink>(
     requires goes { head.now.place.begins ≡ true → is_idr head.now.header.now ≡ false →
         GoesWith head.now.place.sps.now slices.old.held decoder.old }
     requires kept { KeepsSomeRules head.now.place.begins slices.old decoder.old }
-    ensures plays { (mode : Mode) (frames : ℕ → Frame) (before : History) → KeepsSlices before head.now.place.begins slices.old →
+    ensures plays { (depth : Depth) (frames : Family) (before : History) → KeepsSlices before head.now.place.begins slices.old →
         head.now.place.begins ≡ begins_at before head.now.header.now →
-        WhereMade mode (KeepsFrames frames (goes_on before) head.now.place.begins (runs_of before)) decoder.old →
+        WhereMade depth (KeepsFrames frames (goes_on before) head.now.place.begins (runs_of before)) decoder.old →
         Plays (with_frames frames (span S.took S.failures sink.old sink.new)) (λ x. x) (steps_outcome
-        (slice_rules mode head.now.place.begins (runs_of before) (slice_at head.now.place head.now.header.now []))) result }
+        (slice_rules depth head.now.place.begins (runs_of before) (slice_at head.now.place head.now.header.now []))) result }
     ensures entered { (before : History) (macroblocks : List CodedMacroblock) → KeepsSlices before head.now.place.begins slices.old →
         head.now.place.begins ≡ begins_at before head.now.header.now →
         OnOk result (Entered before head.now.place.begins (slice_at head.now.place head.now.header.now macroblocks) slices.new) }
-    ensures frames { (mode : Mode) (frames : ℕ → Frame) (before : History) → KeepsSlices before head.now.place.begins slices.old →
+    ensures frames { (depth : Depth) (frames : Family) (before : History) → KeepsSlices before head.now.place.begins slices.old →
         head.now.place.begins ≡ begins_at before head.now.header.now →
-        WhereMade mode (KeepsFrames frames (goes_on before) head.now.place.begins (runs_of before)) decoder.old →
-        OnOk result (WhereMade mode (EntersBy frames head.now.place.begins (slice_at head.now.place head.now.header.now []) (goes_on before)
+        WhereMade depth (KeepsFrames frames (goes_on before) head.now.place.begins (runs_of before)) decoder.old →
+        OnOk result (WhereMade depth (EntersBy frames head.now.place.begins (slice_at head.now.place head.now.header.now []) (goes_on before)
         (runs_of before)) decoder.new) }
     ensures filled { head.now.place.begins ≡ true → OnOk result (all_filled (numbering_of head.now.place.sps.now head.now.header.now)
         (unused_short_term_frame_nums (is_idr head.now.header.now) slices.old.prev_ref_frame_num
@@ -288,7 +288,7 @@ fn tell_slice<S: FrameSink>(
     sink: &mut S,
 ) -> Result<(), Stop>
     requires { HasRoom S.failures sink.old }
-    ensures plays { (frames : ℕ → Frame) → Plays (with_frames frames (span S.took S.failures sink.old sink.new)) (λ x. x)
+    ensures plays { (frames : Family) → Plays (with_frames frames (span S.took S.failures sink.old sink.new)) (λ x. x)
         (tells (Said (OfSlice byte header.now.first_mb_in_slice.value (slice_type_of header.now.kind.value) header.now.frame_num.value
         (frame_count count)))) result }
     ensures no_memory { IsErrOf result Stop.Memory → ⊥ }
@@ -377,18 +377,19 @@ pub(crate) fn judge_rules<S: FrameSink>(
     requires pictures { slices.old.pictures < 2 ^ 42 }
     requires goes { place.now.begins ≡ true → is_idr slice.old.header ≡ false → GoesWith place.now.sps.now slices.old.held decoder.old }
     requires kept { KeepsSomeRules place.now.begins slices.old decoder.old }
-    ensures plays { (mode : Mode) (frames : ℕ → Frame) (before : History) → KeepsSlices before place.now.begins slices.old →
+    ensures plays { (depth : Depth) (frames : Family) (before : History) → KeepsSlices before place.now.begins slices.old →
         place.now.begins ≡ begins_at before slice.old.header →
-        WhereMade mode (KeepsFrames frames (goes_on before) place.now.begins (runs_of before)) decoder.old →
+        WhereMade depth (KeepsFrames frames (goes_on before) place.now.begins (runs_of before)) decoder.old →
         Plays (with_frames frames (span S.took S.failures sink.old sink.new)) (λ x. x) (steps_outcome
-        (told_rules mode place.now.begins (runs_of before) (slice_at place.now slice.old.header []))) result }
+        (told_rules depth place.now.begins (runs_of before) (slice_at place.now slice.old.header []))) result }
     ensures entered { (before : History) (macroblocks : List CodedMacroblock) → KeepsSlices before place.now.begins slices.old →
         place.now.begins ≡ begins_at before slice.old.header → OnOk result (KeepsPictures true false
         (joined_to place.now.begins (slice_at place.now slice.old.header macroblocks) (runs_of before)) slices.new) }
-    ensures frames { (mode : Mode) (frames : ℕ → Frame) (before : History) → KeepsSlices before place.now.begins slices.old →
+    ensures frames { (depth : Depth) (frames : Family) (before : History) → KeepsSlices before place.now.begins slices.old →
         place.now.begins ≡ begins_at before slice.old.header →
-        WhereMade mode (KeepsFrames frames (goes_on before) place.now.begins (runs_of before)) decoder.old →
-        OnOk result (WhereMade mode (EntersBy frames place.now.begins (slice_at place.now slice.old.header []) (goes_on before) (runs_of before)) decoder.new) }
+        WhereMade depth (KeepsFrames frames (goes_on before) place.now.begins (runs_of before)) decoder.old →
+        OnOk result (WhereMade depth (EntersBy frames place.now.begins (slice_at place.now slice.old.header []) (goes_on before) (runs_of before))
+        decoder.new) }
     ensures filled { place.now.begins ≡ true → OnOk result (all_filled (numbering_of place.now.sps.now slice.old.header)
         (unused_short_term_frame_nums (is_idr slice.old.header) slices.old.prev_ref_frame_num (numbering_of place.now.sps.now slice.old.header))
         slices.old.held ≡ Some slices.new.held) }

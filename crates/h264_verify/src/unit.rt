@@ -18,7 +18,7 @@ ghost use Rattle.h264_verify.specs.History.{History, maps_of};
 ghost use Rattle.h264_verify.specs.Content as contents;
 ghost use Rattle.h264_plane.specs.declared.frame.Frame.{Frame};
 ghost use Rattle.h264_dpb.specs.Turns.{Turn, last_turn};
-ghost use Rattle.h264_verify.specs.Telling.{Said, with_frames, frame_span};
+ghost use Rattle.h264_verify.specs.Telling.{Said, with_frames, frame_span, Family};
 ghost use Rattle.h264_verify.specs.Buffering.{told_frames, after_all, frames_written};
 ghost use Rattle.h264_verify.specs.Sound.{IsMarked};
 ghost use Rattle.h264_verify.specs.KeepingUnits.{Keeps, KeepsWithin, KeepsSome};
@@ -30,8 +30,8 @@ ghost use Rattle.h264_verify.specs.Units.{unit_call, slice_unit_of, has_pictures
 ghost use Rattle.h264_verify.specs.Memory.{bytes_of, BeginsAnotherFormat, ChangesFormat};
 ghost use Rattle.h264_verify.specs.StepOutcome.{steps_outcome};
 ghost use Rattle.h264_verify.specs.UnitOutcome.{sps_outcome, pps_outcome, slice_outcome, whole_slice, joined, joined_by};
-ghost use Rattle.h264_base.specs.declared.mode.Mode.{Mode};
-ghost use Rattle.h264_base.specs.declared.mode.Mode.TheVariants as modes;
+ghost use Rattle.h264_verify.specs.declared.state.Depth.{Depth};
+ghost use Rattle.h264_verify.specs.declared.state.Depth.TheVariants as depths;
 
 use crate::close::close_if;
 use crate::data::read_data;
@@ -41,8 +41,8 @@ use crate::picture::begins;
 use crate::rules::check;
 use crate::slice::place_slice;
 use crate::slices::{judge_rules, pass_by};
-use crate::state::{State, Terms};
-use h264_base::{Failed, Mode, Rule, Stop, Summary};
+use crate::state::{Depth, Extent, State};
+use h264_base::{Failed, Rule, Stop, Summary};
 use h264_bits::Bits;
 use h264_dpb::FrameSink;
 use h264_header::{Header, SliceUnit, read_header};
@@ -68,7 +68,7 @@ fn check_header(from: u64, header: u8) -> Result<(), Stop>
 /// Tells the sink a unit of so many bytes, which begins at this byte.
 fn tell_unit<S: FrameSink>(from: u64, header: u8, length: u64, sink: &mut S) -> Result<(), Stop>
     requires { HasRoom S.failures sink.old }
-    ensures plays { (frames : ℕ → Frame) → Plays (with_frames frames (span S.took S.failures sink.old sink.new)) (λ x. x)
+    ensures plays { (frames : Family) → Plays (with_frames frames (span S.took S.failures sink.old sink.new)) (λ x. x)
         (tells (Said (unit_call from header length))) result }
     ensures no_memory { IsErrOf result Stop.Memory → ⊥ }
 {
@@ -97,7 +97,7 @@ fn read_slice_unit<S: FrameSink>(
     sink: &mut S,
 ) -> Result<(), Stop>
     requires { HasRoom S.failures sink.old }
-    ensures plays { (frames : ℕ → Frame) (before : History) (unit : UnitView) → sets.now ≡ maps_of before → header ≡ header_of unit →
+    ensures plays { (frames : Family) (before : History) (unit : UnitView) → sets.now ≡ maps_of before → header ≡ header_of unit →
         rbsp.now ≡ body_of unit →
         Plays (with_frames frames (span S.took S.failures sink.old sink.new)) (λ _. contents.OfSlice found.new []) (slice_outcome before unit) result }
     ensures id { OnOk result (found.new.pic_parameter_set_id.value ≤ 255) }
@@ -128,7 +128,7 @@ fn pass(state: &mut State, kind: NalUnitType)
 /// Reads a sequence parameter set, and keeps it. It stands apart, so that a slice does not pay for the place of a set.
 #[inline(never)]
 fn join_sps<S: FrameSink>(
-    terms: Terms,
+    extent: Extent,
     state: &mut State,
     kind: NalUnitType,
     unit: &NalUnit,
@@ -140,17 +140,17 @@ fn join_sps<S: FrameSink>(
     requires pictures { state.old.slices.pictures ≤ state.old.units }
     requires kind { type_number kind ≡ nal_unit_type (header_of unit.now) }
     requires rbsp { rbsp.now ≡ body_of unit.now }
-    ensures joins { (frames : ℕ → Frame) (before : History) → KeepsWithin terms.mode frames before (ends_picture (type_number kind)) state.old →
-        Joins terms.mode (frame_span S.took S.failures frames sink.old sink.new)
+    ensures joins { (frames : Family) (before : History) → KeepsWithin extent.depth frames before (ends_picture (type_number kind)) state.old →
+        Joins extent.depth (frame_span S.took S.failures frames sink.old sink.new)
         (length (ended_pictures (goes_on before) (ends_picture (type_number kind)) (runs_of before)))
-        (joined terms.mode before unit.now (sps_outcome terms.target unit.now)) state.new result }
+        (joined extent.depth before unit.now (sps_outcome extent.target unit.now)) state.new result }
     ensures counts { OnOk result (state.new.units ≡ state.old.units + 1) }
     ensures pictures { OnOk result (state.new.slices.pictures ≤ state.new.units) }
     ensures no_memory { IsErrOf result Stop.Memory → ⊥ }
     ensures kept { OnOk result (IsQuiet S.failures sink.old sink.new) }
 {
     let mut bits = Bits::new(rbsp);
-    let set = read_sps(terms.target, &mut bits, sink)?;
+    let set = read_sps(extent.target, &mut bits, sink)?;
     state.sets.put_sps(set);
     pass(state, kind);
     Ok(())
@@ -158,7 +158,7 @@ fn join_sps<S: FrameSink>(
 
 /// Reads a picture parameter set, and keeps it.
 fn join_pps<S: FrameSink>(
-    terms: Terms,
+    extent: Extent,
     state: &mut State,
     kind: NalUnitType,
     unit: &NalUnit,
@@ -171,17 +171,17 @@ fn join_pps<S: FrameSink>(
     requires ends { ends_picture (type_number kind) ≡ true }
     requires kind { type_number kind ≡ nal_unit_type (header_of unit.now) }
     requires rbsp { rbsp.now ≡ body_of unit.now }
-    ensures joins { (frames : ℕ → Frame) (before : History) → KeepsWithin terms.mode frames before (ends_picture (type_number kind)) state.old →
-        Joins terms.mode (frame_span S.took S.failures frames sink.old sink.new)
+    ensures joins { (frames : Family) (before : History) → KeepsWithin extent.depth frames before (ends_picture (type_number kind)) state.old →
+        Joins extent.depth (frame_span S.took S.failures frames sink.old sink.new)
         (length (ended_pictures (goes_on before) (ends_picture (type_number kind)) (runs_of before)))
-        (joined terms.mode before unit.now (pps_outcome terms.target unit.now)) state.new result }
+        (joined extent.depth before unit.now (pps_outcome extent.target unit.now)) state.new result }
     ensures counts { OnOk result (state.new.units ≡ state.old.units + 1) }
     ensures pictures { OnOk result (state.new.slices.pictures ≤ state.new.units) }
     ensures no_memory { IsErrOf result Stop.Memory → ⊥ }
     ensures kept { OnOk result (IsQuiet S.failures sink.old sink.new) }
 {
     let mut bits = Bits::new(rbsp);
-    let set = read_pps(terms.target, &mut bits, sink)?;
+    let set = read_pps(extent.target, &mut bits, sink)?;
     state.sets.put_pps(set);
     pass(state, kind);
     Ok(())
@@ -202,10 +202,10 @@ fn join_slice<S: FrameSink>(
     requires header { header ≡ header_of unit.now }
     requires rbsp { rbsp.now ≡ body_of unit.now }
     requires fits { fits_kind (nal_unit_type header) (nal_ref_idc header) ≡ true }
-    requires kept { KeepsSome modes.Headers false state.old }
-    ensures joins { (frames : ℕ → Frame) (before : History) → KeepsWithin modes.Headers frames before (ends_picture (nal_unit_type header)) state.old →
-        Joins modes.Headers (frame_span S.took S.failures frames sink.old sink.new) (ended_in before)
-        (joined modes.Headers before unit.now (slice_outcome before unit.now)) state.new result }
+    requires kept { KeepsSome depths.Headers false state.old }
+    ensures joins { (frames : Family) (before : History) → KeepsWithin depths.Headers frames before (ends_picture (nal_unit_type header)) state.old →
+        Joins depths.Headers (frame_span S.took S.failures frames sink.old sink.new) (ended_in before)
+        (joined depths.Headers before unit.now (slice_outcome before unit.now)) state.new result }
     ensures counts { OnOk result (state.new.units ≡ state.old.units + 1) }
     ensures pictures { OnOk result (state.new.slices.pictures ≤ state.new.units) }
     ensures no_memory { IsErrOf result Stop.Memory → ⊥ }
@@ -248,12 +248,12 @@ fn join_read<S: FrameSink>(
     requires goes_on { ends_picture (nal_unit_type header) ≡ false }
     requires header { header ≡ header_of unit.now }
     requires fits { fits_kind (nal_unit_type header) (nal_ref_idc header) ≡ true }
-    requires kept { KeepsSome modes.Full false state.old }
-    ensures joins { (frames : ℕ → Frame) (before : History) → KeepsWithin modes.Full frames before (ends_picture (nal_unit_type header)) state.old →
-        Joins modes.Full (frame_span S.took S.failures frames sink.old sink.new) (ended_in before) (whole_slice before unit.now) state.new result }
+    requires kept { KeepsSome depths.Full false state.old }
+    ensures joins { (frames : Family) (before : History) → KeepsWithin depths.Full frames before (ends_picture (nal_unit_type header)) state.old →
+        Joins depths.Full (frame_span S.took S.failures frames sink.old sink.new) (ended_in before) (whole_slice before unit.now) state.new result }
     ensures counts { OnOk result (state.new.units ≡ state.old.units + 1) }
     ensures pictures { OnOk result (state.new.slices.pictures ≤ state.new.units) }
-    ensures no_memory { (frames : ℕ → Frame) (before : History) → KeepsWithin modes.Full frames before (ends_picture (nal_unit_type header)) state.old →
+    ensures no_memory { (frames : Family) (before : History) → KeepsWithin depths.Full frames before (ends_picture (nal_unit_type header)) state.old →
         IsErrOf result Stop.Memory → BeginsAnotherFormat before unit.now }
     ensures kept { OnOk result (IsQuiet S.failures sink.old sink.new) }
 {
@@ -298,12 +298,12 @@ fn join_whole_slice<S: FrameSink>(
     requires header { header ≡ header_of unit.now }
     requires rbsp { rbsp.now ≡ body_of unit.now }
     requires fits { fits_kind (nal_unit_type header) (nal_ref_idc header) ≡ true }
-    requires kept { KeepsSome modes.Full false state.old }
-    ensures joins { (frames : ℕ → Frame) (before : History) → KeepsWithin modes.Full frames before (ends_picture (nal_unit_type header)) state.old →
-        Joins modes.Full (frame_span S.took S.failures frames sink.old sink.new) (ended_in before) (whole_slice before unit.now) state.new result }
+    requires kept { KeepsSome depths.Full false state.old }
+    ensures joins { (frames : Family) (before : History) → KeepsWithin depths.Full frames before (ends_picture (nal_unit_type header)) state.old →
+        Joins depths.Full (frame_span S.took S.failures frames sink.old sink.new) (ended_in before) (whole_slice before unit.now) state.new result }
     ensures counts { OnOk result (state.new.units ≡ state.old.units + 1) }
     ensures pictures { OnOk result (state.new.slices.pictures ≤ state.new.units) }
-    ensures no_memory { (frames : ℕ → Frame) (before : History) → KeepsWithin modes.Full frames before (ends_picture (nal_unit_type header)) state.old →
+    ensures no_memory { (frames : Family) (before : History) → KeepsWithin depths.Full frames before (ends_picture (nal_unit_type header)) state.old →
         IsErrOf result Stop.Memory → BeginsAnotherFormat before unit.now }
     ensures kept { OnOk result (IsQuiet S.failures sink.old sink.new) }
 {
@@ -324,7 +324,7 @@ struct UnitBytes<'a> {
 /// Reads and judges a unit by its type, and adds it to those before it.
 fn join<S: FrameSink>(
     alloc: Global,
-    terms: Terms,
+    extent: Extent,
     state: &mut State,
     bytes: &UnitBytes<'_>,
     sink: &mut S,
@@ -333,19 +333,19 @@ fn join<S: FrameSink>(
     requires units { state.old.units ≤ 2 ^ 40 }
     requires pictures { state.old.slices.pictures ≤ state.old.units }
     requires header { bytes.now.header ≡ header_of bytes.now.unit.now }
-    requires bytes { bytes.now.rbsp.now ≡ bytes_of terms.mode bytes.now.unit.now }
+    requires bytes { bytes.now.rbsp.now ≡ bytes_of extent.depth bytes.now.unit.now }
     requires fits { fits_kind (nal_unit_type bytes.now.header) (nal_ref_idc bytes.now.header) ≡ true }
-    requires kept { KeepsSome terms.mode (ends_picture (nal_unit_type bytes.now.header)) state.old }
-    ensures joins { (frames : ℕ → Frame) (before : History) →
-        KeepsWithin terms.mode frames before (ends_picture (nal_unit_type bytes.now.header)) state.old →
-        Joins terms.mode (frame_span S.took S.failures frames sink.old sink.new)
+    requires kept { KeepsSome extent.depth (ends_picture (nal_unit_type bytes.now.header)) state.old }
+    ensures joins { (frames : Family) (before : History) →
+        KeepsWithin extent.depth frames before (ends_picture (nal_unit_type bytes.now.header)) state.old →
+        Joins extent.depth (frame_span S.took S.failures frames sink.old sink.new)
         (length (ended_pictures (goes_on before) (ends_picture (nal_unit_type bytes.now.header)) (runs_of before)))
-        (joined_by terms (nal_unit_type bytes.now.header) before bytes.now.unit.now) state.new result }
+        (joined_by extent (nal_unit_type bytes.now.header) before bytes.now.unit.now) state.new result }
     ensures counts { OnOk result (state.new.units ≡ state.old.units + 1) }
     ensures pictures { OnOk result (state.new.slices.pictures ≤ state.new.units) }
-    ensures no_memory { (frames : ℕ → Frame) (before : History) →
-        KeepsWithin terms.mode frames before (ends_picture (nal_unit_type bytes.now.header)) state.old →
-        IsErrOf result Stop.Memory → ChangesFormat terms.mode before bytes.now.unit.now }
+    ensures no_memory { (frames : Family) (before : History) →
+        KeepsWithin extent.depth frames before (ends_picture (nal_unit_type bytes.now.header)) state.old →
+        IsErrOf result Stop.Memory → ChangesFormat extent.depth before bytes.now.unit.now }
     ensures kept { OnOk result (IsQuiet S.failures sink.old sink.new) }
 {
     let UnitBytes { unit, header, rbsp } = *bytes;
@@ -355,8 +355,8 @@ fn join<S: FrameSink>(
         return Ok(());
     };
     match kind {
-        NalUnitType::SequenceSet => join_sps(terms, state, kind, unit, rbsp, sink),
-        NalUnitType::PictureSet => join_pps(terms, state, kind, unit, rbsp, sink),
+        NalUnitType::SequenceSet => join_sps(extent, state, kind, unit, rbsp, sink),
+        NalUnitType::PictureSet => join_pps(extent, state, kind, unit, rbsp, sink),
         _ => match &state.decoder {
             None => join_slice(state, header, unit, rbsp, sink),
             Some(_) => join_whole_slice(alloc, state, header, unit, rbsp, sink),
@@ -371,7 +371,7 @@ fn join<S: FrameSink>(
 /// begins a picture of another format than the one before it; Write where the sink failed. After an Err what is kept is of no use.
 pub fn judge_unit<S: FrameSink>(
     alloc: Global,
-    terms: Terms,
+    extent: Extent,
     state: &mut State,
     unit: &NalUnit,
     rbsp: &Option<Rbsp>,
@@ -380,14 +380,14 @@ pub fn judge_unit<S: FrameSink>(
     requires count { HasRoom S.failures sink.old }
     requires units { state.old.units ≤ 2 ^ 40 }
     requires pictures { state.old.slices.pictures ≤ state.old.units }
-    requires bytes { rbsp.now ≡ bytes_of terms.mode unit.now }
-    requires kept { KeepsSome terms.mode false state.old }
-    ensures turns { (frames : ℕ → Frame) (before : History) → Keeps terms.mode frames before state.old →
-        Turns terms (frame_span S.took S.failures frames sink.old sink.new) before unit.now state.new result }
+    requires bytes { rbsp.now ≡ bytes_of extent.depth unit.now }
+    requires kept { KeepsSome extent.depth false state.old }
+    ensures turns { (frames : Family) (before : History) → Keeps extent.depth frames before state.old →
+        Turns extent (frame_span S.took S.failures frames sink.old sink.new) before unit.now state.new result }
     ensures counts { OnOk result (state.new.units ≡ state.old.units + 1) }
     ensures pictures { OnOk result (state.new.slices.pictures ≤ state.new.units) }
-    ensures no_memory { (frames : ℕ → Frame) (before : History) → Keeps terms.mode frames before state.old → IsErrOf result Stop.Memory →
-        ChangesFormat terms.mode before unit.now }
+    ensures no_memory { (frames : Family) (before : History) → Keeps extent.depth frames before state.old → IsErrOf result Stop.Memory →
+        ChangesFormat extent.depth before unit.now }
     ensures kept { OnOk result (IsQuiet S.failures sink.old sink.new) }
 {
     check_emulation(unit)?;
@@ -399,17 +399,17 @@ pub fn judge_unit<S: FrameSink>(
     let ends = NalUnitType::of(header).ends_picture();
     close_if(ends, &mut state.slices, &mut state.decoder, sink)?;
     let bytes = UnitBytes { unit, header, rbsp };
-    join(alloc, terms, state, &bytes, sink)
+    join(alloc, extent, state, &bytes, sink)
 }
 
 /// Whether a stream that is judged so has the pictures that it must have.
-fn has_pictures(mode: Mode, pictures: u64) -> bool
-    ensures { (of : List CodedPicture) → pictures ≡ length of → result ≡ has_pictures mode of }
+fn has_pictures(depth: Depth, pictures: u64) -> bool
+    ensures { (of : List CodedPicture) → pictures ≡ length of → result ≡ has_pictures depth of }
 {
-    match mode {
-        Mode::Units => true,
-        Mode::Headers => pictures != 0,
-        Mode::Full => pictures != 0,
+    match depth {
+        Depth::Units => true,
+        Depth::Headers => pictures != 0,
+        Depth::Full => pictures != 0,
     }
 }
 
@@ -417,10 +417,10 @@ fn has_pictures(mode: Mode, pictures: u64) -> bool
 fn finish_frames<S: FrameSink>(decoder: &mut Option<Decoder>, sink: &mut S) -> Result<(), Stop>
     requires room { HasRoom S.failures sink.old }
     requires kept { KeepsSomeGap decoder.old }
-    ensures plays { (mode : Mode) (frames : ℕ → Frame) (t : Turn) (next : ℕ) → WhereMade mode (FillsFrames frames t next) decoder.old →
-        Plays (with_frames frames (span S.took S.failures sink.old sink.new)) (λ x. x) (steps_outcome (told_frames mode (last_turn t.buffer).written)) result }
-    ensures written { (mode : Mode) (frames : ℕ → Frame) (t : Turn) (next : ℕ) → WhereMade mode (FillsFrames frames t next) decoder.old →
-        OnOk result (WhereMade mode (HasWritten t) decoder.new) }
+    ensures plays { (depth : Depth) (frames : Family) (t : Turn) (next : ℕ) → WhereMade depth (FillsFrames frames t next) decoder.old →
+        Plays (with_frames frames (span S.took S.failures sink.old sink.new)) (λ x. x) (steps_outcome (told_frames depth (last_turn t.buffer).written)) result }
+    ensures written { (depth : Depth) (frames : Family) (t : Turn) (next : ℕ) → WhereMade depth (FillsFrames frames t next) decoder.old →
+        OnOk result (WhereMade depth (HasWritten t) decoder.new) }
     ensures no_memory { IfErr result (λ e. e ≡ Stop.Write) }
 {
     match decoder {
@@ -431,8 +431,8 @@ fn finish_frames<S: FrameSink>(decoder: &mut Option<Decoder>, sink: &mut S) -> R
 
 /// How many frames were written; 0 where none are made.
 fn frames_told(decoder: &Option<Decoder>) -> u64
-    ensures { (mode : Mode) (pictures : List CodedPicture) → WhereMade mode (HasWritten (after_all pictures)) decoder.now →
-        result ≡ frames_written mode pictures }
+    ensures { (depth : Depth) (pictures : List CodedPicture) → WhereMade depth (HasWritten (after_all pictures)) decoder.now →
+        result ≡ frames_written depth pictures }
 {
     match decoder {
         None => 0,
@@ -445,7 +445,7 @@ fn frames_told(decoder: &Option<Decoder>) -> u64
 ///
 /// Err: Incomplete, MarkCommand or NoPicture, with its bit, or Write where the sink failed.
 pub fn judge_end<S: FrameSink>(
-    mode: Mode,
+    depth: Depth,
     state: &mut State,
     bit: u64,
     sink: &mut S,
@@ -453,14 +453,14 @@ pub fn judge_end<S: FrameSink>(
     requires room { HasRoom S.failures sink.old }
     requires units { state.old.units ≤ 2 ^ 41 }
     requires pictures { state.old.slices.pictures ≤ state.old.units }
-    requires kept { KeepsSome mode false state.old }
-    ensures ends { (frames : ℕ → Frame) (before : History) → Keeps mode frames before state.old →
-        EndsAll mode (frame_span S.took S.failures frames sink.old sink.new) before bit (λ x. x) result }
+    requires kept { KeepsSome depth false state.old }
+    ensures ends { (frames : Family) (before : History) → Keeps depth frames before state.old →
+        EndsAll depth (frame_span S.took S.failures frames sink.old sink.new) before bit (λ x. x) result }
     ensures no_memory { IsErrOf result Stop.Memory → ⊥ }
 {
     close_if(true, &mut state.slices, &mut state.decoder, sink)?;
     let pictures = state.slices.pictures;
-    check(has_pictures(mode, pictures), Rule::NoPicture, bit)?;
+    check(has_pictures(depth, pictures), Rule::NoPicture, bit)?;
     finish_frames(&mut state.decoder, sink)?;
     Ok(Summary {
         units: state.units,

@@ -5,7 +5,7 @@ use h264_pages::survey::Meter;
 use std::io::Write;
 use std::time::{Duration, Instant};
 
-/// Tells at most once a second how many bytes, pictures and frames there were, and at the end the last of it.
+/// Tells at most once a second how many bytes and pictures there were, and at the end the last of it.
 #[derive(Clone, Copy)]
 pub struct Progress<'a> {
     rt: &'a HostRuntime,
@@ -32,29 +32,29 @@ impl<'a> Progress<'a> {
     }
 
     /// Writes the line of it.
-    fn tell(&self, elapsed: Duration, byte: u64, pictures: u64, frames: u64) {
+    fn tell(&self, elapsed: Duration, byte: u64, pictures: u64) {
         let milliseconds = u64::try_from(elapsed.as_millis()).unwrap_or(u64::MAX);
-        let rate = frames.saturating_mul(1000) / milliseconds.max(1);
+        let rate = pictures.saturating_mul(1000) / milliseconds.max(1);
         let _ = writeln!(
             self.rt.stderr(),
-            "progress bytes {byte} pictures {pictures} frames {frames} a second {rate}"
+            "progress bytes {byte} pictures {pictures} a second {rate}"
         );
     }
 }
 
 impl Meter for Progress<'_> {
-    fn note(&mut self, byte: u64, pictures: u64, frames: u64) {
+    fn note(&mut self, byte: u64, pictures: u64) {
         if let Some(elapsed) = self.elapsed() {
             if elapsed.as_secs() > self.told {
                 self.told = elapsed.as_secs();
-                self.tell(elapsed, byte, pictures, frames);
+                self.tell(elapsed, byte, pictures);
             }
         }
     }
 
-    fn end(&mut self, byte: u64, pictures: u64, frames: u64) {
+    fn end(&mut self, byte: u64, pictures: u64) {
         if let Some(elapsed) = self.elapsed() {
-            self.tell(elapsed, byte, pictures, frames);
+            self.tell(elapsed, byte, pictures);
         }
     }
 }

@@ -8,6 +8,8 @@ mod device_tests;
 #[cfg(test)]
 mod frame_tests;
 #[cfg(test)]
+mod handing_tests;
+#[cfg(test)]
 mod header_tests;
 #[cfg(test)]
 mod more_tests;

@@ -432,7 +432,7 @@ total: files 3 yes 2 no 0 outside 0 memory 0 failed 1\n",
         words: &["h264v", "explain", "VectorRange", "Vector"],
         stream: "",
         out: &[],
-        err: "h264v: no rule has the label Vector\n",
+        err: "h264v: no rule has the label Vector; the nearest is VectorRange, and h264v explain --all lists all\n",
         status: 64,
     },
     Asking {
@@ -475,15 +475,15 @@ total: files 3 yes 2 no 0 outside 0 memory 0 failed 1\n",
         words: &["h264v", "decode", "--y4m", "stream"],
         stream: SIZES,
         out: &["YUV4MPEG2 W16 H16 F25:1 Ip C420\nFRAME\n????"],
-        err: "size changes from 16x16 to 32x16, and YUV4MPEG2 has no second header\nwrite failed\n",
+        err: "h264v: stream: frame 1 is 32x16, and those before it are 16x16: YUV4MPEG2 has one size\n",
         status: 4,
     },
     Asking {
         words: &["h264v", "decode", "--y4m", "--json", "stream"],
         stream: SIZES,
         out: &["YUV4MPEG2 W16 H16 F25:1 Ip C420\nFRAME\n????"],
-        err: "{\"file\":\"stream\",\"kind\":\"change\",\"text\":\"size changes from 16x16 to 32x16, and YUV4MPEG2 has no second header\"}\n\
-{\"file\":\"stream\",\"kind\":\"verdict\",\"verdict\":\"write failed\",\"status\":4}\n",
+        err: "{\"file\":\"stream\",\"kind\":\"verdict\",\"verdict\":\"size changes\",\"status\":4,\"frame\":1,\"width\":32,\"height\":16,\
+\"width_before\":16,\"height_before\":16}\n",
         status: 4,
     },
     Asking {
@@ -492,6 +492,215 @@ total: files 3 yes 2 no 0 outside 0 memory 0 failed 1\n",
         out: &[],
         err: "h264v: --picture wants the number of a picture, from 0\n",
         status: 64,
+    },
+];
+
+/// The shape of a sample in YUV4MPEG2, and names of files and other words with control characters.
+const NAMES: [Asking; 7] = [
+    // aspect_ratio_idc is 2.
+    Asking {
+        words: &["h264v", "decode", "--y4m", "stream"],
+        stream: "000000016742c00ada7b0200800000000168ce388000000165888493c0",
+        out: &["YUV4MPEG2 W16 H16 F25:1 Ip A12:11 C420\nFRAME\n????"],
+        err: "yes: units 3 pictures 1 frames 1\n",
+        status: 0,
+    },
+    // aspect_ratio_idc is 255, with sar_width 64 and sar_height 45.
+    Asking {
+        words: &["h264v", "decode", "--y4m", "stream"],
+        stream: "000000016742c00ada7bff0040002d00800000000168ce388000000165888493c0",
+        out: &["YUV4MPEG2 W16 H16 F25:1 Ip A64:45 C420\nFRAME\n????"],
+        err: "yes: units 3 pictures 1 frames 1\n",
+        status: 0,
+    },
+    Asking {
+        words: &["h264v", "check", "stream\nyes: \x1B[2J", "stream\\n"],
+        stream: ONE,
+        out: &[
+            "stream\\nyes: \\x1b[2J: yes: units 3 pictures 1 frames 1\nstream\\\\n: yes: units 3 pictures 1 frames 1\ntotal: files 2 ",
+        ],
+        err: "",
+        status: 0,
+    },
+    Asking {
+        words: &["h264v", "check", "none\n"],
+        stream: ONE,
+        out: &["read failed\n"],
+        err: "h264v: none\\n: ",
+        status: 4,
+    },
+    Asking {
+        words: &["h264v", "explain", "Vector\u{9B}"],
+        stream: "",
+        out: &[],
+        err: "h264v: no rule has the label Vector\\xc2\\x9b; the nearest is VectorRange, and h264v explain --all lists all\n",
+        status: 64,
+    },
+    Asking {
+        words: &["h264v", "units\n", "stream"],
+        stream: ONE,
+        out: &[],
+        err: "error: unrecognized subcommand 'units\\n'\n",
+        status: 64,
+    },
+    Asking {
+        words: &["h264v", "decode", "-o", "-", "--y4m", "stream\n"],
+        stream: ONE,
+        out: &["YUV4MPEG2 W16 H16 F25:1 Ip C420\nFRAME\n????"],
+        err: "yes: units 3 pictures 1 frames 1\n",
+        status: 0,
+    },
+];
+
+/// Lists of files, labels and choices.
+const LISTS: [Asking; 13] = [
+    Asking {
+        words: &[
+            "h264v",
+            "check",
+            "--files0-from",
+            "list",
+            "stream0",
+            "-r",
+            "folder",
+            "--glob",
+            "*.264",
+        ],
+        stream: ONE,
+        out: &[
+            "stream0: yes: units 3 pictures 1 frames 1\nstream: yes: units 3 pictures 1 frames 1\n./-: read failed\n\
+stream/1.264: yes: units 3 pictures 1 frames 1\nstream/3.264: yes: units 3 pictures 1 frames 1\n\
+total: files 5 yes 4 no 0 outside 0 memory 0 failed 1\n",
+        ],
+        err: "h264v: stream/socket: it is no file, and is left out\nh264v: ./-: ",
+        status: 4,
+    },
+    Asking {
+        words: &["h264v", "check", "-r", "none"],
+        stream: ONE,
+        out: &[],
+        err: "h264v: none: ",
+        status: 4,
+    },
+    Asking {
+        words: &["h264v", "check", "-r", "folder", "--glob", "*.mp4"],
+        stream: ONE,
+        out: &[],
+        err: "h264v: stream/socket: it is no file, and is left out\nh264v: the lists name no file\n",
+        status: 64,
+    },
+    Asking {
+        words: &["h264v", "check", "--glob", "*.mp4", "stream"],
+        stream: ONE,
+        out: &[],
+        err: "h264v: --glob belongs to --recursive\n",
+        status: 64,
+    },
+    Asking {
+        words: &["h264v", "check", "--name", "camera", "stream"],
+        stream: ONE,
+        out: &[],
+        err: "h264v: --name names standard input, which is given by one -\n",
+        status: 64,
+    },
+    Asking {
+        words: &["h264v", "check", "--json", "--name", "stream 7", "-"],
+        stream: ONE,
+        out: &["{\"file\":\"stream 7\",\"kind\":\"verdict\",\"verdict\":\"yes\""],
+        err: "",
+        status: 0,
+    },
+    Asking {
+        words: &["h264v", "explain", "--all"],
+        stream: "",
+        out: &[
+            "ByteStream (clause B.1)\nbreaks: ",
+            "InputTooLong (outside)\n",
+            "RemovalRate (--strict, clause ",
+        ],
+        err: "",
+        status: 0,
+    },
+    Asking {
+        words: &["h264v", "explain", "vectorRANGE"],
+        stream: "",
+        out: &["VectorRange (clause A.3)\nbreaks: "],
+        err: "",
+        status: 0,
+    },
+    Asking {
+        words: &["h264v", "elements", "--picture", "2", "stream"],
+        stream: TWO,
+        out: &["yes: units 4 pictures 2 frames 2\n"],
+        err: "h264v: stream: there is no picture 2: 2 pictures were read\n",
+        status: 0,
+    },
+    Asking {
+        words: &["h264v", "check", "--brief", "stream", "stream2"],
+        stream: GAP,
+        out: &[
+            "stream: no: bit 247: FrameNum (clause 7.4.3)\nstream2: no: bit 247: FrameNum (clause 7.4.3)\ntotal: ",
+        ],
+        err: "",
+        status: 1,
+    },
+    Asking {
+        words: &["h264v", "units", "--brief", "stream"],
+        stream: ONE,
+        out: &[],
+        err: "h264v: --brief belongs to check\n",
+        status: 64,
+    },
+    Asking {
+        words: &["h264v", "decode", "-r", "folder"],
+        stream: ONE,
+        out: &[],
+        err: "error: unexpected argument '-r' found\n",
+        status: 64,
+    },
+    Asking {
+        words: &["h264v", "units", "--files0-from", "none"],
+        stream: ONE,
+        out: &[],
+        err: "h264v: none: ",
+        status: 4,
+    },
+];
+
+/// Words with `--output`, a stream, the frames that the output has where it was finished, what is said, and the status.
+struct Outputting {
+    name: &'static str,
+    stream: &'static str,
+    frames: Option<usize>,
+    err: &'static str,
+    status: u8,
+}
+
+/// The samples of a frame of one macroblock, in bytes.
+const FRAME_BYTES: usize = 384;
+
+/// An output gets its name with a verdict alone. At a no a frame may still wait that is not written.
+const OUTPUTS: [Outputting; 3] = [
+    Outputting {
+        name: "made",
+        stream: TWO,
+        frames: Some(2),
+        err: "yes: units 4 pictures 2 frames 2\n",
+        status: 0,
+    },
+    Outputting {
+        name: "made",
+        stream: GAP,
+        frames: Some(0),
+        err: "no: bit 247: FrameNum (clause 7.4.3)\n",
+        status: 1,
+    },
+    Outputting {
+        name: "kept",
+        stream: ONE,
+        frames: None,
+        err: "yes: units 3 pictures 1 frames 1\nh264v: kept: ",
+        status: 4,
     },
 ];
 
@@ -529,7 +738,7 @@ const FAULTS: [Asking; 12] = [
         words: &["h264v", "units", "--none", "stream"],
         stream: ONE,
         out: &[],
-        err: "error: unexpected argument '--none' found\n\n  tip: to pass '--none' as a value, use '-- --none'\n\nUsage: h264v units [OPTIONS] <FILE>...\n",
+        err: "error: unexpected argument '--none' found\n\n  tip: to pass '--none' as a value, use '-- --none'\n\nUsage: h264v units [OPTIONS] [FILE]...\n",
         status: 64,
     },
     Asking {
@@ -551,7 +760,7 @@ const FAULTS: [Asking; 12] = [
         stream: ONE,
         out: &[],
         err: "Says whether a stream is legal: yes, no with the first rule that it breaks and the bit where, or outside\n\n\
-Usage: h264v check [OPTIONS] <FILE>...\n\nArguments:\n  <FILE>...  An H.264 byte stream (Annex B), as cameras and encoders \
+Usage: h264v check [OPTIONS] [FILE]...\n\nArguments:\n  [FILE]...  An H.264 byte stream (Annex B), as cameras and encoders \
 write it with the ending .264 or .h264; - for standard input\n",
         status: 64,
     },
@@ -559,28 +768,28 @@ write it with the ending .264 or .h264; - for standard input\n",
         words: &["h264v", "units", "--help"],
         stream: ONE,
         out: &[],
-        err: "Prints a line for each unit, and judges byte stream, units and parameter sets\n\nUsage: h264v units [OPTIONS] <FILE>...\n",
+        err: "Prints a line for each unit, and judges byte stream, units and parameter sets\n\nUsage: h264v units [OPTIONS] [FILE]...\n",
         status: 64,
     },
     Asking {
         words: &["h264v", "headers", "--help"],
         stream: ONE,
         out: &[],
-        err: "Prints a line for each slice, and judges slice headers too\n\nUsage: h264v headers [OPTIONS] <FILE>...\n",
+        err: "Prints a line for each slice, and judges slice headers too\n\nUsage: h264v headers [OPTIONS] [FILE]...\n",
         status: 64,
     },
     Asking {
         words: &["h264v", "frames", "--help"],
         stream: ONE,
         out: &[],
-        err: "Prints a line for each frame in output order, with its size and the MD5 of its samples\n\nUsage: h264v frames [OPTIONS] <FILE>...\n",
+        err: "Prints a line for each frame in output order, with its size and the MD5 of its samples\n\nUsage: h264v frames [OPTIONS] [FILE]...\n",
         status: 64,
     },
     Asking {
         words: &["h264v", "decode", "--help"],
         stream: ONE,
         out: &[],
-        err: "Writes each frame in output order as planar YUV 4:2:0, and its verdict to standard error\n\nUsage: h264v decode [OPTIONS] <FILE>...\n",
+        err: "Writes each frame in output order as planar YUV 4:2:0, and its verdict to standard error\n\nUsage: h264v decode [OPTIONS] [FILE]...\n",
         status: 64,
     },
 ];
@@ -623,8 +832,32 @@ fn check_all(rt: &(impl Abort + AllocGlobal), askings: &[Asking]) -> Result<(), 
     Ok(())
 }
 
+/// That an output has these frames, where it was finished, and that this is said and answered.
+fn check_output(rt: &(impl Abort + AllocGlobal), outputting: &Outputting) -> Result<(), Fail> {
+    let stream = hex::decode(rt.alloc(), outputting.stream)?;
+    let words = ["h264v", "decode", "-o", outputting.name, "stream"];
+    let all = answer(rt.alloc(), &words, stream.as_slice(), WELL)?;
+    assert_eq!(rt; all.status, outputting.status);
+    assert!(rt; all.out.is_empty());
+    let frames = all.finished.map(|text| text.len() / FRAME_BYTES);
+    assert_eq!(rt; frames, outputting.frames);
+    let err = text_of(all.err)?;
+    assert!(rt; err.as_str().starts_with(outputting.err), "{err}");
+    Ok(())
+}
+
+#[test]
+fn outputs(rt: HostRuntime) -> Result<(), Fail> {
+    for outputting in OUTPUTS.iter() {
+        check_output(&rt, outputting)?;
+    }
+    Ok(())
+}
+
 #[test]
 fn options(rt: HostRuntime) -> Result<(), Fail> {
+    check_all(&rt, &NAMES)?;
+    check_all(&rt, &LISTS)?;
     check_all(&rt, &VERDICTS)?;
     check_all(&rt, &LISTINGS)?;
     check_all(&rt, &REST)?;

@@ -7,13 +7,15 @@ use crate::header_tests::{MARKINGS, PICTURES};
 use crate::set_tests::{SETS_0, SETS_1, SETS_2, SETS_3};
 use crate::target_tests::{FOR_BASELINE, FOR_MAIN_IP};
 use h264_command::files::{Maker, OpenedFiles, Opener};
-use h264_command::not_text;
+use h264_command::glob::is_match;
+use h264_command::lists::{Below, Lister};
 use h264_command::program::run_words;
 use h264_command::words::words_of;
-use h264_lines::WriteDevice;
+use h264_lines::{WriteDevice, shown};
 use h264_pages::survey::NoMeter;
 use md5::{Digest, Md5};
 use std::alloc::Global;
+use std::cell::RefCell;
 use std::env::{Env, FillError};
 use std::io;
 use std::io::{ErrorKind, Read, Write};
@@ -63,11 +65,15 @@ impl Read for Pieces<'_> {
     }
 }
 
-/// Opens the one stream that there is, by any name that begins with `stream`, and makes no file.
+/// Opens the one stream that there is, by any name that begins with `stream`, and makes outputs: none of the name `full`, and one of the name `kept` that can't
+/// be finished.
 #[derive(Clone, Copy)]
 struct OneStream<'a> {
+    alloc: Global,
     bytes: &'a [u8],
     devices: Devices,
+    /// The output that was finished.
+    finished: &'a RefCell<Option<Vec<u8>>>,
 }
 
 impl<'a> Opener for OneStream<'a> {
@@ -86,16 +92,87 @@ impl<'a> Opener for OneStream<'a> {
     }
 }
 
-impl Maker for OneStream<'_> {
-    type Output = Vec<u8>;
+/// An output, and whether it can be finished.
+#[derive(Drop)]
+struct Output {
+    text: Vec<u8>,
+    can_finish: bool,
+}
 
-    fn make(&mut self, _name: &str) -> io::Result<Vec<u8>> {
-        Err(io::Error::from(ErrorKind::PermissionDenied))
+impl Write for Output {
+    fn write(&mut self, bytes: &[u8]) -> io::Result<usize> {
+        self.text.write(bytes)
     }
+
+    fn flush(&mut self) -> io::Result<()> {
+        Ok(())
+    }
+}
+
+impl Maker for OneStream<'_> {
+    type Output = Output;
+
+    fn make(&mut self, name: &str) -> io::Result<Output> {
+        if name == "full" {
+            return Err(io::Error::from(ErrorKind::PermissionDenied));
+        }
+        Ok(Output {
+            text: Vec::new(self.alloc),
+            can_finish: name != "kept",
+        })
+    }
+
+    fn finish(&mut self, output: Output) -> io::Result<()> {
+        let Output { text, can_finish } = output;
+        if !can_finish {
+            return Err(io::Error::from(ErrorKind::PermissionDenied));
+        }
+        let mut finished = self.finished.try_borrow_mut()?;
+        *finished = Some(text);
+        Ok(())
+    }
+
+    fn abandon(&mut self, _output: Output) {}
 
     fn is_same(&self, name: &str, other: &str) -> bool {
         name == other
     }
+}
+
+/// Two files below any folder but `none`, one of which is no stream's, and beside them a socket; a list has two names.
+impl Lister for OneStream<'_> {
+    fn listed_in(&self, list: &str) -> io::Result<Vec<String>> {
+        if list != "list" {
+            return Err(io::Error::from(ErrorKind::NotFound));
+        }
+        names(self.alloc, &["stream", "-"])
+    }
+
+    fn below(&self, folder: &str) -> io::Result<Below> {
+        if folder == "none" {
+            return Err(io::Error::from(ErrorKind::NotFound));
+        }
+        Ok(Below {
+            files: names(
+                self.alloc,
+                &["stream/1.264", "stream/2.h264", "stream/3.264"],
+            )?,
+            others: names(self.alloc, &["stream/socket"])?,
+        })
+    }
+
+    fn name_input(&self, _name: &str) -> io::Result<()> {
+        Ok(())
+    }
+}
+
+/// Names, as a list has them.
+fn names(alloc: Global, given: &[&str]) -> io::Result<Vec<String>> {
+    let mut names: Vec<String> = Vec::new(alloc);
+    for name in given {
+        names.push(String::from_str(alloc, name)?)?;
+    }
+    Ok(names)
 }
 
 /// A writer that takes at most so many bytes a call, and fails at the call of this number, and at no other.
@@ -129,6 +206,8 @@ pub struct Written {
     pub err: Vec<u8>,
     /// How many writes of `out` there were.
     pub writes: usize,
+    /// The output of `--output`, where it was finished.
+    pub finished: Option<Vec<u8>>,
     pub status: u8,
 }
 
@@ -143,7 +222,7 @@ fn writer(alloc: Global, size: usize, failing: usize) -> FailsAt {
 }
 
 /// The words of a command line.
-fn words(alloc: Global, given: &[&str]) -> Result<Vec<String>, Fail> {
+pub fn words(alloc: Global, given: &[&str]) -> Result<Vec<String>, Fail> {
     let mut words: Vec<String> = Vec::new(alloc);
     for word in given {
         words.push(String::from_str(alloc, word)?)?;
@@ -153,7 +232,13 @@ fn words(alloc: Global, given: &[&str]) -> Result<Vec<String>, Fail> {
 
 /// What the program writes to words, over a stream that comes by such devices.
 fn run_over(alloc: Global, words: &[String], bytes: &[u8], devices: Devices) -> Written {
-    let mut files = OpenedFiles::new(OneStream { bytes, devices });
+    let finished = RefCell::new(None);
+    let mut files = OpenedFiles::new(OneStream {
+        alloc,
+        bytes,
+        devices,
+        finished: &finished,
+    });
     let mut out = WriteDevice::new(writer(alloc, devices.write_size, devices.failing_write));
     let mut err = WriteDevice::new(writer(alloc, devices.write_size, devices.failing_error));
     let status = run_words(alloc, words, &mut files, &mut out, &mut err, NoMeter);
@@ -163,6 +248,7 @@ fn run_over(alloc: Global, words: &[String], bytes: &[u8], devices: Devices) -> 
         out: out.text,
         err: err.text,
         writes: out.calls,
+        finished: finished.into_inner(),
         status,
     }
 }
@@ -526,15 +612,6 @@ impl Env for Arguments<'_> {
     }
 }
 
-/// Whether the words are `h264v` and `units`.
-fn asks_for_units(words: Option<Vec<String>>) -> bool {
-    match words {
-        Some(words) => words.len() == 2 && words[1].as_str() == "units",
-        None => false,
-    }
-}
-
-/// A word that is not UTF-8 is a fault of the words, and not a want of memory.
 /// The digest of the text `abc`, as RFC 1321 has it.
 #[test]
 fn digest_of_abc(rt: HostRuntime) -> Result<(), Fail> {
@@ -545,20 +622,48 @@ fn digest_of_abc(rt: HostRuntime) -> Result<(), Fail> {
     Ok(())
 }
 
+/// Bytes of an argument, the word that is made of them, and how a line has it.
+const ARGUMENTS: [(&[u8], &str, &str); 4] = [
+    (b"units", "units", "units"),
+    (b"caf\xC3\xA9.264", "caf\u{e9}.264", "caf\u{e9}.264"),
+    (b"a\xFF.264", "a\0ff.264", "a\\xff.264"),
+    (
+        b"\xE9\n\x1B\xC2\x9B\\",
+        "\0e9\n\x1B\u{9B}\\",
+        "\\xe9\\n\\x1b\\xc2\\x9b\\\\",
+    ),
+];
+
+/// Patterns and names, and whether they match.
+const PATTERNS: [(&str, &str, bool); 10] = [
+    ("*.264", "clip.264", true),
+    ("*.264", "clip.h264", false),
+    ("*264", "clip.h264", true),
+    ("clip", "clip", true),
+    ("clip", "clips", false),
+    ("c?ip", "clip", true),
+    ("c?ip", "cip", false),
+    ("caf?", "caf\u{e9}", true),
+    ("*a*b*", "xxaxxaxb", true),
+    ("", "x", false),
+];
+
 #[test]
-fn word_that_is_no_text(rt: HostRuntime) -> Result<(), Fail> {
+fn patterns(rt: HostRuntime) {
+    for (pattern, name, matches) in PATTERNS {
+        assert_eq!(rt; is_match(pattern, name), matches, "{pattern} {name}");
+    }
+}
+
+#[test]
+fn words_of_bytes(rt: HostRuntime) -> Result<(), Fail> {
     let alloc = rt.alloc();
-    let units = Arguments { second: b"units" };
-    assert!(rt; asks_for_units(words_of(&units, alloc)?));
-    let no_text = Arguments {
-        second: b"a\xFF.264",
-    };
-    assert!(rt; words_of(&no_text, alloc)?.is_none());
-    let mut err: WriteDevice<Vec<u8>> = WriteDevice::new(Vec::new(alloc));
-    assert_eq!(rt; not_text(&mut err), 64);
-    let text =
-        b"h264v: a word is not UTF-8; a file with such a name is judged from standard input: h264v check - <FILE\n";
-    assert_eq!(rt; err.writer.as_slice(), text.as_slice());
+    for (second, word, line) in ARGUMENTS {
+        let words = words_of(&Arguments { second }, alloc)?;
+        assert_eq!(rt; words.len(), 2);
+        assert_eq!(rt; words[1].as_str(), word);
+        assert_eq!(rt; shown(alloc, word)?.as_str(), line);
+    }
     Ok(())
 }
 

@@ -5,6 +5,7 @@ use crate::pages::finding::Finding;
 use crate::pages::page::Page;
 use crate::pages::profile::put_level;
 use crate::pages::ranges::{range_of, tool_range_of};
+use crate::pages::reason::Reason;
 use crate::survey::{Sequence, Survey};
 use h264_base::Rule;
 use h264_tables::{Limits, limits};
@@ -149,6 +150,24 @@ fn put_buffering(page: &mut Page, survey: &Survey) {
     }
 }
 
+/// Whether no target judges the stream: another profile than Main, or Main with CABAC or fields.
+fn suits_no_target(finding: &Finding) -> bool {
+    match finding.reason {
+        Some(Reason::OtherProfile(declared)) => {
+            !declared.is_main() || declared.has_fields() || declared.cabac == Some(true)
+        }
+        _ => false,
+    }
+}
+
+/// Adds the profiles that are judged (A.2). The other target stands there where it may judge the stream.
+fn put_profiles(page: &mut Page, finding: &Finding) {
+    page.put("profile_idc 66; or 77 or 88 with constraint_set0_flag 1");
+    if !suits_no_target(finding) {
+        page.put("; the target main-ip takes 77 with any flags");
+    }
+}
+
 /// Adds the address of the macroblock that comes next (7.4.3).
 fn put_first(page: &mut Page, survey: &Survey) {
     page.number(survey.coded);
@@ -168,8 +187,6 @@ fn put_complete(page: &mut Page, survey: &Survey) {
 /// What a rule allows, where the rule alone says it.
 fn fixed_text(rule: Rule) -> &'static str {
     match rule {
-        Rule::Profile =>
-            "profile_idc 66; or 77 or 88 with constraint_set0_flag 1; the target main-ip takes 77 with any flags",
         Rule::IdrPicId => "another idr_pic_id than that of the IDR picture before",
         Rule::SliceType =>
             "I in an IDR picture and where no reference frame is held; after slice_type 5 or 7 that type in all slices of the picture",
@@ -191,6 +208,7 @@ fn fixed_text(rule: Rule) -> &'static str {
 /// Adds what a rule allows where it was broken; nothing where the rule says it better.
 pub fn put_allowed(page: &mut Page, rule: Rule, survey: &Survey, finding: &Finding) {
     match rule {
+        Rule::Profile => put_profiles(page, finding),
         Rule::FrameNum => put_frame_num(page, survey),
         Rule::VectorRange => put_vector_range(page, survey),
         Rule::FrameSize => put_frame_size(page, survey),

@@ -14,13 +14,14 @@ pub enum Container {
     Flv,
 }
 
-/// How many bytes are looked at.
-const LOOKED_AT: usize = 16;
+/// How many bytes are looked at: a container's first ones, or the first parameter sets of a stream.
+const LOOKED_AT: usize = 256;
 
 /// The first bytes of an input.
 #[derive(Clone, Copy)]
 pub struct Start {
-    bytes: [u8; 16],
+    bytes: [u8; 256],
+    /// How many of them are known.
     known: usize,
     /// How many bytes came.
     count: usize,
@@ -37,10 +38,24 @@ const SYNC: u8 = 0x47;
 /// nal_unit_type of parameter sets and delimiters of HEVC (H.265, table 7-1).
 const HEVC_TYPES: [u8; 4] = [32, 33, 34, 35];
 
+/// How many values nal_unit_type has: it is the last five bits of a unit's header (7.3.1).
+const UNIT_TYPES: u8 = 32;
+
 /// The second byte of a unit's header in HEVC, of the lowest layer (H.265, 7.3.1.2).
 const HEVC_LAYER: u8 = 1;
 
 impl Container {
+    /// What it is, for a sentence.
+    pub fn title(self) -> &'static str {
+        match self {
+            Container::Mp4 => "an MP4 or MOV file",
+            Container::Mkv => "a Matroska or WebM file",
+            Container::Ts => "an MPEG-2 transport stream",
+            Container::Avi => "an AVI file",
+            Container::Flv => "an FLV file",
+        }
+    }
+
     /// Its name, which is that of a file's ending.
     pub fn name(self) -> &'static str {
         match self {
@@ -57,14 +72,14 @@ impl Start {
     /// No bytes.
     pub fn new() -> Start {
         Start {
-            bytes: [0; 16],
+            bytes: [0; 256],
             known: 0,
             count: 0,
             second: None,
         }
     }
 
-    /// Notes a byte, if fewer than 16 are known.
+    /// Notes a byte, if fewer than 256 are known.
     fn note_byte(&mut self, byte: u8) {
         if self.known < LOOKED_AT {
             if let Some(place) = self.bytes.get_mut(self.known) {
@@ -76,11 +91,13 @@ impl Start {
 
     /// Notes further bytes, of which the first ones are kept.
     pub fn note(&mut self, bytes: &[u8]) {
-        if self.count > PACKET {
+        if self.count > LOOKED_AT {
             return;
         }
-        if let Some(byte) = bytes.get(PACKET - self.count) {
-            self.second = Some(*byte);
+        if self.count <= PACKET {
+            if let Some(byte) = bytes.get(PACKET - self.count) {
+                self.second = Some(*byte);
+            }
         }
         self.count = self.count.saturating_add(bytes.len());
         for byte in bytes.iter().take(LOOKED_AT) {
@@ -91,6 +108,28 @@ impl Start {
     /// The byte at a place; 0 where it is not known.
     fn at(&self, place: usize) -> u8 {
         self.bytes.get(place).copied().unwrap_or(0)
+    }
+
+    /// The byte at a place. None: it is not known.
+    pub fn known_at(&self, place: usize) -> Option<u8> {
+        if place < self.known {
+            self.bytes.get(place).copied()
+        } else {
+            None
+        }
+    }
+
+    /// The place of the header of the first unit of this nal_unit_type, after a start code.
+    pub fn unit_of_type(&self, nal_unit_type: u8) -> Option<usize> {
+        for start_code in 0..self.known {
+            if self.has(start_code, &[0, 0, 1]) {
+                let place = start_code.saturating_add(3);
+                if self.known_at(place)? % UNIT_TYPES == nal_unit_type {
+                    return Some(place);
+                }
+            }
+        }
+        None
     }
 
     /// Whether these bytes stand from a place on.

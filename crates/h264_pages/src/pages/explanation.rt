@@ -2,8 +2,9 @@
 #![tactic(auto)]
 
 use crate::pages::allowed::put_allowed;
-use crate::pages::finding::{Answer, Finding, Guide, Reason};
+use crate::pages::finding::{Answer, Finding, Guide};
 use crate::pages::page::Page;
+use crate::pages::reason::{Reason, put_remedy, put_sentence};
 use crate::survey::Survey;
 use h264_base::Stop;
 use h264_lines::trail::Element;
@@ -79,6 +80,9 @@ fn put_allowed_line(
     if let Err(Stop::No { rule, .. }) = answer {
         let mut allowed = Page::new(alloc);
         put_allowed(&mut allowed, rule, survey, finding);
+        if allowed.is_short() {
+            page.give_up();
+        }
         if allowed.as_str() != "" {
             page.put("explain allowed ");
             page.put(allowed.as_str());
@@ -96,13 +100,40 @@ fn put_reason(page: &mut Page, reason: Option<Reason>) {
             page.put("\n");
         }
         Some(Reason::Hevc) => page.put("explain reason hevc\n"),
-        Some(Reason::OtherProfile(name)) => {
+        Some(Reason::OtherProfile(declared)) => {
             page.put("explain reason other-profile ");
-            page.put(name);
+            page.put(declared.profile());
             page.put("\n");
         }
+        Some(Reason::Cabac) => page.put("explain reason cabac\n"),
         None => {}
     }
+}
+
+/// Adds the line of what to do about the reason, where there is something.
+fn put_remedy_line(alloc: Global, page: &mut Page, reason: Reason) {
+    let mut remedy = Page::new(alloc);
+    let has_remedy = put_remedy(&mut remedy, reason, "FILE");
+    if remedy.is_short() {
+        page.give_up();
+    }
+    if has_remedy {
+        page.put("explain remedy ");
+        page.put(remedy.as_str());
+        page.put("\n");
+    }
+}
+
+/// Adds the lines of the rule and of what causes that it is broken: what the input is, where it is no stream for this program.
+fn put_guide_lines(page: &mut Page, reason: Option<Reason>, guide: Guide<'_>) {
+    page.put("explain rule ");
+    page.put(guide.breaks);
+    page.put("\nexplain cause ");
+    match reason {
+        Some(reason) => put_sentence(page, reason),
+        None => page.put(guide.cause),
+    }
+    page.put("\n");
 }
 
 /// Adds the lines that explain an answer: none for a yes, and for an answer of memory or a device.
@@ -121,13 +152,12 @@ pub fn put_explanation(
     put_found(page, &finding);
     put_allowed_line(alloc, page, answer, survey, &finding);
     if let Some(guide) = guide {
-        page.put("explain rule ");
-        page.put(guide.breaks);
-        page.put("\nexplain cause ");
-        page.put(guide.cause);
-        page.put("\n");
+        put_guide_lines(page, finding.reason, guide);
     }
     put_reason(page, finding.reason);
+    if let Some(reason) = finding.reason {
+        put_remedy_line(alloc, page, reason);
+    }
     if finding.ends_in_unit {
         page.put("explain end the input ends in this unit\n");
     }

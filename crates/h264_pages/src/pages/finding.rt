@@ -1,8 +1,9 @@
 //! Where a verdict stands, and what was found there.
 #![tactic(auto)]
 
-use crate::pages::container::{Container, Start};
-use crate::pages::profile::profile_of;
+use crate::pages::container::Start;
+use crate::pages::reason::Reason;
+use crate::rules::{entry_of, entry_of_feature};
 use crate::survey::Survey;
 use h264_base::{ElementName, Rule, Stop, Summary};
 use h264_lines::trail::Element;
@@ -27,17 +28,6 @@ pub struct Macroblock {
     pub row: u64,
 }
 
-/// Why an input is no stream for this program, beside the rule that it breaks.
-#[derive(Clone, Copy, PartialEq, Eq)]
-pub enum Reason {
-    /// It is a file that holds streams.
-    Container(Container),
-    /// It is a byte stream of H.265.
-    Hevc,
-    /// It is of another profile, by this name.
-    OtherProfile(&'static str),
-}
-
 /// Where a no or an outside stands.
 #[derive(Clone, Copy)]
 pub struct Finding {
@@ -59,32 +49,26 @@ pub struct Finding {
 }
 
 /// The bits of a byte.
-const BITS_A_BYTE: u64 = 8;
+pub(crate) const BITS_A_BYTE: u64 = 8;
 
-impl Reason {
-    /// Its name in the field `reason`.
-    pub fn name(self) -> &'static str {
-        match self {
-            Reason::Container(_) => "container",
-            Reason::Hevc => "hevc",
-            Reason::OtherProfile(_) => "other-profile",
+/// What is said to a reader of an answer: of its rule or feature.
+pub fn guide_of(answer: Answer) -> Option<Guide<'static>> {
+    match answer {
+        Err(Stop::No { rule, .. }) => {
+            let entry = entry_of(rule);
+            Some(Guide {
+                breaks: entry.breaks,
+                cause: entry.cause,
+            })
         }
-    }
-
-    /// Why an input with these first bytes and this survey is no stream for this program, if it broke this rule.
-    fn of(rule: Rule, survey: &Survey, start: &Start) -> Option<Reason> {
-        if let Some(container) = start.container() {
-            return Some(Reason::Container(container));
+        Err(Stop::Outside { feature, .. }) => {
+            let entry = entry_of_feature(feature);
+            Some(Guide {
+                breaks: entry.stands,
+                cause: entry.advice,
+            })
         }
-        if start.is_hevc() {
-            return Some(Reason::Hevc);
-        }
-        if rule == Rule::Profile {
-            if let Some(set) = survey.sequence() {
-                return Some(Reason::OtherProfile(profile_of(&set)));
-            }
-        }
-        None
+        _ => None,
     }
 }
 
@@ -97,7 +81,7 @@ fn rule_of(answer: Answer) -> Option<Rule> {
 }
 
 /// The bit that an answer names.
-fn bit_of(answer: Answer) -> Option<u64> {
+pub(crate) fn bit_of(answer: Answer) -> Option<u64> {
     match answer {
         Err(Stop::No { bit, .. }) => Some(bit),
         Err(Stop::Outside { bit, .. }) => Some(bit),

@@ -7,6 +7,7 @@ use crate::pages::info::{count_pictures, rate_of, shown_height, shown_width};
 use crate::pages::page::Page;
 use crate::pages::plot::{pictures_a_bar, put_buffer_plot, put_byte_plot};
 use crate::pages::profile::{profile_of, put_level};
+use crate::pages::reason::{put_remedy, put_sentence};
 use crate::survey::{Sequence, Survey};
 use base64::engine::general_purpose::STANDARD;
 use std::alloc::Global;
@@ -205,7 +206,33 @@ fn put_frames(alloc: Global, page: &mut Page, album: &Album, sheets: &Sheets<'_>
     page.put("</pre>");
 }
 
-/// Adds a page on a stream.
+/// Adds the paragraph on an input without a picture: what it is, and what to do about it.
+fn put_no_pictures(alloc: Global, page: &mut Page, sheets: &Sheets<'_>) {
+    page.put("<p>");
+    let reason = match sheets.finding {
+        Some(finding) => finding.reason,
+        None => None,
+    };
+    match reason {
+        Some(reason) => {
+            put_sentence(page, reason);
+            let mut remedy = Page::new(alloc);
+            let has_remedy = put_remedy(&mut remedy, reason, sheets.file);
+            if remedy.is_short() {
+                page.give_up();
+            }
+            if has_remedy {
+                page.put(" <code>");
+                page.escaped(remedy.as_str());
+                page.put("</code>");
+            }
+        }
+        None => page.put("No picture was read."),
+    }
+    page.put("</p>");
+}
+
+/// Adds a page on a stream. Where it has no picture a paragraph stands in the place of plots, counts and frames.
 pub fn put_page(
     alloc: Global,
     page: &mut Page,
@@ -215,9 +242,15 @@ pub fn put_page(
 ) {
     put_verdict(page, sheets);
     put_further(page, sheets);
-    put_sets(page, survey);
-    put_pictures(page, survey, sheets);
-    put_macroblocks(page, survey);
-    put_frames(alloc, page, album, sheets);
+    if !survey.sets.sequences.is_empty() {
+        put_sets(page, survey);
+    }
+    if survey.pictures.list.is_empty() {
+        put_no_pictures(alloc, page, sheets);
+    } else {
+        put_pictures(page, survey, sheets);
+        put_macroblocks(page, survey);
+        put_frames(alloc, page, album, sheets);
+    }
     page.put("</body></html>\n");
 }

@@ -3,7 +3,7 @@
 
 use crate::pages::page::Page;
 use crate::pages::profile::{profile_of, put_level};
-use crate::survey::{MacroblockCounts, Picture, PictureKind, Sequence, Survey};
+use crate::survey::{MacroblockCounts, ParameterSet, Picture, PictureKind, Sequence, Survey};
 
 /// Samples in a row of a macroblock.
 const SIDE: u64 = 16;
@@ -166,10 +166,45 @@ fn put_macroblocks(page: &mut Page, counts: MacroblockCounts) {
     page.put("\n");
 }
 
-/// Adds the lines of what a stream has.
+/// The sequence parameter set that was read last, where no unit came after it: one that broke a rule, or the input's last unit. None: its profile was not read.
+fn last_set(survey: &Survey) -> Option<Sequence> {
+    match survey.sets.read {
+        Some(ParameterSet::Sequence(set)) if set.profile_idc != 0 => Some(set),
+        _ => None,
+    }
+}
+
+/// Adds the line of the set that was read last: its profile, and its level and size where they were read.
+fn put_last_set(page: &mut Page, set: &Sequence) {
+    page.put("info last set profile ");
+    page.number(set.profile_idc);
+    page.put(" (");
+    page.put(profile_of(set));
+    page.put(")");
+    if set.level_idc != 0 {
+        page.put(" level ");
+        put_level(page, set);
+    }
+    if set.height != 0 {
+        page.put(" size ");
+        page.number(shown_width(set));
+        page.put("x");
+        page.number(shown_height(set));
+    }
+    page.put("\n");
+}
+
+/// Adds the lines of what a stream has. Where it has no picture there are none on pictures and macroblocks.
 pub fn put_info(page: &mut Page, survey: &Survey) {
     for set in survey.sets.sequences.iter() {
         put_set(page, set);
+    }
+    if let Some(set) = last_set(survey) {
+        put_last_set(page, &set);
+    }
+    if survey.pictures.list.is_empty() {
+        page.put("info no pictures: check --explain says what the input is\n");
+        return;
     }
     put_pictures(page, survey);
     put_macroblocks(page, survey.macroblocks);
@@ -220,6 +255,38 @@ fn put_macroblock_fields(page: &mut Page, counts: MacroblockCounts) {
     page.put("}");
 }
 
+/// Adds the field of the set that was read last: its profile, and its level and size where they were read.
+fn put_last_set_field(page: &mut Page, set: &Sequence) {
+    page.name("last_set");
+    page.put("{\"profile_idc\":");
+    page.number(set.profile_idc);
+    page.text_field("profile", profile_of(set));
+    if set.level_idc != 0 {
+        page.number_field("level_idc", set.level_idc);
+    }
+    if set.height != 0 {
+        page.number_field("width", shown_width(set));
+        page.number_field("height", shown_height(set));
+    }
+    page.put("}");
+}
+
+/// Adds the fields of pictures and macroblocks; only that there is no picture, where there is none.
+fn put_count_fields(page: &mut Page, survey: &Survey) {
+    if survey.pictures.list.is_empty() {
+        page.number_field("pictures", 0);
+        return;
+    }
+    let counts = count_pictures(survey.pictures.list.as_slice());
+    page.number_field("pictures", survey.pictures.list.as_slice().len() as u64);
+    page.number_field("idr", counts.idr);
+    page.number_field("i", counts.intra);
+    page.number_field("p", counts.predicted);
+    page.number_field("bytes", counts.bytes);
+    page.number_field("largest", counts.largest);
+    put_macroblock_fields(page, survey.macroblocks);
+}
+
 /// Adds the object of what a stream has, on a line of its own.
 pub fn put_info_object(page: &mut Page, file: &str, survey: &Survey) {
     page.open_object(file, "info");
@@ -232,13 +299,9 @@ pub fn put_info_object(page: &mut Page, file: &str, survey: &Survey) {
         put_set_fields(page, set);
     }
     page.put("]");
-    let counts = count_pictures(survey.pictures.list.as_slice());
-    page.number_field("pictures", survey.pictures.list.as_slice().len() as u64);
-    page.number_field("idr", counts.idr);
-    page.number_field("i", counts.intra);
-    page.number_field("p", counts.predicted);
-    page.number_field("bytes", counts.bytes);
-    page.number_field("largest", counts.largest);
-    put_macroblock_fields(page, survey.macroblocks);
+    if let Some(set) = last_set(survey) {
+        put_last_set_field(page, &set);
+    }
+    put_count_fields(page, survey);
     page.close_object();
 }

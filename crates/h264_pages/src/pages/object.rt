@@ -6,8 +6,10 @@ ghost use Rattle.h264_pages.specs.Pages.{word_text, found_fields, answer_fields,
 ghost use Rattle.h264_pages.specs.Pages as pages;
 
 use crate::pages::allowed::put_allowed;
-use crate::pages::finding::{Answer, Finding, Guide, Reason};
+use crate::pages::finding::{Answer, BITS_A_BYTE, Finding, Guide, bit_of};
+use crate::pages::glance::Declared;
 use crate::pages::page::Page;
+use crate::pages::reason::{Reason, put_remedy, put_sentence};
 use crate::survey::Survey;
 use h264_base::{Stop, Summary};
 use h264_lines::answer::answer_status;
@@ -70,16 +72,48 @@ fn put_element(page: &mut Page, element: Element)
     page.signed_field("value", element.value);
 }
 
-/// Adds the fields of the reason.
-fn put_reason(page: &mut Page, reason: Reason)
+/// Adds the fields of what a stream says of itself.
+fn put_declared(page: &mut Page, declared: Declared)
+    ensures { Grows page.old page.new }
+{
+    page.text_field("profile", declared.profile());
+    page.number_field("profile_idc", declared.profile_idc);
+    page.maybe_field("level_idc", declared.level_idc);
+    if let Some(format) = declared.format {
+        page.number_field("width", format.size.width);
+        page.number_field("height", format.size.height);
+    }
+    if let Some(is_cabac) = declared.cabac {
+        page.bool_field("cabac", is_cabac);
+    }
+}
+
+/// Adds a field of a text that was made apart, where it is to be there. Where memory was wanting for the text, it is wanting for the page.
+fn put_part(page: &mut Page, name: &str, is_there: bool, text: &Page)
+    ensures { Grows page.old page.new }
+{
+    if text.is_short() {
+        page.give_up();
+        return;
+    }
+    if is_there {
+        page.text_field(name, text.as_str());
+    }
+}
+
+/// Adds the fields of the reason, and of what to do about it.
+fn put_reason(alloc: Global, page: &mut Page, reason: Reason)
     ensures { Grows page.old page.new }
 {
     page.text_field("reason", reason.name());
     match reason {
         Reason::Container(container) => page.text_field("container", container.name()),
-        Reason::OtherProfile(name) => page.text_field("profile", name),
-        Reason::Hevc => {}
+        Reason::OtherProfile(declared) => put_declared(page, declared),
+        Reason::Hevc | Reason::Cabac => {}
     }
+    let mut remedy = Page::new(alloc);
+    let has_remedy = put_remedy(&mut remedy, reason, "FILE");
+    put_part(page, "remedy", has_remedy, &remedy);
 }
 
 /// Adds the fields of a bit and of the unit that it is in.
@@ -120,7 +154,7 @@ fn put_element_found(page: &mut Page, finding: &Finding)
 }
 
 /// Adds the fields of the place and of what was found there.
-fn put_finding(page: &mut Page, survey: &Survey, finding: &Finding)
+fn put_finding(alloc: Global, page: &mut Page, survey: &Survey, finding: &Finding)
     ensures { Grows page.old page.new }
 {
     put_bit(page, survey, finding);
@@ -128,7 +162,7 @@ fn put_finding(page: &mut Page, survey: &Survey, finding: &Finding)
     put_element_found(page, finding);
     page.bool_field("ends_in_unit", finding.ends_in_unit);
     if let Some(reason) = finding.reason {
-        put_reason(page, reason);
+        put_reason(alloc, page, reason);
     }
 }
 
@@ -145,9 +179,8 @@ fn put_allowed_field(
     if let Err(Stop::No { rule, .. }) = answer {
         let mut allowed = Page::new(alloc);
         put_allowed(&mut allowed, rule, survey, finding);
-        if allowed.as_str() != "" {
-            page.text_field("allowed", allowed.as_str());
-        }
+        let is_said = allowed.as_str() != "";
+        put_part(page, "allowed", is_said, &allowed);
     }
 }
 
@@ -162,17 +195,59 @@ fn put_place(
     ensures { Grows page.old page.new }
 {
     if let Some(finding) = finding {
-        put_finding(page, survey, &finding);
+        put_finding(alloc, page, survey, &finding);
         put_allowed_field(alloc, page, answer, survey, &finding);
     }
 }
 
+/// Adds the field of the cause: what the input is, where it is no stream for this program; else what usually causes it.
+fn put_cause(alloc: Global, page: &mut Page, reason: Option<Reason>, guide: Guide<'_>)
+    ensures { Grows page.old page.new }
+{
+    let mut cause = Page::new(alloc);
+    match reason {
+        Some(reason) => put_sentence(&mut cause, reason),
+        None => cause.put(guide.cause),
+    }
+    put_part(page, "cause", true, &cause);
+}
+
 /// Adds the fields of what is said of the rule or feature.
-fn put_guide(page: &mut Page, guide: Guide<'_>)
+fn put_guide(alloc: Global, page: &mut Page, finding: Option<Finding>, guide: Guide<'_>)
     ensures { Grows page.old page.new }
 {
     page.text_field("breaks", guide.breaks);
-    page.text_field("cause", guide.cause);
+    let reason = match finding {
+        Some(finding) => finding.reason,
+        None => None,
+    };
+    put_cause(alloc, page, reason, guide);
+}
+
+/// Adds the fields of the bit that an answer names, where it names one.
+fn put_bare_bit(page: &mut Page, answer: Answer)
+    ensures { Grows page.old page.new }
+{
+    if let Some(bit) = bit_of(answer) {
+        page.number_field("bit", bit);
+        page.number_field("byte", bit / BITS_A_BYTE);
+    }
+}
+
+/// Adds the fields of a verdict on a stream that was not surveyed: the answer, its bit, and what is said of it to a reader.
+pub fn put_bare_verdict_fields(
+    alloc: Global,
+    page: &mut Page,
+    answer: Answer,
+    guide: Option<Guide<'_>>,
+)
+    ensures { AddsFirst page.old page.new (answer_fields answer) }
+{
+    put_answer_fields(page, answer);
+    put_bare_bit(page, answer);
+    if let Some(guide) = guide {
+        put_guide(alloc, page, None, guide);
+    }
 }
 
 /// Adds the fields of a verdict: the answer, where it stands and what was found there, and what is said of it to a reader.
@@ -189,6 +264,6 @@ pub fn put_verdict_fields(
     put_answer_fields(page, answer);
     put_place(alloc, page, answer, survey, finding);
     if let Some(guide) = guide {
-        put_guide(page, guide);
+        put_guide(alloc, page, finding, guide);
     }
 }

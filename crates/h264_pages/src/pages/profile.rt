@@ -41,15 +41,20 @@ const LEVEL_11: u64 = 11;
 /// level_idc 9, which is level 1b.
 const LEVEL_1B: u64 = 9;
 
-/// Adds the name of a set's level, such as 3.1.
-pub fn put_level(page: &mut Page, set: &Sequence) {
-    if set.level_idc == LEVEL_1B || (set.level_idc == LEVEL_11 && set.constraint_set3) {
+/// Adds the name of a level, such as 3.1, by level_idc and constraint_set3_flag (A.3.1).
+pub fn put_level_of(page: &mut Page, level_idc: u64, constraint_set3: bool) {
+    if level_idc == LEVEL_1B || (level_idc == LEVEL_11 && constraint_set3) {
         page.put("1b");
         return;
     }
-    page.number(set.level_idc / 10);
-    if set.level_idc % 10 != 0 {
+    page.number(level_idc / 10);
+    if level_idc % 10 != 0 {
         page.put(".");
-        page.number(set.level_idc % 10);
+        page.number(level_idc % 10);
     }
+}
+
+/// Adds the name of a set's level.
+pub fn put_level(page: &mut Page, set: &Sequence) {
+    put_level_of(page, set.level_idc, set.constraint_set3);
 }

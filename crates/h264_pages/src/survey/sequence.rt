@@ -3,7 +3,7 @@
 
 ghost use Rattle.std.specs.Prelude.{◌≡◌};
 ghost use Rattle.h264_bits.specs.Forms.{natural};
-ghost use Rattle.h264_pages.specs.SurveyedSets.{with_usability, with_size, with_element, with_picture_element, timing_of};
+ghost use Rattle.h264_pages.specs.SurveyedSets.{with_ratio, with_usability, with_size, with_element, with_picture_element, timing_of, ratio_of};
 
 use h264_base::ElementName;
 use h264_bits::count_of;
@@ -25,6 +25,15 @@ pub struct Timing {
     pub fixed_frame_rate: bool,
 }
 
+/// The sample aspect ratio of the video usability information (E.2.1).
+#[derive(Clone, Copy, Default)]
+pub struct AspectRatio {
+    pub aspect_ratio_idc: u64,
+    /// The ratio that aspect_ratio_idc 255, Extended_SAR, is followed by.
+    pub sar_width: u64,
+    pub sar_height: u64,
+}
+
 /// A sequence parameter set (7.4.2.1).
 #[derive(Clone, Copy, Default)]
 pub struct Sequence {
@@ -43,6 +52,8 @@ pub struct Sequence {
     /// The frame's height in macroblocks.
     pub height: u64,
     pub cropping: Cropping,
+    /// The sample aspect ratio, where it is given.
+    pub aspect_ratio: Option<AspectRatio>,
     /// The timing, where it is given.
     pub timing: Option<Timing>,
     /// max_num_reorder_frames, where it is given.
@@ -57,6 +68,42 @@ impl Sequence {
         ensures { result ≡ timing_of self.now }
     {
         self.timing.unwrap_or_default()
+    }
+
+    /// The sample aspect ratio, with zeros where none is given yet.
+    fn ratio(&self) -> AspectRatio
+        ensures { result ≡ ratio_of self.now }
+    {
+        self.aspect_ratio.unwrap_or_default()
+    }
+
+    /// Notes an element of its sample aspect ratio.
+    #[tactic(auto, unfolding(crate::specs::SurveyedSets::with_ratio))]
+    fn note_ratio(&mut self, name: ElementName, value: u64)
+        ensures { self.new ≡ with_ratio name value self.old }
+    {
+        let ratio = self.ratio();
+        match name {
+            ElementName::AspectRatioIdc => {
+                self.aspect_ratio = Some(AspectRatio {
+                    aspect_ratio_idc: value,
+                    ..ratio
+                })
+            }
+            ElementName::SarWidth => {
+                self.aspect_ratio = Some(AspectRatio {
+                    sar_width: value,
+                    ..ratio
+                })
+            }
+            ElementName::SarHeight => {
+                self.aspect_ratio = Some(AspectRatio {
+                    sar_height: value,
+                    ..ratio
+                })
+            }
+            _ => {}
+        }
     }
 
     /// Notes an element of its video usability information.
@@ -86,7 +133,7 @@ impl Sequence {
             }
             ElementName::MaxNumReorderFrames => self.max_num_reorder_frames = Some(value),
             ElementName::MaxDecFrameBuffering => self.max_dec_frame_buffering = Some(value),
-            _ => {}
+            _ => self.note_ratio(name, value),
         }
     }
 

@@ -4,7 +4,7 @@
 ghost use Rattle.std.specs.Prelude.{◌≡◌, false, None, [], position, option_map};
 ghost use Rattle.h264_units.specs.UnitTypes.{type_number};
 ghost use Rattle.h264_pages.specs.SurveyedSets.{has_sequence_id, has_picture_id, put_sequence, put_picture_set, begun, with_set_element, kept_sequences};
-ghost use Rattle.h264_pages.specs.SurveyedSets.{kept_picture_sets, find_sequence, find_picture_set};
+ghost use Rattle.h264_pages.specs.SurveyedSets.{kept_picture_sets, find_sequence, find_picture_set, find_sequence_of};
 
 use crate::survey::sequence::{PictureSet, Sequence};
 use h264_base::ElementName;
@@ -176,6 +176,14 @@ impl Sets {
             .iter()
             .copied()
             .find(|set| has_sequence_id(id, set))
+    }
+
+    /// The sequence parameter set that the picture parameter set of an id names, where both were taken up.
+    pub fn sequence_of(&self, pic_parameter_set_id: u64) -> Option<Sequence>
+        ensures { result ≡ find_sequence_of pic_parameter_set_id self.now.picture_sets.items self.now.sequences.items }
+    {
+        let set = self.picture_set(pic_parameter_set_id)?;
+        self.sequence(set.seq_parameter_set_id)
     }
 
     /// The picture parameter set of an id that was taken up.

@@ -49,8 +49,7 @@ impl<S: FrameSink + Drop, M: Meter + Drop> FrameSink for Surveyed<S, M> {
         nal_ref_idc: u8,
         length: u64,
     ) -> Result<(), Failed> {
-        self.meter
-            .note(byte, self.survey.picture_count(), self.survey.frames);
+        self.meter.note(byte, self.survey.picture_count());
         self.sink.unit(byte, nal_unit_type, nal_ref_idc, length)?;
         self.survey
             .note_unit(byte, nal_unit_type, nal_ref_idc, length);

@@ -1,6 +1,5 @@
 use Rattle.std.proofs.Common.{◌≡◌, ℕ, List, Option, None, Some, refl, inl, inr, ⊎_elim}
 use Rattle.h264_base.specs.declared.mode.Mode.TheVariants as modes
-use Rattle.h264_verify.specs.Units.{terms_of}
 use Rattle.h264_lines.specs.Sent.{wrote}
 use Rattle.h264_report.specs.Written.{OfBytes, Lists, Checks}
 use Rattle.h264_lines.specs.declared.listing.Listing.TheVariants as listings
@@ -20,23 +19,23 @@ returns-in-Check-clause-performs g c = rw c.in-Check.is
 pub returns-in-Units-clause-performs : goal.returns-in-Units-clause-performs
 returns-in-Units-clause-performs g c = rw c.in-Units.is
     (beside (g.R.Source.left c.args.source.now)
-    (λ bytes. Lists (terms_of modes.Units c.args.target) listings.Units bytes c.list.result
+    (λ bytes. Lists modes.Units c.args.target listings.Units bytes c.list.result
     (wrote (g.W.Device.contents c.args.out.now) (g.W.Device.contents c.list.new.out))) (g.E.Device.contents c.args.err.now)
-    (rw c.terms-units.ensures at c.list.ensures.lists))
+    c.list.ensures.lists)
 
 pub returns-in-Headers-clause-performs : goal.returns-in-Headers-clause-performs
 returns-in-Headers-clause-performs g c =
     rw c.in-Headers.is (beside (g.R.Source.left c.args.source.now)
-    (λ bytes. Lists (terms_of modes.Headers c.args.target) listings.Slices bytes c.list-in-Headers.result
+    (λ bytes. Lists modes.Headers c.args.target listings.Slices bytes c.list-in-Headers.result
     (wrote (g.W.Device.contents c.args.out.now) (g.W.Device.contents c.list-in-Headers.new.out))) (g.E.Device.contents c.args.err.now)
-    (rw c.terms-headers.ensures at c.list-in-Headers.ensures.lists))
+    c.list-in-Headers.ensures.lists)
 
 pub returns-in-Frames-clause-performs : goal.returns-in-Frames-clause-performs
 returns-in-Frames-clause-performs g c = rw c.in-Frames.is
     (beside (g.R.Source.left c.args.source.now)
-    (λ bytes. Lists (terms_of modes.Full c.args.target) listings.Frames bytes c.list-in-Frames.result
+    (λ bytes. Lists modes.Full c.args.target listings.Frames bytes c.list-in-Frames.result
     (wrote (g.W.Device.contents c.args.out.now) (g.W.Device.contents c.list-in-Frames.new.out))) (g.E.Device.contents c.args.err.now)
-    (rw c.terms-whole.ensures at c.list-in-Frames.ensures.lists))
+    c.list-in-Frames.ensures.lists)
 
 pub returns-in-Decode-clause-performs : goal.returns-in-Decode-clause-performs
 returns-in-Decode-clause-performs g c = rw c.in-Decode.is c.decode.ensures.decodes
@@ -44,9 +43,9 @@ returns-in-Decode-clause-performs g c = rw c.in-Decode.is c.decode.ensures.decod
 pub returns-in-Elements-clause-performs : goal.returns-in-Elements-clause-performs
 returns-in-Elements-clause-performs g c =
     rw c.in-Elements.is (beside (g.R.Source.left c.args.source.now)
-    (λ bytes. Lists (terms_of modes.Full c.args.target) listings.Elements bytes c.list-in-Elements.result
+    (λ bytes. Lists modes.Verdict c.args.target listings.Elements bytes c.list-in-Elements.result
     (wrote (g.W.Device.contents c.args.out.now) (g.W.Device.contents c.list-in-Elements.new.out))) (g.E.Device.contents c.args.err.now)
-    (rw c.terms-whole.ensures at c.list-in-Elements.ensures.lists))
+    c.list-in-Elements.ensures.lists)
 
 pub returns-in-Check-clause-excused : goal.returns-in-Check-clause-excused
 returns-in-Check-clause-excused g c = record {

@@ -11,4 +11,5 @@ returns-clause-app c =
     let three = c.in_ok-third.ensures.app ∙ ap (λ (a : App). with_flag a (codes "quiet")) two in
     let four = c.in_ok-fourth.ensures.app ∙ ap (λ (a : App). with_flag a (codes "progress")) three in
     let five = c.in_ok-fifth.ensures.app ∙ ap (λ (a : App). with_flag a (codes "y4m")) four in
-    IfOk-weaker c.with_flag-6.result _ _ (λ r h. h ∙ ap (λ (a : App). with_flag a (codes "strict")) five) c.with_flag-6.ensures.app
+    let six = c.in_ok-sixth.ensures.app ∙ ap (λ (a : App). with_flag a (codes "strict")) five in
+    IfOk-weaker c.with_flag-7.result _ _ (λ r h. h ∙ ap (λ (a : App). with_flag a (codes "brief")) six) c.with_flag-7.ensures.app

@@ -1,8 +1,9 @@
 use Rattle.std.proofs.Common.{refl}
-use Rattle.h264_plane.specs.Frames.{no_frame}
 use Rattle.h264_verify.proofs.Accounts.{accounts}
 use Rattle.h264_pages.proofs.Surveying.{none-surveyed}
 use Rattle.h264_verify.specs.Account.{calls_in}
+use Rattle.h264_verify.specs.Modes.{purpose_for}
+use Rattle.h264_verify.proofs.Purposes.{with-family}
 use Rattle.h264_command.proofs.Answered.{answered, survey-of, surveyed-calls}
 use Rattle.h264_command.proofs.job.judge.Goals as goal
 
@@ -17,7 +18,8 @@ returns-clause-took g c none =
 
 pub returns-clause-some : goal.returns-clause-some
 returns-clause-some g c none =
-    let a = accounts {s' = c.run-answer.new.sink} (c.run-answer.ensures.some.4 (λ k. no_frame)) (none, none-surveyed c.args.watch.fresh) in
+    let a = accounts {s' = c.run-answer.new.sink} (with-family (purpose_for c.mode_of-mode.result) c.run-answer.ensures.some.4)
+    (none, none-surveyed c.args.watch.fresh) in
     rw c.tell_end.ensures.sink (calls_in a.0, a.1.0)
 
 pub returns-clause-surveyed : goal.returns-clause-surveyed

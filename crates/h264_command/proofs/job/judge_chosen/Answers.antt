@@ -1,8 +1,9 @@
 use Rattle.std.proofs.Common.{◌∙◌}
-use Rattle.h264_plane.specs.Frames.{no_frame}
 use Rattle.h264_verify.proofs.Accounts.{accounts}
 use Rattle.h264_lines.specs.Chosen.{pending_call}
 use Rattle.h264_verify.specs.Account.{calls_in}
+use Rattle.h264_verify.specs.Modes.{purpose_for}
+use Rattle.h264_verify.proofs.Purposes.{with-family}
 use Rattle.h264_command.proofs.Texts.{left-some}
 use Rattle.h264_command.proofs.Answered.{answered, chosen-calls, fresh-of, took-calls}
 use Rattle.h264_command.proofs.job.judge_chosen.Goals as goal
@@ -20,7 +21,7 @@ returns-clause-took g c none =
 pub returns-clause-some : goal.returns-clause-some
 returns-clause-some g c none =
     let n = c.run-answer.new.sink in
-    let a = accounts {s' = n} (c.run-answer.ensures.some.4 (λ k. no_frame))
+    let a = accounts {s' = n} (with-family (purpose_for c.mode_of-mode.result) c.run-answer.ensures.some.4)
     (c.new-narrowed.ensures.choice ∙ c.requires.choice, c.new-narrowed.ensures.took none, fresh-of c.new-narrowed.ensures.survey c.args.watch.fresh) in
     left-some g.S.Elements.took n.choice n.broke_off n.reading (pending_call n.pending) n.sink (calls_in a.0) a.1.1
 

@@ -4,7 +4,8 @@ use Rattle.h264_strict.specs.StrictUnits.{TellsOfBytes}
 use Rattle.h264_strict.specs.declared.strict_units.UnitsRead.{UnitsRead}
 use Rattle.h264_strict.specs.Strict.{TookStrict}
 use Rattle.h264_strict.specs.declared.strict_sink.StrictSink.{StrictSink}
-use Rattle.h264_plane.specs.Frames.{no_frame}
+use Rattle.h264_verify.specs.Modes.{purpose_for}
+use Rattle.h264_verify.proofs.Purposes.{with-family}
 use Rattle.h264_command.specs.Files.{left_of}
 use Rattle.h264_command.specs.Words.{mode_of}
 use Rattle.h264_command.proofs.Answered.{answered, survey-of, surveyed-calls}
@@ -33,7 +34,7 @@ returns-then-not-is_surveyed-clause-further g c =
     let tells = subst (λ (units : UnitsRead). TellsOfBytes units.extent u.1 units.found units.lack u.0) (sym c.judged_further.ensures.units) u.5 in
     rw c.judged_further.ensures.answer (judged _ (mode_of c.args.job.now.task) c.args.job.now.options.target
     (left_of g.F.Read.remaining c.args.file.now.reader) c.judge_strictly-judgement.result.answer c.judged_further.result.further
-    c.mode_of-mode.ensures u.0 u.1 u.2 u.3 (u.4 (λ k. no_frame)) (none, c.new-sink.ensures.strict)
+    c.mode_of-mode.ensures u.0 u.1 u.2 u.3 (with-family (purpose_for c.mode_of-mode.result) u.4) (none, c.new-sink.ensures.strict)
     (λ calls t. subst (λ s. TookStrict s calls) (sym c.judged_further.ensures.strict) t.1) tells)
 
 pub returns-clause-read : goal.returns-clause-read
@@ -46,7 +47,8 @@ returns-clause-further g c =
     let tells = subst (λ (units : UnitsRead). TellsOfBytes units.extent u.1 units.found units.lack u.0) (sym c.judged_further-2.ensures.units) u.5 in
     rw c.judged_further-2.ensures.answer (judged _ (mode_of c.args.job.now.task) c.args.job.now.options.target
     (left_of g.F.Read.remaining c.args.file.now.reader) c.judge_strictly-judgement-2.result.answer c.judged_further-2.result.further
-    c.mode_of-mode.ensures u.0 u.1 u.2 u.3 (u.4 (λ k. no_frame)) ((none, c.new-sink.ensures.strict), none-surveyed c.args.watch.fresh)
+    c.mode_of-mode.ensures u.0 u.1 u.2 u.3 (with-family (purpose_for c.mode_of-mode.result) u.4)
+    ((none, c.new-sink.ensures.strict), none-surveyed c.args.watch.fresh)
     (λ calls t. subst (λ s. TookStrict s calls)
     (ap (λ (s : StrictSink g.row.S.Denot). s.strict) (sym c.tell_end.ensures.sink) ∙ sym c.judged_further-2.ensures.strict) t.0.1) tells)
 

@@ -6,7 +6,7 @@ use Rattle.h264_command.specs.declared.refusal.Clash.TheVariants as clashes
 use Rattle.h264_command.specs.declared.refusal.Refusal.TheVariants as refusals
 use Rattle.h264_command.proofs.Given.{names-given}
 use Rattle.h264_command.proofs.Statuses.{single}
-use Rattle.h264_command.proofs.Writing.{alone, alone-elsewhere, of-words}
+use Rattle.h264_command.proofs.Writing.{alone, alone-elsewhere, of-words, output-given, some-text}
 use Rattle.h264_command.proofs.more.more.Goals as goal
 
 pub returns-in-Err : goal.returns-in-Err
@@ -31,16 +31,17 @@ returns-in_default g c =
     let one : length all ≡ 1 = let t = c.if-names-ne1.false in omega (arith, t) in
     Judged c.in-Ok.options c.in-Ok.ensures.given c.in-Ok.ensures.used
     (alone c.args.wanted.now.request.task c.in-Ok.options _ _ _
-    (record { name = (slice_index_or all 0 none).now; done = c.do_one.result; text = c.do_one.ensures.text.text }) _ c.status.result _ _ _ c.in_default.is
+    (record { name = (slice_index_or all 0 none).now; done = c.do_one.result; text = c.do_one.ensures.text.text }) _ c.status.result _ _ _
+    (sym c.output_file.ensures ∙ ap (option_map (λ (s : Bor (List ℕ)). s.now)) c.in_default.is)
     (single (λ (n : Bor (List ℕ)). n.now) all none one ∙ names)
     c.do_one.ensures.answer c.do_one.ensures.broken (record { read = c.do_one.ensures.read; told = c.do_one.ensures.read_told }) c.do_one.ensures.failures
     c.do_one.ensures.text.is_text c.do_one.ensures.text.sends c.status.ensures)
 
 pub returns-then-is_same : goal.returns-then-is_same
 returns-then-is_same g c =
-    let output = sym c.in-Ok.ensures.given.output ∙ ap (option_map (λ (s : Bor (List ℕ)). s.now)) c.in-Some.is in
-    Refused (refusals.Clash clashes.OutputIsInput) c.refuse-then-is_same.ensures.status (Same refl (subst IsSome (sym output) refl)) refl
-    c.refuse-then-is_same.ensures.told
+    let file = sym c.output_file.ensures ∙ ap (option_map (λ (s : Bor (List ℕ)). s.now)) c.in-Some.is in
+    let some = some-text c.in-Ok.options.output c.in-Ok.ensures.given.output (output-given c.in-Ok.options.output file) in
+    Refused (refusals.Clash clashes.OutputIsInput) c.refuse-then-is_same.ensures.status (Same refl some) refl c.refuse-then-is_same.ensures.told
 
 pub returns : goal.returns
 returns g c =
@@ -49,8 +50,9 @@ returns g c =
     refl in
     let all = c.unwrap_or-names.result.now in
     let one : length all ≡ 1 = let t = c.if-names-ne1.false in omega (arith, t) in
+    let file = sym c.output_file.ensures ∙ ap (option_map (λ (s : Bor (List ℕ)). s.now)) c.in-Some.is in
     Judged c.in-Ok.options c.in-Ok.ensures.given c.in-Ok.ensures.used
     (alone-elsewhere c.args.wanted.now.request.task c.in-Ok.options _ _ _ (slice_index_or all 0 none).now c.do_output.result _ c.status-2.result _ _
-    c.in-Some.output c.in-Some.is (single (λ (n : Bor (List ℕ)). n.now) all none one ∙ names)
+    c.in-Some.output.now (output-given c.in-Ok.options.output file) file (single (λ (n : Bor (List ℕ)). n.now) all none one ∙ names)
     c.do_output.ensures.answer c.do_output.ensures.broken c.do_output.ensures.read c.do_output.ensures.read_told c.do_output.ensures.output
     c.status-2.ensures)

@@ -5,6 +5,7 @@ use Rattle.h264_command.proofs.options.misplaced.Goals as goal
 pub returns-clause-none : goal.returns-clause-none
 returns-clause-none c given known is misplaced.Y4m h = search rules
 returns-clause-none c given known is misplaced.Strict h = search rules
+returns-clause-none c given known is misplaced.Brief h = search rules
 returns-clause-none c given known is misplaced.Output h = search rules
 returns-clause-none c given known is misplaced.Choice h = search rules
 returns-clause-none c given known is misplaced.Explain h = search rules

@@ -1,5 +1,4 @@
-use Rattle.std.proofs.Common.{[], refl, inl, inr, ⊎_elim}
-use Rattle.h264_plane.specs.Frames.{no_frame}
+use Rattle.std.proofs.Common.{[], None, refl, inl, inr, ⊎_elim}
 use Rattle.h264_report.proofs.Accounts.{checked, none-checked, none-elements, of-bytes, was-read}
 use Rattle.h264_report.proofs.judging.check.Goals as goal
 
@@ -12,11 +11,11 @@ pub returns-clause-checks : goal.returns-clause-checks
 returns-clause-checks g c =
     let none = none-elements c.in-Ok.sink.trail c.in-Ok.ensures in
     of-bytes _ _
-    (λ bytes h. checked {s' = c.run-answer.new.sink} (λ s. s.trail) _ _ (c.run-answer.ensures.verdict bytes h (λ k. no_frame)) none (λ calls t. t)
+    (λ bytes h. checked {s' = c.run-answer.new.sink} (λ s. s.trail) _ _ (c.run-answer.ensures.verdict bytes h None tt) none (λ calls t. t)
     c.put_trail.ensures.answer (rw c.trail.ensures at c.put_trail.ensures.text))
     (let j = c.run-answer.ensures.some in (
       j.0,
-      checked {s' = c.run-answer.new.sink} (λ s. s.trail) _ _ (j.4 (λ k. no_frame)) none (λ calls t. t) c.put_trail.ensures.answer
+      checked {s' = c.run-answer.new.sink} (λ s. s.trail) _ _ (j.4 None tt) none (λ calls t. t) c.put_trail.ensures.answer
           (rw c.trail.ensures at c.put_trail.ensures.text),
     ))
 

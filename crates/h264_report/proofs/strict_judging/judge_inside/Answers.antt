@@ -8,7 +8,7 @@ returns-clause-same_reference g c =
     c.finish-lent.ensures.name ∙ took.2
 
 pub returns-clause-verdict : goal.returns-clause-verdict
-returns-clause-verdict g c bytes known frames = c.run-answer.ensures.verdict bytes (ap g.R.Source.left c.new-inside.ensures.source ∙ known) frames
+returns-clause-verdict g c bytes known = c.run-answer.ensures.verdict bytes (ap g.R.Source.left c.new-inside.ensures.source ∙ known)
 
 pub returns-clause-units : goal.returns-clause-units
 returns-clause-units g c =

@@ -1,4 +1,4 @@
-use Rattle.std.proofs.Common.{[], ◌++◌, refl, sym, if◌then◌else◌}
+use Rattle.std.proofs.Common.{[], ◌++◌, sym, if◌then◌else◌}
 use Rattle.std.proofs.lemmas.Result.{err_from_is_err_and}
 use Rattle.h264_verify.specs.Telling.{took_with}
 use Rattle.h264_verify.specs.Steps.{needs}
@@ -6,6 +6,7 @@ use Rattle.h264_verify.specs.Order.{closing_demands}
 use Rattle.h264_verify.specs.Order.{whole_steps}
 use Rattle.h264_verify.specs.Buffering.{closing_frames}
 use Rattle.h264_verify.specs.Keeping.{close_steps}
+use Rattle.h264_verify.proofs.AgreeingUnits.{agree-none}
 use Rattle.h264_verify.proofs.Slicing.{refused, err-named}
 use Rattle.h264_verify.proofs.Stepping.{steps-err, closing-stop, closing-then}
 use Rattle.h264_verify.proofs.Playing.{plays-as}
@@ -15,19 +16,19 @@ use Rattle.h264_base.proofs.Plain.{on-ok}
 pub end_frame_if-requires-clause-kept : goal.end_frame_if-requires-clause-kept
 end_frame_if-requires-clause-kept g c =
     let k = c.requires.kept in
-    record { mode = k.mode; frames = k.frames; before = k.before; slices_are = c.in_ok-end_if.ensures.ended k.before k.slices_are; keeps = k.keeps }
+    record { depth = k.depth; frames = k.frames; before = k.before; slices_are = c.in_ok-end_if.ensures.ended k.before k.slices_are; keeps = k.keeps }
 
 pub returns-in_err-end_data_if-clause-closes : goal.returns-in_err-end_data_if-clause-closes
 returns-in_err-end_data_if-clause-closes g c =
     let p = err_from_is_err_and c.from_residual.result c.from_residual.ensures.1 in
-    rw (p.1, p.2) (λ mode frames before k d.
-    let whole = c.in_err-end_data_if.ensures.judged mode frames before k d in
+    rw (p.1, p.2) (λ depth frames before k d.
+    let whole = c.in_err-end_data_if.ensures.judged depth frames before k d in
     record {
       made = frames;
-      same = λ n h. refl;
-      plays = refused (took_with frames g.S.Elements.took) g.S.Elements.failures (close_steps mode c.args.ends before) _ _
-          (steps-err (if c.args.ends then whole_steps mode before else [])
-          (needs (if c.args.ends then closing_demands before else []) ++ (if c.args.ends then closing_frames mode before else [])) _ whole)
+      same = agree-none _ frames;
+      plays = refused (took_with frames g.S.Elements.took) g.S.Elements.failures (close_steps depth c.args.ends before) _ _
+          (steps-err (if c.args.ends then whole_steps depth before else [])
+          (needs (if c.args.ends then closing_demands before else []) ++ (if c.args.ends then closing_frames depth before else [])) _ whole)
           c.in_err-end_data_if.ensures.named;
       keeps = tt;
     })
@@ -35,30 +36,30 @@ returns-in_err-end_data_if-clause-closes g c =
 pub returns-in_err-end_if-clause-closes : goal.returns-in_err-end_if-clause-closes
 returns-in_err-end_if-clause-closes g c =
     let p = err_from_is_err_and c.from_residual-in_err-end_if.result c.from_residual-in_err-end_if.ensures.1 in
-    rw (p.1, p.2) (λ mode frames before k d.
-    let whole = c.in_ok-end_data_if.ensures.judged mode frames before k d in
+    rw (p.1, p.2) (λ depth frames before k d.
+    let whole = c.in_ok-end_data_if.ensures.judged depth frames before k d in
     let closed = c.in_err-end_if.ensures.judged before k in
     record {
       made = frames;
-      same = λ n h. refl;
-      plays = refused (took_with frames g.S.Elements.took) g.S.Elements.failures (close_steps mode c.args.ends before) _ _
-          (closing-stop (if c.args.ends then whole_steps mode before else []) (if c.args.ends then closing_demands before else [])
-          (if c.args.ends then closing_frames mode before else []) _ _ whole closed)
+      same = agree-none _ frames;
+      plays = refused (took_with frames g.S.Elements.took) g.S.Elements.failures (close_steps depth c.args.ends before) _ _
+          (closing-stop (if c.args.ends then whole_steps depth before else []) (if c.args.ends then closing_demands before else [])
+          (if c.args.ends then closing_frames depth before else []) _ _ whole closed)
           (err-named (if c.args.ends then closing_demands before else []) _ (sym closed));
       keeps = tt;
     })
 
 pub returns-clause-closes : goal.returns-clause-closes
-returns-clause-closes g c = λ mode frames before k d.
-    let whole = c.in_ok-end_data_if.ensures.judged mode frames before k d in
+returns-clause-closes g c = λ depth frames before k d.
+    let whole = c.in_ok-end_data_if.ensures.judged depth frames before k d in
     let closed = c.in_ok-end_if.ensures.judged before k in
-    let e = c.end_frame_if.ensures.ends mode frames before (c.in_ok-end_if.ensures.ended before k) whole d in
+    let e = c.end_frame_if.ensures.ends depth frames before (c.in_ok-end_if.ensures.ended before k) whole d in
     record {
       made = e.made;
       same = e.same;
       plays = plays-as (took_with e.made g.S.Elements.took) g.S.Elements.failures (λ (x : Unit {0}). x) _ _ _ _ _
-          (closing-then (if c.args.ends then whole_steps mode before else []) (if c.args.ends then closing_demands before else [])
-          (if c.args.ends then closing_frames mode before else []) _ _ whole closed) e.plays;
+          (closing-then (if c.args.ends then whole_steps depth before else []) (if c.args.ends then closing_demands before else [])
+          (if c.args.ends then closing_frames depth before else []) _ _ whole closed) e.plays;
       keeps = e.keeps;
     }
 

@@ -19,18 +19,18 @@ end-requires-clause-kept g c = some-end c.args.slices.now _ _ _ c.in-Some.is c.i
     (some-ended _ c.args.slices.now _ c.if-not-ends.false c.requires.kept)
 
 pub returns-in_default-clause-ends : goal.returns-in_default-clause-ends
-returns-in_default-clause-ends g c = λ mode frames before kept whole k. quiet-ends mode (none-made _ mode _ c.in_default.is k) _ _ frames _ c.in_default.is _
+returns-in_default-clause-ends g c = λ depth frames before kept whole k. quiet-ends depth (none-made _ depth _ c.in_default.is k) _ _ frames _ c.in_default.is _
     (goes_on before) c.args.ends (runs_of before)
 
 pub returns-in-None-clause-ends : goal.returns-in-None-clause-ends
-returns-in-None-clause-ends g c = λ mode frames before kept whole k.
-    let made = some-made _ mode _ _ c.in-Some.is k in
+returns-in-None-clause-ends g c = λ depth frames before kept whole k.
+    let made = some-made _ depth _ _ c.in-Some.is k in
     rw (made.0, c.if-not-ends.false) (none-ends _ _ frames _ _ (goes_on before) (runs_of before) c.args.slices.now.picture c.in-None.is kept.kept.picture
     made.1)
 
 pub returns-in-Some-picture-clause-ends : goal.returns-in-Some-picture-clause-ends
-returns-in-Some-picture-clause-ends g c = rw c.if-not-ends.false (λ mode frames before kept whole k.
-    let made = some-made _ mode _ _ c.in-Some.is k in
+returns-in-Some-picture-clause-ends g c = rw c.if-not-ends.false (λ depth frames before kept whole k.
+    let made = some-made _ depth _ _ c.in-Some.is k in
     let i = is-open (goes_on before) (runs_of before) c.args.slices.now.picture _ c.in-Some-picture.is kept.kept.picture kept.kept.end in
     let all = is-whole (goes_on before) (runs_of before) _ i (rw made.0 at whole) in
     rw made.0 (ends-open _ _ frames _ _ _ _ (goes_on before) (runs_of before) _ i

@@ -11,7 +11,7 @@ use Rattle.h264_verify.proofs.frame_num.fill_frames.Goals as goal
 pub loop-turn-init : goal.loop-turn-init
 loop-turn-init g c = record {
   filled = filled-first c.args.gap.now.numbering c.args.gap.now.count c.args.gap.now.prev_ref_frame_num c.args.held.now;
-  fills = λ mode frames t next k. fills-first mode c.args.gap.now.bit c.args.gap.now.numbering c.args.gap.now.count c.args.gap.now.prev_ref_frame_num
+  fills = λ depth frames t next k. fills-first depth c.args.gap.now.bit c.args.gap.now.numbering c.args.gap.now.count c.args.gap.now.prev_ref_frame_num
       c.args.held.now g.S.Elements.took g.S.Elements.failures frames t next c.args.sink.now c.args.decoder.now k;
   few = c.requires.few;
   places = c.requires.places;
@@ -32,24 +32,24 @@ miss-requires-clause-kept g c = some-gap c.args.gap.now.bit c.args.gap.now.numbe
     g.S.Elements.took g.S.Elements.failures c.args.sink.now _ _ _ _ c.args.decoder.now c.loop-turn.decoder c.requires.kept c.loop-turn.invariant.fills
 
 pub returns-then-may_skip-clause-plays : goal.returns-then-may_skip-clause-plays
-returns-then-may_skip-clause-plays g c = λ mode frames t next k.
-    let f = c.loop-turn.invariant.fills mode frames t next k in
-    let still = c.may_skip.ensures.frames c.if-may_skip.true mode frames f.turn next f.keeps in
-    let all = fills-skipped mode c.args.gap.now.bit c.args.gap.now.numbering c.args.gap.now.count c.args.gap.now.prev_ref_frame_num c.args.held.now
+returns-then-may_skip-clause-plays g c = λ depth frames t next k.
+    let f = c.loop-turn.invariant.fills depth frames t next k in
+    let still = c.may_skip.ensures.frames c.if-may_skip.true depth frames f.turn next f.keeps in
+    let all = fills-skipped depth c.args.gap.now.bit c.args.gap.now.numbering c.args.gap.now.count c.args.gap.now.prev_ref_frame_num c.args.held.now
     g.S.Elements.took g.S.Elements.failures frames t next c.args.sink.now _ c.loop-turn.last c.number_after.result c.loop-turn.held c.skip.new.self
     c.loop-turn.sink c.loop-turn.decoder (c.may_skip.ensures.held c.if-may_skip.true) f still in
-    fills-last mode c.args.gap.now.bit c.args.gap.now.numbering c.args.gap.now.count c.args.gap.now.prev_ref_frame_num c.args.held.now g.S.Elements.took
+    fills-last depth c.args.gap.now.bit c.args.gap.now.numbering c.args.gap.now.count c.args.gap.now.prev_ref_frame_num c.args.held.now g.S.Elements.took
     g.S.Elements.failures frames t next c.args.sink.now c.number_after.result c.skip.new.self c.loop-turn.sink c.loop-turn.decoder all
     c.loop-turn.invariant.kept
 
 pub returns-then-may_skip-clause-keeps : goal.returns-then-may_skip-clause-keeps
-returns-then-may_skip-clause-keeps g c = λ mode frames t next k.
-    let f = c.loop-turn.invariant.fills mode frames t next k in
-    let still = c.may_skip.ensures.frames c.if-may_skip.true mode frames f.turn next f.keeps in
-    let all = fills-skipped mode c.args.gap.now.bit c.args.gap.now.numbering c.args.gap.now.count c.args.gap.now.prev_ref_frame_num c.args.held.now
+returns-then-may_skip-clause-keeps g c = λ depth frames t next k.
+    let f = c.loop-turn.invariant.fills depth frames t next k in
+    let still = c.may_skip.ensures.frames c.if-may_skip.true depth frames f.turn next f.keeps in
+    let all = fills-skipped depth c.args.gap.now.bit c.args.gap.now.numbering c.args.gap.now.count c.args.gap.now.prev_ref_frame_num c.args.held.now
     g.S.Elements.took g.S.Elements.failures frames t next c.args.sink.now _ c.loop-turn.last c.number_after.result c.loop-turn.held c.skip.new.self
     c.loop-turn.sink c.loop-turn.decoder (c.may_skip.ensures.held c.if-may_skip.true) f still in
-    fills-kept mode c.args.gap.now.bit c.args.gap.now.numbering c.args.gap.now.count c.args.gap.now.prev_ref_frame_num c.args.held.now g.S.Elements.took
+    fills-kept depth c.args.gap.now.bit c.args.gap.now.numbering c.args.gap.now.count c.args.gap.now.prev_ref_frame_num c.args.held.now g.S.Elements.took
     g.S.Elements.failures frames t next c.args.sink.now c.number_after.result c.skip.new.self c.loop-turn.sink c.loop-turn.decoder all
 
 pub returns-then-may_skip-clause-last : goal.returns-then-may_skip-clause-last
@@ -67,11 +67,11 @@ returns-in_err-fill_gap-clause-plays g c =
     let p = err_from_is_err_and c.from_residual.result c.from_residual.ensures.1 in
     let answer = rw c.number_after-in-loop-turn.ensures at c.in_err-fill_gap.ensures.answer in
     let none = filled-none _ _ _ answer in
-    rw (p.1, p.2) (λ mode frames t next k.
-    let f = fills-more mode c.args.gap.now.bit c.args.gap.now.numbering c.args.gap.now.count c.args.gap.now.prev_ref_frame_num c.args.held.now
+    rw (p.1, p.2) (λ depth frames t next k.
+    let f = fills-more depth c.args.gap.now.bit c.args.gap.now.numbering c.args.gap.now.count c.args.gap.now.prev_ref_frame_num c.args.held.now
     g.S.Elements.took g.S.Elements.failures frames t next c.args.sink.now c.loop-turn.turn c.loop-turn.last c.loop-turn.held c.loop-turn.sink
-    c.loop-turn.decoder c.loop-turn-test.true (c.loop-turn.invariant.fills mode frames t next k) in
-    fills-refused mode c.args.gap.now.bit c.args.gap.now.numbering c.args.gap.now.count c.args.gap.now.prev_ref_frame_num c.args.held.now g.S.Elements.took
+    c.loop-turn.decoder c.loop-turn-test.true (c.loop-turn.invariant.fills depth frames t next k) in
+    fills-refused depth c.args.gap.now.bit c.args.gap.now.numbering c.args.gap.now.count c.args.gap.now.prev_ref_frame_num c.args.held.now g.S.Elements.took
     g.S.Elements.failures frames t next c.args.sink.now _ c.loop-turn.last c.loop-turn.held c.loop-turn.sink c.loop-turn.decoder f
     c.loop-turn.invariant.kept (λ _. tt) _ none.0 none.1)
 
@@ -80,14 +80,14 @@ returns-in_err-miss-clause-plays g c =
     let p = err_from_is_err_and c.from_residual-in_err-miss.result c.from_residual-in_err-miss.ensures.1 in
     let answer = rw c.number_after-in-loop-turn.ensures at c.in_ok-fill_gap.ensures.answer in
     let held = rw c.number_after-in-loop-turn.ensures at c.in_ok-fill_gap.ensures.held in
-    rw (p.1, p.2) (λ mode frames t next k.
-    let f = fills-more mode c.args.gap.now.bit c.args.gap.now.numbering c.args.gap.now.count c.args.gap.now.prev_ref_frame_num c.args.held.now
+    rw (p.1, p.2) (λ depth frames t next k.
+    let f = fills-more depth c.args.gap.now.bit c.args.gap.now.numbering c.args.gap.now.count c.args.gap.now.prev_ref_frame_num c.args.held.now
     g.S.Elements.took g.S.Elements.failures frames t next c.args.sink.now c.loop-turn.turn c.loop-turn.last c.loop-turn.held c.loop-turn.sink
-    c.loop-turn.decoder c.loop-turn-test.true (c.loop-turn.invariant.fills mode frames t next k) in
-    fills-stopped mode c.args.gap.now.bit c.args.gap.now.numbering c.args.gap.now.count c.args.gap.now.prev_ref_frame_num c.args.held.now g.S.Elements.took
+    c.loop-turn.decoder c.loop-turn-test.true (c.loop-turn.invariant.fills depth frames t next k) in
+    fills-stopped depth c.args.gap.now.bit c.args.gap.now.numbering c.args.gap.now.count c.args.gap.now.prev_ref_frame_num c.args.held.now g.S.Elements.took
     g.S.Elements.failures frames t next c.args.sink.now _ c.loop-turn.last c.loop-turn.held c.loop-turn.sink c.loop-turn.decoder f
     c.loop-turn.invariant.kept c.fill_gap.new.self (filled-some _ _ _ _ _ answer held) (λ _. tt) c.miss.new.sink _
-    (c.in_err-miss.ensures.plays mode frames f.turn next f.keeps))
+    (c.in_err-miss.ensures.plays depth frames f.turn next f.keeps))
 
 pub loop-turn-preserved : goal.loop-turn-preserved
 loop-turn-preserved g c =
@@ -96,14 +96,14 @@ loop-turn-preserved g c =
     rw c.number_after-in-loop-turn.ensures (record {
       filled = filled-next c.args.gap.now.numbering c.args.gap.now.count c.args.gap.now.prev_ref_frame_num c.args.held.now c.loop-turn.turn c.loop-turn.last
           c.loop-turn.held c.fill_gap.new.self _ c.args.gap.now.bit c.loop-turn.invariant.filled c.loop-turn-test.true answer held;
-      fills = λ mode frames t next k.
-          let f = fills-more mode c.args.gap.now.bit c.args.gap.now.numbering c.args.gap.now.count c.args.gap.now.prev_ref_frame_num c.args.held.now
+      fills = λ depth frames t next k.
+          let f = fills-more depth c.args.gap.now.bit c.args.gap.now.numbering c.args.gap.now.count c.args.gap.now.prev_ref_frame_num c.args.held.now
           g.S.Elements.took g.S.Elements.failures frames t next c.args.sink.now c.loop-turn.turn c.loop-turn.last c.loop-turn.held c.loop-turn.sink
-          c.loop-turn.decoder c.loop-turn-test.true (c.loop-turn.invariant.fills mode frames t next k) in
-          fills-next mode c.args.gap.now.bit c.args.gap.now.numbering c.args.gap.now.count c.args.gap.now.prev_ref_frame_num c.args.held.now g.S.Elements.took
+          c.loop-turn.decoder c.loop-turn-test.true (c.loop-turn.invariant.fills depth frames t next k) in
+          fills-next depth c.args.gap.now.bit c.args.gap.now.numbering c.args.gap.now.count c.args.gap.now.prev_ref_frame_num c.args.held.now g.S.Elements.took
           g.S.Elements.failures frames t next c.args.sink.now _ c.loop-turn.last c.loop-turn.held c.loop-turn.sink c.loop-turn.decoder f
           c.loop-turn.invariant.kept c.fill_gap.new.self (filled-some _ _ _ _ _ answer held) c.miss.new.sink c.miss.new.decoder _
-          (c.in_ok-miss.ensures.plays mode frames f.turn next f.keeps) (c.in_ok-miss.ensures.keeps mode frames f.turn next f.keeps);
+          (c.in_ok-miss.ensures.plays depth frames f.turn next f.keeps) (c.in_ok-miss.ensures.keeps depth frames f.turn next f.keeps);
       few = λ some. c.in_ok-fill_gap.ensures.bounded (c.loop-turn.invariant.few some);
       places = λ some. c.in_ok-miss.ensures.sized _ (c.loop-turn.invariant.places some);
       format = c.in_ok-miss.ensures.format ∙ c.loop-turn.invariant.format;
@@ -113,22 +113,22 @@ loop-turn-preserved g c =
 pub returns-clause-plays : goal.returns-clause-plays
 returns-clause-plays g c =
     let e : c.loop-turn.turn ≡ c.args.gap.now.count = search rules in
-    λ mode frames t next k.
-    let f = fills-whole mode c.args.gap.now.bit c.args.gap.now.numbering c.args.gap.now.count c.args.gap.now.prev_ref_frame_num c.args.held.now
+    λ depth frames t next k.
+    let f = fills-whole depth c.args.gap.now.bit c.args.gap.now.numbering c.args.gap.now.count c.args.gap.now.prev_ref_frame_num c.args.held.now
     g.S.Elements.took g.S.Elements.failures frames t next c.args.sink.now c.loop-turn.turn c.loop-turn.last c.loop-turn.held c.loop-turn.sink
-    c.loop-turn.decoder e (c.loop-turn.invariant.fills mode frames t next k) in
-    fills-last mode c.args.gap.now.bit c.args.gap.now.numbering c.args.gap.now.count c.args.gap.now.prev_ref_frame_num c.args.held.now g.S.Elements.took
+    c.loop-turn.decoder e (c.loop-turn.invariant.fills depth frames t next k) in
+    fills-last depth c.args.gap.now.bit c.args.gap.now.numbering c.args.gap.now.count c.args.gap.now.prev_ref_frame_num c.args.held.now g.S.Elements.took
     g.S.Elements.failures frames t next c.args.sink.now c.loop-turn.last c.loop-turn.held c.loop-turn.sink c.loop-turn.decoder f
     c.loop-turn.invariant.kept
 
 pub returns-clause-keeps : goal.returns-clause-keeps
 returns-clause-keeps g c =
     let e : c.loop-turn.turn ≡ c.args.gap.now.count = search rules in
-    λ mode frames t next k.
-    let f = fills-whole mode c.args.gap.now.bit c.args.gap.now.numbering c.args.gap.now.count c.args.gap.now.prev_ref_frame_num c.args.held.now
+    λ depth frames t next k.
+    let f = fills-whole depth c.args.gap.now.bit c.args.gap.now.numbering c.args.gap.now.count c.args.gap.now.prev_ref_frame_num c.args.held.now
     g.S.Elements.took g.S.Elements.failures frames t next c.args.sink.now c.loop-turn.turn c.loop-turn.last c.loop-turn.held c.loop-turn.sink
-    c.loop-turn.decoder e (c.loop-turn.invariant.fills mode frames t next k) in
-    fills-kept mode c.args.gap.now.bit c.args.gap.now.numbering c.args.gap.now.count c.args.gap.now.prev_ref_frame_num c.args.held.now g.S.Elements.took
+    c.loop-turn.decoder e (c.loop-turn.invariant.fills depth frames t next k) in
+    fills-kept depth c.args.gap.now.bit c.args.gap.now.numbering c.args.gap.now.count c.args.gap.now.prev_ref_frame_num c.args.held.now g.S.Elements.took
     g.S.Elements.failures frames t next c.args.sink.now c.loop-turn.last c.loop-turn.held c.loop-turn.sink c.loop-turn.decoder f
 
 pub returns-clause-last : goal.returns-clause-last

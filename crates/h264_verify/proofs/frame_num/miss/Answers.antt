@@ -15,21 +15,21 @@ pub miss-requires-clause-kept : goal.miss-requires-clause-kept
 miss-requires-clause-kept g c = some-filled _ _ c.in-Some.is c.requires.kept
 
 pub returns-in-None-clause-plays : goal.returns-in-None-clause-plays
-returns-in-None-clause-plays g c = λ mode frames t next k. rw (quiet-told mode _ (none-made _ mode _ c.in-None.is k))
+returns-in-None-clause-plays g c = λ depth frames t next k. rw (quiet-told depth _ (none-made _ depth _ c.in-None.is k))
     (gives-plays _ _ (λ (x : Unit {0}). x) tt _)
 
 pub returns-in-None-clause-keeps : goal.returns-in-None-clause-keeps
-returns-in-None-clause-keeps g c = λ mode frames t next k. quiet-made _ mode _ c.in-None.is (none-made _ mode _ c.in-None.is k)
+returns-in-None-clause-keeps g c = λ depth frames t next k. quiet-made _ depth _ c.in-None.is (none-made _ depth _ c.in-None.is k)
 
 pub returns-in-Some-clause-plays : goal.returns-in-Some-clause-plays
-returns-in-Some-clause-plays g c = λ mode frames t next k.
-    let made = some-made _ mode _ _ c.in-Some.is k in
+returns-in-Some-clause-plays g c = λ depth frames t next k.
+    let made = some-made _ depth _ _ c.in-Some.is k in
     rw made.0 (c.miss.ensures.plays frames t next made.1)
 
 pub returns-in-Some-clause-keeps : goal.returns-in-Some-clause-keeps
-returns-in-Some-clause-keeps g c = λ mode frames t next k.
-    let made = some-made _ mode _ _ c.in-Some.is k in
-    where-ok c.miss.result (full-made _ mode _ made.0) (c.miss.ensures.keeps frames t next made.1)
+returns-in-Some-clause-keeps g c = λ depth frames t next k.
+    let made = some-made _ depth _ _ c.in-Some.is k in
+    where-ok c.miss.result (full-made _ depth _ made.0) (c.miss.ensures.keeps frames t next made.1)
 
 -- as many places are there
 as-many : (n : ℕ) (o : Option Decoder) (d new : Decoder) → o ≡ Some d → size_of new.output ≡ size_of d.output → HasPlaces n o → n ≤ size_of new.output

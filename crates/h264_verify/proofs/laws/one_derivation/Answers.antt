@@ -3,6 +3,6 @@ use Rattle.h264_verify.proofs.laws.one_derivation.Goals as goal
 
 pub returns : goal.returns
 returns c = record {
-  whole = λ terms bytes told others summary other h k. one-whole terms bytes told others summary other h k;
-  stop = λ terms bytes told others stop other h k. one-stop terms bytes told others stop other h k;
+  whole = λ extent bytes told others summary other h k. one-whole extent bytes told others summary other h k;
+  stop = λ extent bytes told others stop other h k. one-stop extent bytes told others stop other h k;
 }

@@ -2,4 +2,4 @@ use Rattle.h264_verify.proofs.Verdicts.{some-verdict}
 use Rattle.h264_verify.proofs.laws.some_verdict.Goals as goal
 
 pub returns : goal.returns
-returns c = λ terms bytes. let v = some-verdict terms bytes in (v.calls, v.answer, v.verdict)
+returns c = λ extent bytes. let v = some-verdict extent bytes in (v.calls, v.answer, v.verdict)

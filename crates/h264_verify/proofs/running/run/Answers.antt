@@ -1,7 +1,8 @@
 use Rattle.std.proofs.Common.{◌≡◌, ℕ, ◌⊎◌, inl, inr, Result, Ok, Err, refl, sym, ap, ◌∙◌, ◌+◌, [], true, false, OnOk, Some}
 use Rattle.h264_base.specs.declared.stop.Stop.{Stop}
 use Rattle.h264_base.specs.declared.stop.Stop.TheVariants.{Memory, Read, Write}
-use Rattle.h264_plane.specs.Frames.{no_frame}
+use Rattle.h264_verify.specs.Modes.{purpose_for}
+use Rattle.h264_verify.proofs.Purposes.{some-family, some-family-for}
 use Rattle.h264_verify.proofs.Lacking.{same-stop}
 use Rattle.h264_verify.proofs.Finishing.{told-as, told-after}
 use Rattle.h264_verify.proofs.Handing.{gives-none}
@@ -15,8 +16,8 @@ on-any (Err stop) p = tt
 
 pub returns-in-Err-clause-verdict : goal.returns-in-Err-clause-verdict
 returns-in-Err-clause-verdict g c = rw c.in-Err.ensures.err
-    (λ bytes h frames. judges-judged (terms_of c.args.mode c.args.target) _ _ bytes frames _ _ _
-    (none-judged (terms_of c.args.mode c.args.target) _ _ bytes frames _))
+    (λ bytes h frames x. judges-judged (terms_of c.args.mode c.args.target) _ _ bytes frames _ _ _
+    (none-judged (terms_of c.args.mode c.args.target) _ _ bytes frames _ x))
 
 pub returns-in-Err-clause-some : goal.returns-in-Err-clause-some
 returns-in-Err-clause-some g c = rw c.in-Err.ensures.err (
@@ -24,43 +25,45 @@ returns-in-Err-clause-some g c = rw c.in-Err.ensures.err (
   false,
   gives-none g.R.Source.left g.R.Source.gave g.R.Source.failures _,
   tt,
-  λ frames. judges-judged (terms_of c.args.mode c.args.target) _ _ [] frames _ _ _ (none-judged (terms_of c.args.mode c.args.target) _ _ [] frames _),
+  λ frames x. judges-judged (terms_of c.args.mode c.args.target) _ _ [] frames _ _ _ (none-judged (terms_of c.args.mode c.args.target) _ _ [] frames _ x),
 )
 
 pub returns-in-Err-read_all-clause-verdict : goal.returns-in-Err-read_all-clause-verdict
 returns-in-Err-read_all-clause-verdict g c =
-    λ bytes h frames. judges-judged (terms_of c.args.mode c.args.target) _ _ bytes frames _ _ _
+    λ bytes h frames x. judges-judged (terms_of c.args.mode c.args.target) _ _ bytes frames _ _ _
     (c.in-Err-read_all.ensures.stops (terms_of c.args.mode c.args.target) bytes _
-    (fed-first (terms_of c.args.mode c.args.target) _ _ bytes _ frames _ c.in-Ok.ensures.fresh h) refl)
+    (fed-first (terms_of c.args.mode c.args.target) _ _ bytes _ frames _ c.in-Ok.ensures.fresh x h) refl)
 
 pub returns-in-Err-read_all-clause-some : goal.returns-in-Err-read_all-clause-some
 returns-in-Err-read_all-clause-some g c =
     let s = c.in-Err-read_all.ensures.heard_stop in
     let j = s.2 (terms_of c.args.mode c.args.target) [] _
-    (fed-first (terms_of c.args.mode c.args.target) _ _ [] _ (λ k. no_frame) _ c.in-Ok.ensures.fresh refl) refl in
-    (s.0, false, s.1, tt, λ frames. judges-judged (terms_of c.args.mode c.args.target) _ _ s.0 frames _ _ _ j)
+    (fed-first (terms_of c.args.mode c.args.target) _ _ [] _ (some-family (purpose_for c.args.mode)) _ c.in-Ok.ensures.fresh
+    (some-family-for (purpose_for c.args.mode)) refl) refl in
+    (s.0, false, s.1, tt, λ frames x. judges-judged (terms_of c.args.mode c.args.target) _ _ s.0 frames _ _ _ j)
 
 pub returns-in-Ok-read_all-clause-read : goal.returns-in-Ok-read_all-clause-read
 returns-in-Ok-read_all-clause-read g c = λ h. absurd (c.conclude.ensures.no_read h)
 
 pub returns-in-Ok-read_all-clause-verdict : goal.returns-in-Ok-read_all-clause-verdict
-returns-in-Ok-read_all-clause-verdict g c = λ bytes h frames.
+returns-in-Ok-read_all-clause-verdict g c = λ bytes h frames x.
     judges-judged (terms_of c.args.mode c.args.target) _ _ bytes frames _ _ _
     (fed-last (terms_of c.args.mode c.args.target) _ _ (Some []) bytes _ _ _ _ _ _ _ refl refl (λ left same. cc)
     (c.in-Ok-read_all.ensures.fed (terms_of c.args.mode c.args.target) bytes _
-    (fed-first (terms_of c.args.mode c.args.target) _ _ bytes _ frames _ c.in-Ok.ensures.fresh h)) c.in-Ok-read_all.ensures.kept.1
+    (fed-first (terms_of c.args.mode c.args.target) _ _ bytes _ frames _ c.in-Ok.ensures.fresh x h)) c.in-Ok-read_all.ensures.kept.1
     c.conclude.ensures.finishes)
 
 pub returns-in-Ok-read_all-clause-some : goal.returns-in-Ok-read_all-clause-some
 returns-in-Ok-read_all-clause-some g c =
     let s = c.in-Ok-read_all.ensures.heard in
     let f = s.2 (terms_of c.args.mode c.args.target) [] _
-    (fed-first (terms_of c.args.mode c.args.target) _ _ [] _ (λ k. no_frame) _ c.in-Ok.ensures.fresh refl) in (
+    (fed-first (terms_of c.args.mode c.args.target) _ _ [] _ (some-family (purpose_for c.args.mode)) _ c.in-Ok.ensures.fresh
+    (some-family-for (purpose_for c.args.mode)) refl) in (
       s.0,
       true,
       s.1,
       on-any _ refl,
-      λ frames. judges-judged (terms_of c.args.mode c.args.target) _ _ s.0 frames _ _ _
+      λ frames x. judges-judged (terms_of c.args.mode c.args.target) _ _ s.0 frames _ _ _
           (fed-last (terms_of c.args.mode c.args.target) _ _ (Some []) s.0 _ _ _ _ _ _ _ refl refl (λ left same. cc) f c.in-Ok-read_all.ensures.kept.1
           c.conclude.ensures.finishes),
     )

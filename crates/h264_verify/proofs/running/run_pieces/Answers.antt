@@ -2,36 +2,37 @@ use Rattle.std.proofs.Common.{sym, ap, arith, refl, ◌∙◌, ◌≡◌, ◌+�
 use Rattle.h264_verify.proofs.Playing.{err-as}
 use Rattle.h264_verify.proofs.Finishing.{told-as, told-after}
 use Rattle.h264_verify.proofs.Sources.{pieces-split-at}
-use Rattle.h264_verify.proofs.Verdicts.{judges-judged, none-judged, pieces-first, pieces-on, pieces-halt, pieces-end, keeps-as, goes-as, stops-as, finishes-as}
+use Rattle.h264_verify.proofs.Verdicts.{family-as, judges-judged, none-judged, pieces-first, pieces-on}
+use Rattle.h264_verify.proofs.Verdicts.{pieces-halt, pieces-end, keeps-as, goes-as, stops-as, finishes-as}
 use Rattle.h264_verify.specs.Units.{terms_of}
 use Rattle.h264_verify.proofs.running.run_pieces.Goals as goal
 
 pub returns-in-Err-clause-verdict : goal.returns-in-Err-clause-verdict
 returns-in-Err-clause-verdict g c = rw c.in-Err.ensures.err
-    (λ frames. judges-judged (terms_of c.args.mode c.args.target) _ _ _ frames _ _ _ (none-judged (terms_of c.args.mode c.args.target) _ _ _ frames _))
+    (λ frames x. judges-judged (terms_of c.args.mode c.args.target) _ _ _ frames _ _ _ (none-judged (terms_of c.args.mode c.args.target) _ _ _ frames _ x))
 
 pub loop-piece-init : goal.loop-piece-init
 loop-piece-init g c = record {
-  goes = λ frames. goes-as (sym c.in-Ok.ensures.fresh.terms_is)
-      (pieces-first (terms_of c.args.mode c.args.target) _ _ frames _ c.in-Ok.ensures.fresh);
+  goes = λ frames x. goes-as (sym c.in-Ok.ensures.fresh.terms_is)
+      (pieces-first (terms_of c.args.mode c.args.target) _ _ frames _ c.in-Ok.ensures.fresh (family-as frames c.in-Ok.ensures.fresh.terms_is x));
   runs = c.in-Ok.ensures.fresh.stop;
   terms_is = refl;
   kept = refl;
 }
 
 pub returns-in-Err-advance-clause-verdict : goal.returns-in-Err-advance-clause-verdict
-returns-in-Err-advance-clause-verdict g c = λ frames.
-    let inv = goes-as c.in-Ok.ensures.fresh.terms_is (c.loop-piece.invariant.goes frames) in
+returns-in-Err-advance-clause-verdict g c = λ frames x.
+    let inv = goes-as c.in-Ok.ensures.fresh.terms_is (c.loop-piece.invariant.goes frames (family-as frames (sym c.in-Ok.ensures.fresh.terms_is) x)) in
     let m = c.loop-piece.invariant.terms_is ∙ c.in-Ok.ensures.fresh.terms_is in
     judges-judged (terms_of c.args.mode c.args.target) _ _ _ frames _ _ _
     (pieces-halt _ _ _ _ (pieces-split-at (λ piece. piece.items) c.args.pieces.now c.loop-piece.piece-index c.piece-item.result _ c.loop-piece-test.true
-    c.piece-item.is c.as_slice.ensures.value) inv c.loop-piece.invariant.kept
+    c.piece-item.is c.as_slice.ensures.value) inv c.loop-piece.invariant.kept x
     (stops-as m (c.in-Err-advance.ensures.stops inv.made inv.after (keeps-as (sym m) inv.keeps))))
 
 pub loop-piece-preserved : goal.loop-piece-preserved
 loop-piece-preserved g c = record {
-  goes = λ frames.
-      let inv = c.loop-piece.invariant.goes frames in
+  goes = λ frames x.
+      let inv = c.loop-piece.invariant.goes frames x in
       let n = goes-as c.loop-piece.invariant.terms_is
       (c.in-Ok-advance.ensures.goes inv.made inv.after (keeps-as (sym c.loop-piece.invariant.terms_is) inv.keeps)) in
       pieces-on (λ piece. piece.items) c.args.pieces.now c.loop-piece.piece-index c.piece-item.result _ c.loop-piece-test.true c.piece-item.is
@@ -42,12 +43,12 @@ loop-piece-preserved g c = record {
 }
 
 pub returns-clause-verdict : goal.returns-clause-verdict
-returns-clause-verdict g c = λ frames.
-    let inv = goes-as c.in-Ok.ensures.fresh.terms_is (c.loop-piece.invariant.goes frames) in
+returns-clause-verdict g c = λ frames x.
+    let inv = goes-as c.in-Ok.ensures.fresh.terms_is (c.loop-piece.invariant.goes frames (family-as frames (sym c.in-Ok.ensures.fresh.terms_is) x)) in
     let m = c.loop-piece.invariant.terms_is ∙ c.in-Ok.ensures.fresh.terms_is in
     let n : c.loop-piece.piece-index ≡ length c.args.pieces.now = omega arith in
     judges-judged (terms_of c.args.mode c.args.target) _ _ _ frames _ _ _
-    (pieces-end (λ piece. piece.items) c.args.pieces.now c.loop-piece.piece-index n inv c.loop-piece.invariant.kept
+    (pieces-end (λ piece. piece.items) c.args.pieces.now c.loop-piece.piece-index n inv c.loop-piece.invariant.kept x
     (finishes-as m (c.conclude.ensures.finishes inv.made inv.after (keeps-as (sym m) inv.keeps))))
 
 pub returns-in-Err-advance-clause-no_read : goal.returns-in-Err-advance-clause-no_read

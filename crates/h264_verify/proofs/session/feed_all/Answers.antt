@@ -9,7 +9,7 @@ none-more rest e h = let f : (length rest == 0) ≡ true = ap (λ (l : List ℕ)
 
 pub loop-rest-init : goal.loop-rest-init
 loop-rest-init g c = record {
-  goes = λ frames before k. on-none c.args.terms _ frames _ before _ _ _ k;
+  goes = λ frames before k. on-none c.args.extent _ frames _ before _ _ _ k;
   undecided = λ u. u;
   runs = c.requires.runs;
   counted = c.requires.counted;

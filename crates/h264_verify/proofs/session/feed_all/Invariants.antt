@@ -1,8 +1,7 @@
 use Rattle.h264_units.specs.Stream.{IsUndecided}
-use Rattle.std.proofs.Common.{◌≡◌, ◌≤◌, ℕ, IsFalse, None, [], length}
-use Rattle.h264_plane.specs.declared.frame.Frame.{Frame}
+use Rattle.std.proofs.Common.{◌≡◌, ◌≤◌, IsFalse, None, [], length}
 use Rattle.h264_verify.specs.Session.{stretch, standing}
-use Rattle.h264_verify.specs.Telling.{frame_span}
+use Rattle.h264_verify.specs.Telling.{frame_span, Family}
 use Rattle.h264_verify.specs.History.{History}
 use Rattle.h264_verify.specs.KeepingUnits.{Keeps}
 use Rattle.h264_verify.specs.Feeding.{standing_after, GoesOn}
@@ -10,8 +9,8 @@ use Rattle.h264_verify.proofs.session.feed_all.Given as goal
 
 abbrev pub invariant-loop-rest : goal.invariant-loop-rest
 invariant-loop-rest g l = record {
-  goes : (frames : ℕ → Frame) (before : History) → Keeps l.terms.mode frames before l.initial.state →
-      GoesOn l.terms (frame_span g.S.Elements.took g.S.Elements.failures frames l.initial.sink l.sink)
+  goes : (frames : Family) (before : History) → Keeps l.extent.depth frames before l.initial.state →
+      GoesOn l.extent (frame_span g.S.Elements.took g.S.Elements.failures frames l.initial.sink l.sink)
       (stretch (standing_after l.initial.splitter before) (standing l.splitter l.state) l.piece l.rest);
   undecided : IsUndecided l.initial.splitter.rest → IsUndecided l.splitter.rest;
   runs : (l.splitter.stop ≡ None) × IsFalse l.splitter.waiting × IsFalse l.splitter.ended;

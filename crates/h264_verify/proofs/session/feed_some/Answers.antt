@@ -1,7 +1,8 @@
 use Rattle.std.proofs.Common.{Err, refl, ap, ◌∙◌}
 use Rattle.std.proofs.lemmas.Result.{err_from_is_err_and}
 use Rattle.h264_verify.specs.Judging.{judging}
-use Rattle.h264_verify.proofs.Familiar.{agree-none, on-push, on-unit, on-bytes}
+use Rattle.h264_verify.proofs.AgreeingUnits.{agree-none}
+use Rattle.h264_verify.proofs.Familiar.{on-push, on-unit, on-bytes}
 use Rattle.h264_verify.proofs.Feeding.{stops-push, goes-push, stops-unit, stops-after}
 use Rattle.h264_verify.proofs.session.feed_some.Goals as goal
 
@@ -19,12 +20,12 @@ returns-in_err-n g c =
       stops = λ frames before k. record {
         made = frames;
         same = agree-none _ frames;
-        stops = stops-push (judging c.args.terms) _ _ _ _ _ _ _ _ (c.in_err-n.ensures.err c.requires.runs.0);
+        stops = stops-push (judging c.args.extent) _ _ _ _ _ _ _ _ (c.in_err-n.ensures.err c.requires.runs.0);
       };
     })
 
 pub returns-in-None-clause-goes : goal.returns-in-None-clause-goes
-returns-in-None-clause-goes g c = λ frames before k. on-push c.args.terms _ frames before _ _ c.in_ok-n.ensures.ok c.in-None.ensures.none k
+returns-in-None-clause-goes g c = λ frames before k. on-push c.args.extent _ frames before _ _ c.in_ok-n.ensures.ok c.in-None.ensures.none k
 
 pub returns-in_err-bytes-in-Some : goal.returns-in_err-bytes-in-Some
 returns-in_err-bytes-in-Some g c =
@@ -37,7 +38,7 @@ returns-in_err-bytes-in-Some g c =
       pictures = tt;
       undecided = tt;
       kept = tt;
-      stops = λ frames before k. on-bytes c.args.terms _ _ frames _ _ _ _ c.in_err-bytes-in-Some.ensures.err.0;
+      stops = λ frames before k. on-bytes c.args.extent _ _ frames _ _ _ _ c.in_err-bytes-in-Some.ensures.err.0;
     })
 
 pub returns-in_err-judge_next-in-Some : goal.returns-in_err-judge_next-in-Some
@@ -56,8 +57,8 @@ returns-in_err-judge_next-in-Some g c =
             made = t.made;
             same = t.same;
             stops =
-                stops-after (judging c.args.terms) _ _ _ _ _ _ _ _ _ _ (goes-push (judging c.args.terms) _ _ _ _ _ _ _ c.in_ok-n.ensures.ok) refl
-                (stops-unit (judging c.args.terms) _ _ (λ x. t.after) _ c.take_unit.new.self _ _ _ _ _ _ c.in-Some.ensures.some
+                stops-after (judging c.args.extent) _ _ _ _ _ _ _ _ _ _ (goes-push (judging c.args.extent) _ _ _ _ _ _ _ c.in_ok-n.ensures.ok) refl
+                (stops-unit (judging c.args.extent) _ _ (λ x. t.after) _ c.take_unit.new.self _ _ _ _ _ _ c.in-Some.ensures.some
                 (c.in_ok-n.ensures.ok.ended_is ∙ c.requires.runs.2) (λ e. c.in_err-judge_next-in-Some.ensures.no_memory frames before k (ap Err e)) t.plays);
           };
     })

@@ -3,7 +3,8 @@ use Rattle.std.proofs.lemmas.Result.{err_from_is_err_and}
 use Rattle.h264_base.specs.declared.stop.Stop.TheVariants.{Memory}
 use Rattle.h264_verify.specs.Judging.{judging}
 use Rattle.h264_verify.proofs.Lacking.{same-stop}
-use Rattle.h264_verify.proofs.Familiar.{agree-none, finishes-both, finishes-bytes, last-read, changes-read}
+use Rattle.h264_verify.proofs.AgreeingUnits.{agree-none}
+use Rattle.h264_verify.proofs.Familiar.{finishes-both, finishes-bytes, last-read, changes-read}
 use Rattle.h264_verify.proofs.Finishing.{finish-stops, finish-end, finish-unit-stops, not-waiting, named-not-memory}
 use Rattle.h264_verify.proofs.session.finish_all.Goals as goal
 
@@ -12,7 +13,7 @@ returns-in_err-finish g c =
     let p = err_from_is_err_and c.from_residual.result c.from_residual.ensures.1 in
     let f = c.in_err-finish.ensures.err c.requires.runs.0 in
     rw (p.1, p.2) (record {
-      finishes = λ frames before k. record { made = frames; same = agree-none _ frames; finishes = finish-stops (judging c.args.terms) _ _ _ _ _ _ _ f };
+      finishes = λ frames before k. record { made = frames; same = agree-none _ frames; finishes = finish-stops (judging c.args.extent) _ _ _ _ _ _ _ f };
       memory = λ e. absurd (named-not-memory f.tail _ f.stop_is (same-stop _ Memory e));
     })
 
@@ -24,7 +25,8 @@ returns-in-None g c = record {
         made = e.made;
         same = e.same;
         finishes =
-            finish-end (judging c.args.terms) _ _ _ _ _ _ _ _ (_) _ c.in_ok-finish.ensures.ok (not-waiting _ c.in-None.ensures.when) c.in-None.ensures.none refl
+            finish-end (judging c.args.extent) _ _ _ _ _ _ _ _ (_) _ c.in_ok-finish.ensures.ok (not-waiting _ c.in-None.ensures.when) c.in-None.ensures.none
+            refl
             c.judge_end.ensures.no_memory e.plays;
       };
   memory = λ e. absurd (c.judge_end.ensures.no_memory e);
@@ -34,7 +36,7 @@ pub returns-in_err-bytes-in-Some : goal.returns-in_err-bytes-in-Some
 returns-in_err-bytes-in-Some g c =
     let p = err_from_is_err_and c.from_residual-in_err-bytes-in-Some.result c.from_residual-in_err-bytes-in-Some.ensures.1 in
     rw (p.1, p.2) (record {
-      finishes = λ frames before k. finishes-bytes c.args.terms _ _ frames _ _ _ c.in_err-bytes-in-Some.ensures.err.0;
+      finishes = λ frames before k. finishes-bytes c.args.extent _ _ frames _ _ _ c.in_err-bytes-in-Some.ensures.err.0;
       memory = λ e. last-read _ _ _ _ _ c.in_ok-finish.ensures.ok c.in-Some.ensures.some c.in_err-bytes-in-Some.ensures.err.1;
     })
 
@@ -48,7 +50,7 @@ returns-in_err-judge_next-in-Some g c =
             made = t.made;
             same = t.same;
             finishes =
-                finish-unit-stops (judging c.args.terms) _ _ (λ x. t.after) _ _ c.take_unit.new.self _ _ _ _ _ c.in_ok-finish.ensures.ok c.in-Some.ensures.some
+                finish-unit-stops (judging c.args.extent) _ _ (λ x. t.after) _ _ c.take_unit.new.self _ _ _ _ _ c.in_ok-finish.ensures.ok c.in-Some.ensures.some
                 (λ e. c.in_err-judge_next-in-Some.ensures.no_memory frames before k (ap Err e)) t.plays;
           };
       memory = λ e. let k = c.requires.keeps in

@@ -22,24 +22,24 @@ on-err (Err e) P f = f e refl
 
 pub close_if-requires-clause-kept : goal.close_if-requires-clause-kept
 close_if-requires-clause-kept g c = let k = c.requires.kept in
-    record { mode = k.mode; frames = k.frames; before = k.before; slices_are = k.slices_are; keeps = k.keeps }
+    record { depth = k.depth; frames = k.frames; before = k.before; slices_are = k.slices_are; keeps = k.keeps }
 
 pub returns-in_err-close_if : goal.returns-in_err-close_if
 returns-in_err-close_if g c =
     let h = c.args.state.now.slice.header in
     let p = err_from_is_err_and c.from_residual.result c.from_residual.ensures.1 in
     rw (p.1, p.2) (record {
-      refused = λ mode frames before named k m w d.
+      refused = λ depth frames before named k m w d.
           let b = begins-as before h c.args.state.now.slices _ k c.requires.begins in
-          let e = c.in_err-close_if.ensures.closes mode frames before k d in
+          let e = c.in_err-close_if.ensures.closes depth frames before k d in
           record {
             made = e.made;
             same = e.same;
             plays =
-                closed-stop (took_with e.made g.S.Elements.took) g.S.Elements.failures mode before c.args.unit.now h c.args.begins b _ _ _ e.plays;
+                closed-stop (took_with e.made g.S.Elements.took) g.S.Elements.failures depth before c.args.unit.now h c.args.begins b _ _ _ e.plays;
             enters = tt;
           };
-      placed = λ mode frames before k d. tt;
+      placed = λ depth frames before k d. tt;
       sets = tt;
       named = tt;
       format = c.in_err-close_if.ensures.format;
@@ -55,20 +55,20 @@ returns-in_err-check_standing g c =
     let h = c.args.state.now.slice.header in
     let p = err_from_is_err_and c.from_residual-in_err-check_standing.result c.from_residual-in_err-check_standing.ensures.1 in
     rw (p.1, p.2) (record {
-      refused = λ mode frames before named k m w d.
+      refused = λ depth frames before named k m w d.
           let b = begins-as before h c.args.state.now.slices _ k c.requires.begins in
           let kept = c.in_ok-close_if.ensures.ended before k in
-          let e = c.in_ok-close_if.ensures.closes mode frames before k d in
+          let e = c.in_ok-close_if.ensures.closes depth frames before k d in
           let broken = rw c.from-bit.ensures.value at (c.in_err-check_standing.ensures.judged named w) in
           record {
             made = e.made;
             same = e.same;
-            plays = closed-on (took_with e.made g.S.Elements.took) g.S.Elements.failures mode before c.args.unit.now h c.args.begins b _ _ _ _ _ e.plays
-                (standing-stop (took_with e.made g.S.Elements.took) g.S.Elements.failures mode before c.args.unit.now h c.args.begins b _
+            plays = closed-on (took_with e.made g.S.Elements.took) g.S.Elements.failures depth before c.args.unit.now h c.args.begins b _ _ _ _ _ e.plays
+                (standing-stop (took_with e.made g.S.Elements.took) g.S.Elements.failures depth before c.args.unit.now h c.args.begins b _
                 c.args.state.now.sets kept.due m named w _ _ broken);
             enters = tt;
           };
-      placed = λ mode frames before k d. tt;
+      placed = λ depth frames before k d. tt;
       sets = tt;
       named = tt;
       format = c.in_ok-close_if.ensures.format;
@@ -84,29 +84,29 @@ returns g c =
     let h = c.args.state.now.slice.header in
     let r = c.check_first_mb.result in
     record {
-      refused = λ mode frames before named k m w d.
+      refused = λ depth frames before named k m w d.
           let b = begins-as before h c.args.state.now.slices _ k c.requires.begins in
           let kept = c.in_ok-close_if.ensures.ended before k in
-          let e = c.in_ok-close_if.ensures.closes mode frames before k d in
+          let e = c.in_ok-close_if.ensures.closes depth frames before k d in
           let stands = rw c.from-bit.ensures.value at (c.in_ok-check_standing.ensures.judged named w) in
-          let first = c.check_first_mb.ensures.judged mode (runs_of before)
-          (before-held mode e.made (goes_on before) c.args.begins (runs_of before) h c.close_if.new.decoder b e.keeps) in
-          on-err r (λ (x : Result (Unit {0}) Stop). JudgesSlice mode
+          let first = c.check_first_mb.ensures.judged depth (runs_of before)
+          (before-held depth e.made (goes_on before) c.args.begins (runs_of before) h c.close_if.new.decoder b e.keeps) in
+          on-err r (λ (x : Result (Unit {0}) Stop). JudgesSlice depth
           (frame_span g.S.Elements.took g.S.Elements.failures frames c.args.sink.now c.close_if.new.sink)
           (slice_after before c.args.unit.now h c.args.begins) named c.close_if.new.decoder x)
           (λ stop broken. record {
             made = e.made;
             same = e.same;
-            plays = closed-on (took_with e.made g.S.Elements.took) g.S.Elements.failures mode before c.args.unit.now h c.args.begins b _ _ _ _ _ e.plays
-                (place-stop (took_with e.made g.S.Elements.took) g.S.Elements.failures mode before c.args.unit.now h c.args.begins b _ c.args.state.now.sets
+            plays = closed-on (took_with e.made g.S.Elements.took) g.S.Elements.failures depth before c.args.unit.now h c.args.begins b _ _ _ _ _ e.plays
+                (place-stop (took_with e.made g.S.Elements.took) g.S.Elements.failures depth before c.args.unit.now h c.args.begins b _ c.args.state.now.sets
                 kept.due m named w _ stands _ _ (broken ∙ first));
             enters = tt;
           });
-      placed = λ mode frames before k d.
+      placed = λ depth frames before k d.
           let b = begins-as before h c.args.state.now.slices _ k c.requires.begins in
-          let e = c.in_ok-close_if.ensures.closes mode frames before k d in
-          let first = c.check_first_mb.ensures.judged mode (runs_of before)
-          (before-held mode e.made (goes_on before) c.args.begins (runs_of before) h c.close_if.new.decoder b e.keeps) in
+          let e = c.in_ok-close_if.ensures.closes depth frames before k d in
+          let first = c.check_first_mb.ensures.judged depth (runs_of before)
+          (before-held depth e.made (goes_on before) c.args.begins (runs_of before) h c.close_if.new.decoder b e.keeps) in
           on-ok r (λ well. record {
             closes = e;
             ended = c.in_ok-close_if.ensures.ended before k;

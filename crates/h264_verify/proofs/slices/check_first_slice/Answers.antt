@@ -21,19 +21,19 @@ pub returns-in_err-check_type : goal.returns-in_err-check_type
 returns-in_err-check_type g c =
     let p = err_from_is_err_and c.from_residual.result c.from_residual.ensures.1 in
     rw (p.1, p.2) (record {
-      plays = λ mode frames t next pictures k kept.
+      plays = λ depth frames t next pictures k kept.
           let n = numbering_of c.args.head.now.place.sps.now c.args.head.now.header.now in
           let idr = is_idr c.args.head.now.header.now in
           let prev = c.args.slices.now.prev_ref_frame_num in
           let type = type_demand c.args.head.now.place.sps.now c.args.head.now.header.now in
           let num = idr_num_demand c.args.head.now.header.now in
-          let gap = gap_rules mode (slice_at c.args.head.now.place c.args.head.now.header.now []) prev c.args.slices.now.held t.buffer in
+          let gap = gap_rules depth (slice_at c.args.head.now.place c.args.head.now.header.now []) prev c.args.slices.now.held t.buffer in
           let id = id_demand c.args.slices.now.newest_idr c.args.head.now.header.now in
           let count = count_demand (picture_of c.args.head.now.place.sps.now c.args.head.now.header.now ∷ pictures) (8 * c.args.head.now.place.unit.now.from) in
           let qp = qp_demand c.args.head.now.place.pps.now c.args.head.now.header.now in
           let list = list_demand (list_of c.args.head.now.header.now.kind.value n (entered idr prev n c.args.slices.now.held)) in
           at-first (took_with frames g.S.Elements.took) g.S.Elements.failures type num gap id count qp list c.args.sink.now _ c.in_err-check_type.ensures;
-      gap = λ mode frames t next k. tt;
+      gap = λ depth frames t next k. tt;
       no_memory = no-memory _ _ _ _ c.in_err-check_type.ensures;
       format = refl;
       counts = λ pictures k. tt;
@@ -51,20 +51,20 @@ pub returns-in_err-check_idr_num : goal.returns-in_err-check_idr_num
 returns-in_err-check_idr_num g c =
     let p = err_from_is_err_and c.from_residual-in_err-check_idr_num.result c.from_residual-in_err-check_idr_num.ensures.1 in
     rw (p.1, p.2) (record {
-      plays = λ mode frames t next pictures k kept.
+      plays = λ depth frames t next pictures k kept.
           let n = numbering_of c.args.head.now.place.sps.now c.args.head.now.header.now in
           let idr = is_idr c.args.head.now.header.now in
           let prev = c.args.slices.now.prev_ref_frame_num in
           let type = type_demand c.args.head.now.place.sps.now c.args.head.now.header.now in
           let num = idr_num_demand c.args.head.now.header.now in
-          let gap = gap_rules mode (slice_at c.args.head.now.place c.args.head.now.header.now []) prev c.args.slices.now.held t.buffer in
+          let gap = gap_rules depth (slice_at c.args.head.now.place c.args.head.now.header.now []) prev c.args.slices.now.held t.buffer in
           let id = id_demand c.args.slices.now.newest_idr c.args.head.now.header.now in
           let count = count_demand (picture_of c.args.head.now.place.sps.now c.args.head.now.header.now ∷ pictures) (8 * c.args.head.now.place.unit.now.from) in
           let qp = qp_demand c.args.head.now.place.pps.now c.args.head.now.header.now in
           let list = list_demand (list_of c.args.head.now.header.now.kind.value n (entered idr prev n c.args.slices.now.held)) in
           at-second (took_with frames g.S.Elements.took) g.S.Elements.failures type num gap id count qp list c.args.sink.now _ c.in_ok-check_type.ensures _
           c.in_err-check_idr_num.ensures;
-      gap = λ mode frames t next k. tt;
+      gap = λ depth frames t next k. tt;
       no_memory = no-memory _ _ _ _ c.in_err-check_idr_num.ensures;
       format = refl;
       counts = λ pictures k. tt;
@@ -82,20 +82,20 @@ pub returns-in_err-check_gap : goal.returns-in_err-check_gap
 returns-in_err-check_gap g c =
     let p = err_from_is_err_and c.from_residual-in_err-check_gap.result c.from_residual-in_err-check_gap.ensures.1 in
     rw (p.1, p.2) (record {
-      plays = λ mode frames t next pictures k kept.
+      plays = λ depth frames t next pictures k kept.
           let n = numbering_of c.args.head.now.place.sps.now c.args.head.now.header.now in
           let idr = is_idr c.args.head.now.header.now in
           let prev = c.args.slices.now.prev_ref_frame_num in
           let type = type_demand c.args.head.now.place.sps.now c.args.head.now.header.now in
           let num = idr_num_demand c.args.head.now.header.now in
-          let gap = gap_rules mode (slice_at c.args.head.now.place c.args.head.now.header.now []) prev c.args.slices.now.held t.buffer in
+          let gap = gap_rules depth (slice_at c.args.head.now.place c.args.head.now.header.now []) prev c.args.slices.now.held t.buffer in
           let id = id_demand c.args.slices.now.newest_idr c.args.head.now.header.now in
           let count = count_demand (picture_of c.args.head.now.place.sps.now c.args.head.now.header.now ∷ pictures) (8 * c.args.head.now.place.unit.now.from) in
           let qp = qp_demand c.args.head.now.place.pps.now c.args.head.now.header.now in
           let list = list_demand (list_of c.args.head.now.header.now.kind.value n (entered idr prev n c.args.slices.now.held)) in
           at-between (took_with frames g.S.Elements.took) g.S.Elements.failures type num gap id count qp list c.args.sink.now _ c.in_ok-check_type.ensures _
-          c.in_ok-check_idr_num.ensures _ _ (c.in_err-check_gap.ensures.plays mode frames t next k);
-      gap = λ mode frames t next k. tt;
+          c.in_ok-check_idr_num.ensures _ _ (c.in_err-check_gap.ensures.plays depth frames t next k);
+      gap = λ depth frames t next k. tt;
       no_memory = c.in_err-check_gap.ensures.no_memory;
       format = c.in_err-check_gap.ensures.format;
       counts = λ pictures k. tt;
@@ -124,21 +124,21 @@ returns g c =
     let same = c.check_new_picture.ensures.others in
     let r = c.check_new_picture.result in
     record {
-      plays = λ mode frames t next pictures k kept.
+      plays = λ depth frames t next pictures k kept.
           let n = numbering_of c.args.head.now.place.sps.now c.args.head.now.header.now in
           let idr = is_idr c.args.head.now.header.now in
           let prev = c.args.slices.now.prev_ref_frame_num in
           let type = type_demand c.args.head.now.place.sps.now c.args.head.now.header.now in
           let num = idr_num_demand c.args.head.now.header.now in
-          let gap = gap_rules mode (slice_at c.args.head.now.place c.args.head.now.header.now []) prev c.args.slices.now.held t.buffer in
+          let gap = gap_rules depth (slice_at c.args.head.now.place c.args.head.now.header.now []) prev c.args.slices.now.held t.buffer in
           let id = id_demand c.args.slices.now.newest_idr c.args.head.now.header.now in
           let count = count_demand (picture_of c.args.head.now.place.sps.now c.args.head.now.header.now ∷ pictures) (8 * c.args.head.now.place.unit.now.from) in
           let qp = qp_demand c.args.head.now.place.pps.now c.args.head.now.header.now in
           let list = list_demand (list_of c.args.head.now.header.now.kind.value n (entered idr prev n c.args.slices.now.held)) in
           after-between (took_with frames g.S.Elements.took) g.S.Elements.failures type num gap id count qp list c.args.sink.now _ c.in_ok-check_type.ensures
-          _ c.in_ok-check_idr_num.ensures _ _ _ (c.in_ok-check_gap.ensures.plays mode frames t next k)
+          _ c.in_ok-check_idr_num.ensures _ _ _ (c.in_ok-check_gap.ensures.plays depth frames t next k)
           (rw c.in_ok-check_gap.ensures.held at (c.check_new_picture.ensures.judged pictures kept));
-      gap = λ mode frames t next k. on-ok r (c.in_ok-check_gap.ensures.keeps mode frames t next k);
+      gap = λ depth frames t next k. on-ok r (c.in_ok-check_gap.ensures.keeps depth frames t next k);
       no_memory = c.check_new_picture.ensures.no_memory;
       format = c.in_ok-check_gap.ensures.format;
       counts = c.check_new_picture.ensures.counts;

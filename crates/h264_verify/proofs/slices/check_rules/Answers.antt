@@ -20,23 +20,23 @@ check_first_slice-requires-clause-kept g c =
     some-begun c.args.head.now.place.begins c.args.slices.now c.args.decoder.now c.if-head.true c.requires.kept c.requires.pictures
 
 pub returns-then-head-clause-plays : goal.returns-then-head-clause-plays
-returns-then-head-clause-plays g c = rw c.if-head.true (λ mode frames before k b d.
+returns-then-head-clause-plays g c = rw c.if-head.true (λ depth frames before k b d.
     subst (λ (steps : List Step). Plays (span (took_with frames g.S.Elements.took) g.S.Elements.failures c.args.sink.now c.check_first_slice.new.sink)
     (λ (x : Unit {0}). x) (steps_outcome steps) c.check_first_slice.result)
-    (first-rules mode (goes_on before) (runs_of before) c.args.slices.now (slice_at c.args.head.now.place c.args.head.now.header.now []) k.kept)
-    (c.check_first_slice.ensures.plays mode frames (after_all (runs_of before)) (length (runs_of before)) (map counted (runs_of before))
-    (ended-gap mode frames (goes_on before) (runs_of before) c.args.decoder.now d) k.kept.counts))
+    (first-rules depth (goes_on before) (runs_of before) c.args.slices.now (slice_at c.args.head.now.place c.args.head.now.header.now []) k.kept)
+    (c.check_first_slice.ensures.plays depth frames (after_all (runs_of before)) (length (runs_of before)) (map counted (runs_of before))
+    (ended-gap depth frames (goes_on before) (runs_of before) c.args.decoder.now d) k.kept.counts))
 
 pub returns-then-head-clause-frames : goal.returns-then-head-clause-frames
-returns-then-head-clause-frames g c = rw c.if-head.true (λ mode frames before k b d.
-    enters-first c.check_first_slice.result mode frames (goes_on before) (runs_of before) c.args.slices.now
+returns-then-head-clause-frames g c = rw c.if-head.true (λ depth frames before k b d.
+    enters-first c.check_first_slice.result depth frames (goes_on before) (runs_of before) c.args.slices.now
     (with_sets c.args.head.now.place.unit.now c.args.head.now.header.now [] (c.args.head.now.place.pps.now, c.args.head.now.place.sps.now))
     c.args.decoder.now c.check_first_slice.new.decoder d c.check_first_slice.ensures.format (λ i. (c.requires.goes c.if-head.true i).format) k.kept
-    (c.check_first_slice.ensures.gap mode frames (after_all (runs_of before)) (length (runs_of before))
-    (ended-gap mode frames (goes_on before) (runs_of before) c.args.decoder.now d)))
+    (c.check_first_slice.ensures.gap depth frames (after_all (runs_of before)) (length (runs_of before))
+    (ended-gap depth frames (goes_on before) (runs_of before) c.args.decoder.now d)))
 
 pub returns-else-head-clause-plays : goal.returns-else-head-clause-plays
-returns-else-head-clause-plays g c = rw c.if-head.false (λ mode frames before k b d.
+returns-else-head-clause-plays g c = rw c.if-head.false (λ depth frames before k b d.
     rules-play (took_with frames g.S.Elements.took) g.S.Elements.failures
     (later_slice_rules (runs_of before) (with_sets c.args.head.now.place.unit.now c.args.head.now.header.now []
     (c.args.head.now.place.pps.now, c.args.head.now.place.sps.now))) c.args.sink.now c.check_later_slice.result
@@ -45,7 +45,7 @@ returns-else-head-clause-plays g c = rw c.if-head.false (λ mode frames before k
     c.args.head.now.header.now c.args.head.now.place.unit.now (sym b) k.kept)))
 
 pub returns-else-head-clause-frames : goal.returns-else-head-clause-frames
-returns-else-head-clause-frames g c = rw c.if-head.false (λ mode frames before k b d.
-    on-ok c.check_later_slice.result (enters-later mode frames (goes_on before) (runs_of before)
+returns-else-head-clause-frames g c = rw c.if-head.false (λ depth frames before k b d.
+    on-ok c.check_later_slice.result (enters-later depth frames (goes_on before) (runs_of before)
     (with_sets c.args.head.now.place.unit.now c.args.head.now.header.now [] (c.args.head.now.place.pps.now, c.args.head.now.place.sps.now))
     c.args.head.now.header.now c.args.decoder.now (sym b) d))

@@ -36,14 +36,14 @@ pub returns-in_err-check_rules : goal.returns-in_err-check_rules
 returns-in_err-check_rules g c =
     let p = err_from_is_err_and c.from_residual.result c.from_residual.ensures.1 in
     rw (p.1, p.2) (record {
-      plays = λ mode frames before k b d.
+      plays = λ depth frames before k b d.
           let slice = with_sets c.args.place.now.unit.now c.args.slice.now.header [] (c.args.place.now.pps.now, c.args.place.now.sps.now) in
           steps-stop (took_with frames g.S.Elements.took) g.S.Elements.failures (λ (x : Unit {0}). x)
-          (slice_rules mode c.args.place.now.begins (runs_of before) slice)
+          (slice_rules depth c.args.place.now.begins (runs_of before) slice)
           (Tells (Said (slice_call (joined_to c.args.place.now.begins slice (runs_of before)) slice)) ∷ []) _ _ _
-          (c.in_err-check_rules.ensures.plays mode frames before k b d);
+          (c.in_err-check_rules.ensures.plays depth frames before k b d);
       entered = λ before ms k b. tt;
-      frames = λ mode frames before k b d. tt;
+      frames = λ depth frames before k b d. tt;
       filled = λ begun. tt;
       list = tt;
       due = tt;
@@ -59,16 +59,16 @@ pub returns-in_err-tell_slice : goal.returns-in_err-tell_slice
 returns-in_err-tell_slice g c =
     let p = err_from_is_err_and c.from_residual-in_err-tell_slice.result c.from_residual-in_err-tell_slice.ensures.1 in
     rw (p.1, p.2) (record {
-      plays = λ mode frames before k b d.
+      plays = λ depth frames before k b d.
           let slice = with_sets c.args.place.now.unit.now c.args.slice.now.header [] (c.args.place.now.pps.now, c.args.place.now.sps.now) in
           let entered = c.in_ok-check_rules.ensures.entered before [] k b in
           let told = rw (c.from.ensures.value, entered.count) at (c.in_err-tell_slice.ensures.plays frames) in
           steps-on (took_with frames g.S.Elements.took) g.S.Elements.failures (λ (x : Unit {0}). x)
-          (slice_rules mode c.args.place.now.begins (runs_of before) slice)
+          (slice_rules depth c.args.place.now.begins (runs_of before) slice)
           (Tells (Said (slice_call (joined_to c.args.place.now.begins slice (runs_of before)) slice)) ∷ []) _ _ _ _ _
-          (c.in_ok-check_rules.ensures.plays mode frames before k b d) told;
+          (c.in_ok-check_rules.ensures.plays depth frames before k b d) told;
       entered = λ before ms k b. tt;
-      frames = λ mode frames before k b d. tt;
+      frames = λ depth frames before k b d. tt;
       filled = λ begun. tt;
       list = tt;
       due = tt;
@@ -82,14 +82,14 @@ returns-in_err-tell_slice g c =
 
 pub returns : goal.returns
 returns g c = record {
-  plays = λ mode frames before k b d.
+  plays = λ depth frames before k b d.
       let slice = with_sets c.args.place.now.unit.now c.args.slice.now.header [] (c.args.place.now.pps.now, c.args.place.now.sps.now) in
       let entered = c.in_ok-check_rules.ensures.entered before [] k b in
       let told = rw (c.from.ensures.value, entered.count) at (c.in_ok-tell_slice.ensures.plays frames) in
       steps-on (took_with frames g.S.Elements.took) g.S.Elements.failures (λ (x : Unit {0}). x)
-      (slice_rules mode c.args.place.now.begins (runs_of before) slice)
+      (slice_rules depth c.args.place.now.begins (runs_of before) slice)
       (Tells (Said (slice_call (joined_to c.args.place.now.begins slice (runs_of before)) slice)) ∷ []) _ _ _ _ _
-      (c.in_ok-check_rules.ensures.plays mode frames before k b d) told;
+      (c.in_ok-check_rules.ensures.plays depth frames before k b d) told;
   entered = λ before ms k b.
       let sets : Pps × Sps = (c.args.place.now.pps.now, c.args.place.now.sps.now) in
       let slice = with_sets c.args.place.now.unit.now c.args.slice.now.header ms sets in
@@ -104,7 +104,7 @@ returns g c = record {
       (λ begun. told ∙ ended-is before c.args.place.now.begins slice c.check_rules.new.slices entered begun) entered.picture entered.end b in
       slice-kept before c.args.place.now.unit.now c.args.slice.now.header ms c.check_rules.new.slices c.enter.new.slices c.args.place.now.begins sets entered
       opened end c.enter.ensures.newest c.enter.ensures.pictures c.enter.ensures.others;
-  frames = λ mode frames before k b d. c.in_ok-check_rules.ensures.frames mode frames before k b d;
+  frames = λ depth frames before k b d. c.in_ok-check_rules.ensures.frames depth frames before k b d;
   filled = λ begun. rw c.enter.ensures.others (c.in_ok-check_rules.ensures.filled begun);
   list = rw c.enter.ensures.others (rw c.numbering_of-numbering.ensures at c.in_ok-check_rules.ensures.list);
   due = c.enter.ensures.due;

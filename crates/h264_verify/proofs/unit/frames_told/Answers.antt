@@ -9,9 +9,9 @@ both [] ys = omega arith
 both (x ∷ xs) ys = let h = both xs ys in omega (arith, h)
 
 pub returns-in-None : goal.returns-in-None
-returns-in-None c = λ mode pictures k. quiet-written mode pictures (none-made _ mode _ c.in-None.is k)
+returns-in-None c = λ depth pictures k. quiet-written depth pictures (none-made _ depth _ c.in-None.is k)
 
 pub returns-in-Some : goal.returns-in-Some
-returns-in-Some c = λ mode pictures k.
-    let made = some-made _ mode _ _ c.in-Some.is k in
+returns-in-Some c = λ depth pictures k.
+    let made = some-made _ depth _ _ c.in-Some.is k in
     rw made.0 (c.frames.ensures _ _ made.1 ∙ sym (both (after_all pictures).written (last_turn (after_all pictures).buffer).written))

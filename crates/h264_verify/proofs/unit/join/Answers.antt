@@ -1,12 +1,11 @@
 use Rattle.std.proofs.Common.{◌≡◌, ℕ, Bool, true, false, List, Option, Some, None, Result, length, ap, refl, sym, subst, ◌∙◌}
 use Rattle.std.proofs.lemmas.Bool.{ne_eqb}
-use Rattle.h264_base.specs.declared.mode.Mode.{Mode}
-use Rattle.h264_base.specs.declared.mode.Mode.TheVariants as modes
+use Rattle.h264_verify.specs.declared.state.Depth.{Depth}
+use Rattle.h264_verify.specs.declared.state.Depth.TheVariants as depths
 use Rattle.h264_base.specs.declared.stop.Stop.{Stop}
 use Rattle.h264_base.specs.Call.{Call}
-use Rattle.h264_plane.specs.declared.frame.Frame.{Frame}
 use Rattle.h264_units.specs.Stream.{NalUnit}
-use Rattle.h264_verify.specs.Telling.{frame_span}
+use Rattle.h264_verify.specs.Telling.{frame_span, Family}
 use Rattle.h264_verify.specs.Outcome.{Outcome}
 use Rattle.h264_verify.specs.History.{History}
 use Rattle.h264_verify.specs.Content as contents
@@ -18,7 +17,7 @@ use Rattle.h264_verify.specs.Pictures.{goes_on, runs_of}
 use Rattle.h264_verify.specs.Keeping.{ended_pictures, ended_in}
 use Rattle.h264_verify.proofs.Playing.{gives-plays}
 use Rattle.h264_verify.specs.declared.state.State.{State}
-use Rattle.h264_verify.specs.declared.state.Terms.{Terms}
+use Rattle.h264_verify.specs.declared.state.Extent.{Extent}
 use Rattle.h264_verify.specs.declared.decoder.Decoder.{Decoder}
 use Rattle.h264_verify.specs.Keeping.{WhereMade}
 use Rattle.h264_verify.proofs.Made.{some-made, none-made}
@@ -34,16 +33,16 @@ use Rattle.h264_verify.proofs.unit.join.Goals as goal
 use Rattle.h264_verify.proofs.Growing.{slice-goes as slice-goes-on}
 use Rattle.h264_units.proofs.UnitNumbers.{is-not}
 
-joined-seven : (terms : Terms) (kind : ℕ) (before : History) (unit : NalUnit) → kind ≡ 7 →
-    joined_by terms kind before unit ≡ joined terms.mode before unit (sps_outcome terms.target unit)
+joined-seven : (extent : Extent) (kind : ℕ) (before : History) (unit : NalUnit) → kind ≡ 7 →
+    joined_by extent kind before unit ≡ joined extent.depth before unit (sps_outcome extent.target unit)
 unfolding joined_by
-joined-seven terms kind before unit e = subst (λ (k : ℕ). joined_by terms k before unit ≡ joined terms.mode before unit (sps_outcome terms.target unit))
+joined-seven extent kind before unit e = subst (λ (k : ℕ). joined_by extent k before unit ≡ joined extent.depth before unit (sps_outcome extent.target unit))
     (sym e) refl
 
-joined-eight : (terms : Terms) (kind : ℕ) (before : History) (unit : NalUnit) → kind ≡ 8 →
-    joined_by terms kind before unit ≡ joined terms.mode before unit (pps_outcome terms.target unit)
+joined-eight : (extent : Extent) (kind : ℕ) (before : History) (unit : NalUnit) → kind ≡ 8 →
+    joined_by extent kind before unit ≡ joined extent.depth before unit (pps_outcome extent.target unit)
 unfolding joined_by
-joined-eight terms kind before unit e = subst (λ (k : ℕ). joined_by terms k before unit ≡ joined terms.mode before unit (pps_outcome terms.target unit))
+joined-eight extent kind before unit e = subst (λ (k : ℕ). joined_by extent k before unit ≡ joined extent.depth before unit (pps_outcome extent.target unit))
     (sym e) refl
 
 pub join_pps-requires-clause-ends : goal.join_pps-requires-clause-ends
@@ -51,30 +50,30 @@ join_pps-requires-clause-ends g c = ap (λ k. ends_picture (type_number k)) c.in
 
 pub returns-in-SequenceSet-clause-joins : goal.returns-in-SequenceSet-clause-joins
 returns-in-SequenceSet-clause-joins g c = let joins = rw c.of-kind.ensures at c.join_sps.ensures.joins in
-    λ frames before k. rw (joined-seven c.args.terms _ before c.args.bytes.now.unit.now (sym c.of-kind.ensures ∙ ap type_number c.in-SequenceSet.is))
+    λ frames before k. rw (joined-seven c.args.extent _ before c.args.bytes.now.unit.now (sym c.of-kind.ensures ∙ ap type_number c.in-SequenceSet.is))
     (joins frames before k)
 
 pub returns-in-PictureSet-clause-joins : goal.returns-in-PictureSet-clause-joins
 returns-in-PictureSet-clause-joins g c = let joins = rw c.of-kind.ensures at c.join_pps.ensures.joins in
-    λ frames before k. rw (joined-eight c.args.terms _ before c.args.bytes.now.unit.now (sym c.of-kind.ensures ∙ ap type_number c.in-PictureSet.is))
+    λ frames before k. rw (joined-eight c.args.extent _ before c.args.bytes.now.unit.now (sym c.of-kind.ensures ∙ ap type_number c.in-PictureSet.is))
     (joins frames before k)
 
 -- where no picture ends
-joins-here : {S X : Type 0} (mode : Mode) (took : S → List Call → Type 0) (failures : S → ℕ) (frames : ℕ → Frame) (before : History) (ends : Bool)
+joins-here : {S X : Type 0} (depth : Depth) (took : S → List Call → Type 0) (failures : S → ℕ) (frames : Family) (before : History) (ends : Bool)
     (o : Outcome History) (new : State) (s s' : S) (r : Result X Stop) → ends ≡ false →
-    Joins {X = X} mode (frame_span took failures frames s s') (ended_in before) o new r →
-    Joins {X = X} mode (frame_span took failures frames s s') (length (ended_pictures (goes_on before) ends (runs_of before))) o new r
-joins-here {S} {X} mode took failures frames before ends o new s s' r e j =
-    subst (λ (b : Bool). Joins {X = X} mode (frame_span took failures frames s s') (length (ended_pictures (goes_on before) b (runs_of before))) o new r)
+    Joins {X = X} depth (frame_span took failures frames s s') (ended_in before) o new r →
+    Joins {X = X} depth (frame_span took failures frames s s') (length (ended_pictures (goes_on before) ends (runs_of before))) o new r
+joins-here {S} {X} depth took failures frames before ends o new s s' r e j =
+    subst (λ (b : Bool). Joins {X = X} depth (frame_span took failures frames s s') (length (ended_pictures (goes_on before) b (runs_of before))) o new r)
     (sym e) j
 
 pub returns-in_default-clause-joins : goal.returns-in_default-clause-joins
 returns-in_default-clause-joins g c = λ frames before k.
-    let bytes = bytes-by c.args.terms.mode c.args.bytes.now.unit.now c.args.bytes.now.header c.args.bytes.now.rbsp.now c.requires.header c.requires.bytes in
-    rw (passed-by c.args.terms (nal_unit_type c.args.bytes.now.header) before c.args.bytes.now.unit.now (unread _ _ _ c.in_default.is bytes))
-    (joins-on c.args.terms.mode frames _ _ _ before _ _ _ (λ (u : Unit {0}). contents.Passed) _ _ _ tt _
+    let bytes = bytes-by c.args.extent.depth c.args.bytes.now.unit.now c.args.bytes.now.header c.args.bytes.now.rbsp.now c.requires.header c.requires.bytes in
+    rw (passed-by c.args.extent (nal_unit_type c.args.bytes.now.header) before c.args.bytes.now.unit.now (unread _ _ _ c.in_default.is bytes))
+    (joins-on c.args.extent.depth frames _ _ _ before _ _ _ (λ (u : Unit {0}). contents.Passed) _ _ _ tt _
     (gives-plays _ _ (λ (u : Unit {0}). contents.Passed) tt _) (gives-plays _ _ (λ (u : Unit {0}). u) tt _)
-    (passed-joins c.args.terms.mode frames before c.args.bytes.now.unit.now contents.Passed (nal_unit_type c.args.bytes.now.header) c.args.state.now _ tt tt
+    (passed-joins c.args.extent.depth frames before c.args.bytes.now.unit.now contents.Passed (nal_unit_type c.args.bytes.now.header) c.args.state.now _ tt tt
     (rw c.requires.header refl) k c.pass.ensures.units (c.pass.ensures.sets ∙ k.sets) (rw c.of-kind.ensures at c.pass.ensures.picture)
     (rw c.of-kind.ensures at c.pass.ensures.due) c.pass.ensures.others c.pass.ensures.decoder))
 
@@ -91,53 +90,53 @@ pub returns-in-PictureSet-clause-no_memory : goal.returns-in-PictureSet-clause-n
 returns-in-PictureSet-clause-no_memory g c = λ frames before k m. absurd (c.join_pps.ensures.no_memory m)
 
 -- a unit whose RBSP was made, and that is no set
-slice-here : (mode : Mode) (unit : NalUnit) (byte : ℕ) (o : Option Body) (x : Body) → byte ≡ header_of unit → o ≡ bytes_of mode unit → o ≡ Some x →
-    (nal_unit_type byte ≡ 7 → ⊥) → (nal_unit_type byte ≡ 8 → ⊥) → (is_slice (nal_unit_type byte) ≡ true) × (reads_slices mode ≡ true)
-slice-here mode unit byte o x e b s seven eight =
-    read-slice mode (nal_unit_type byte) (read-bytes _ _ _ _ s (bytes-by mode unit byte o e b)).0 (ne_eqb _ _ seven) (ne_eqb _ _ eight)
+slice-here : (depth : Depth) (unit : NalUnit) (byte : ℕ) (o : Option Body) (x : Body) → byte ≡ header_of unit → o ≡ bytes_of depth unit → o ≡ Some x →
+    (nal_unit_type byte ≡ 7 → ⊥) → (nal_unit_type byte ≡ 8 → ⊥) → (is_slice (nal_unit_type byte) ≡ true) × (reads_slices depth ≡ true)
+slice-here depth unit byte o x e b s seven eight =
+    read-slice depth (nal_unit_type byte) (read-bytes _ _ _ _ s (bytes-by depth unit byte o e b)).0 (ne_eqb _ _ seven) (ne_eqb _ _ eight)
 
 -- a unit of another type than a set's has another number
 -- the mode of a unit that is read, and is no set, by whether frames are made
-headers-of : (P : Decoder → Type 0) (m : Mode) (o : Option Decoder) → o ≡ None → WhereMade m P o → reads_slices m ≡ true → m ≡ modes.Headers
-headers-of P modes.Units o e k r = cc
-headers-of P modes.Headers o e k r = refl
-headers-of P modes.Full o e k r = absurd (none-made P modes.Full o e k)
+headers-of : (P : Decoder → Type 0) (m : Depth) (o : Option Decoder) → o ≡ None → WhereMade m P o → reads_slices m ≡ true → m ≡ depths.Headers
+headers-of P depths.Units o e k r = cc
+headers-of P depths.Headers o e k r = refl
+headers-of P depths.Full o e k r = absurd (none-made P depths.Full o e k)
 
-here-in : (mode one : Mode) (ended : Bool) (state : State) → mode ≡ one → ended ≡ false → KeepsSome mode ended state → KeepsSome one false state
-here-in mode one ended state e f k = subst (λ (m : Mode). KeepsSome m false state) e (subst (λ (b : Bool). KeepsSome mode b state) f k)
+here-in : (depth one : Depth) (ended : Bool) (state : State) → depth ≡ one → ended ≡ false → KeepsSome depth ended state → KeepsSome one false state
+here-in depth one ended state e f k = subst (λ (m : Depth). KeepsSome m false state) e (subst (λ (b : Bool). KeepsSome depth b state) f k)
 
 pub join_slice-requires-clause-rbsp : goal.join_slice-requires-clause-rbsp
 join_slice-requires-clause-rbsp g c = (read-bytes _ _ _ _ c.in-Some.is c.requires.bytes).1
 
 pub join_slice-requires-clause-goes_on : goal.join_slice-requires-clause-goes_on
 join_slice-requires-clause-goes_on g c =
-    let here = slice-here c.args.terms.mode c.args.bytes.now.unit.now c.args.bytes.now.header c.args.bytes.now.rbsp.now _ c.requires.header c.requires.bytes
+    let here = slice-here c.args.extent.depth c.args.bytes.now.unit.now c.args.bytes.now.header c.args.bytes.now.rbsp.now _ c.requires.header c.requires.bytes
     c.in-Some.is (is-not _ types.SequenceSet _ c.of-kind.ensures c.in_default-kind.not-SequenceSet)
     (is-not _ types.PictureSet _ c.of-kind.ensures c.in_default-kind.not-PictureSet) in
     slice-goes-on (nal_unit_type c.args.bytes.now.header) here.0
 
 pub join_slice-requires-clause-kept : goal.join_slice-requires-clause-kept
 join_slice-requires-clause-kept g c =
-    let here = slice-here c.args.terms.mode c.args.bytes.now.unit.now c.args.bytes.now.header c.args.bytes.now.rbsp.now _ c.requires.header c.requires.bytes
+    let here = slice-here c.args.extent.depth c.args.bytes.now.unit.now c.args.bytes.now.header c.args.bytes.now.rbsp.now _ c.requires.header c.requires.bytes
     c.in-Some.is (is-not _ types.SequenceSet _ c.of-kind.ensures c.in_default-kind.not-SequenceSet)
     (is-not _ types.PictureSet _ c.of-kind.ensures c.in_default-kind.not-PictureSet) in
-    let mode = headers-of _ c.args.terms.mode c.args.state.now.decoder c.in-None.is c.requires.kept.keeps.decoder here.1 in
-    here-in c.args.terms.mode modes.Headers _ _ mode (slice-goes-on (nal_unit_type c.args.bytes.now.header) here.0) c.requires.kept
+    let depth = headers-of _ c.args.extent.depth c.args.state.now.decoder c.in-None.is c.requires.kept.keeps.decoder here.1 in
+    here-in c.args.extent.depth depths.Headers _ _ depth (slice-goes-on (nal_unit_type c.args.bytes.now.header) here.0) c.requires.kept
 
 pub join_whole_slice-requires-clause-kept : goal.join_whole_slice-requires-clause-kept
 join_whole_slice-requires-clause-kept g c =
-    let here = slice-here c.args.terms.mode c.args.bytes.now.unit.now c.args.bytes.now.header c.args.bytes.now.rbsp.now _ c.requires.header c.requires.bytes
+    let here = slice-here c.args.extent.depth c.args.bytes.now.unit.now c.args.bytes.now.header c.args.bytes.now.rbsp.now _ c.requires.header c.requires.bytes
     c.in-Some.is (is-not _ types.SequenceSet _ c.of-kind.ensures c.in_default-kind.not-SequenceSet)
     (is-not _ types.PictureSet _ c.of-kind.ensures c.in_default-kind.not-PictureSet) in
-    let mode = (some-made _ c.args.terms.mode c.args.state.now.decoder _ c.in-Some-decoder.is c.requires.kept.keeps.decoder).0 in
-    here-in c.args.terms.mode modes.Full _ _ mode (slice-goes-on (nal_unit_type c.args.bytes.now.header) here.0) c.requires.kept
+    let depth = (some-made _ c.args.extent.depth c.args.state.now.decoder _ c.in-Some-decoder.is c.requires.kept.keeps.decoder).0 in
+    here-in c.args.extent.depth depths.Full _ _ depth (slice-goes-on (nal_unit_type c.args.bytes.now.header) here.0) c.requires.kept
 
 pub join_whole_slice-requires-clause-rbsp : goal.join_whole_slice-requires-clause-rbsp
 join_whole_slice-requires-clause-rbsp g c = (read-bytes _ _ _ _ c.in-Some.is c.requires.bytes).1
 
 pub join_whole_slice-requires-clause-goes_on : goal.join_whole_slice-requires-clause-goes_on
 join_whole_slice-requires-clause-goes_on g c =
-    let here = slice-here c.args.terms.mode c.args.bytes.now.unit.now c.args.bytes.now.header c.args.bytes.now.rbsp.now _ c.requires.header c.requires.bytes
+    let here = slice-here c.args.extent.depth c.args.bytes.now.unit.now c.args.bytes.now.header c.args.bytes.now.rbsp.now _ c.requires.header c.requires.bytes
     c.in-Some.is (is-not _ types.SequenceSet _ c.of-kind.ensures c.in_default-kind.not-SequenceSet)
     (is-not _ types.PictureSet _ c.of-kind.ensures c.in_default-kind.not-PictureSet) in
     slice-goes-on (nal_unit_type c.args.bytes.now.header) here.0
@@ -145,18 +144,18 @@ join_whole_slice-requires-clause-goes_on g c =
 pub returns-in-None-clause-joins : goal.returns-in-None-clause-joins
 unfolding joined_by
 returns-in-None-clause-joins g c = λ frames before k.
-    let here = slice-here c.args.terms.mode c.args.bytes.now.unit.now c.args.bytes.now.header c.args.bytes.now.rbsp.now _ c.requires.header c.requires.bytes
+    let here = slice-here c.args.extent.depth c.args.bytes.now.unit.now c.args.bytes.now.header c.args.bytes.now.rbsp.now _ c.requires.header c.requires.bytes
     c.in-Some.is (is-not _ types.SequenceSet _ c.of-kind.ensures c.in_default-kind.not-SequenceSet)
     (is-not _ types.PictureSet _ c.of-kind.ensures c.in_default-kind.not-PictureSet) in
-    let mode = headers-of _ c.args.terms.mode c.args.state.now.decoder c.in-None.is c.requires.kept.keeps.decoder here.1 in
-    let kept = subst (λ m. KeepsWithin m frames before (ends_picture (nal_unit_type c.args.bytes.now.header)) c.args.state.now) mode k in
+    let depth = headers-of _ c.args.extent.depth c.args.state.now.decoder c.in-None.is c.requires.kept.keeps.decoder here.1 in
+    let kept = subst (λ m. KeepsWithin m frames before (ends_picture (nal_unit_type c.args.bytes.now.header)) c.args.state.now) depth k in
     rw (
       ne_eqb _ _ (is-not _ types.SequenceSet _ c.of-kind.ensures c.in_default-kind.not-SequenceSet),
       ne_eqb _ _ (is-not _ types.PictureSet _ c.of-kind.ensures c.in_default-kind.not-PictureSet),
-      mode,
+      depth,
       slice-other (nal_unit_type c.args.bytes.now.header) before c.args.bytes.now.unit.now here.0,
     )
-    (joins-here modes.Headers _ _ frames before (ends_picture (nal_unit_type c.args.bytes.now.header)) _ _ _ _ _
+    (joins-here depths.Headers _ _ frames before (ends_picture (nal_unit_type c.args.bytes.now.header)) _ _ _ _ _
     (slice-goes-on (nal_unit_type c.args.bytes.now.header) here.0) (c.join_slice.ensures.joins frames before kept))
 
 pub returns-in-None-clause-no_memory : goal.returns-in-None-clause-no_memory
@@ -165,29 +164,29 @@ returns-in-None-clause-no_memory g c = λ frames before k m. absurd (c.join_slic
 pub returns-in-Some-decoder-clause-joins : goal.returns-in-Some-decoder-clause-joins
 unfolding joined_by
 returns-in-Some-decoder-clause-joins g c = λ frames before k.
-    let here = slice-here c.args.terms.mode c.args.bytes.now.unit.now c.args.bytes.now.header c.args.bytes.now.rbsp.now _ c.requires.header c.requires.bytes
+    let here = slice-here c.args.extent.depth c.args.bytes.now.unit.now c.args.bytes.now.header c.args.bytes.now.rbsp.now _ c.requires.header c.requires.bytes
     c.in-Some.is (is-not _ types.SequenceSet _ c.of-kind.ensures c.in_default-kind.not-SequenceSet)
     (is-not _ types.PictureSet _ c.of-kind.ensures c.in_default-kind.not-PictureSet) in
-    let mode = (some-made _ c.args.terms.mode c.args.state.now.decoder _ c.in-Some-decoder.is c.requires.kept.keeps.decoder).0 in
-    let kept = subst (λ m. KeepsWithin m frames before (ends_picture (nal_unit_type c.args.bytes.now.header)) c.args.state.now) mode k in
+    let depth = (some-made _ c.args.extent.depth c.args.state.now.decoder _ c.in-Some-decoder.is c.requires.kept.keeps.decoder).0 in
+    let kept = subst (λ m. KeepsWithin m frames before (ends_picture (nal_unit_type c.args.bytes.now.header)) c.args.state.now) depth k in
     rw (
       ne_eqb _ _ (is-not _ types.SequenceSet _ c.of-kind.ensures c.in_default-kind.not-SequenceSet),
       ne_eqb _ _ (is-not _ types.PictureSet _ c.of-kind.ensures c.in_default-kind.not-PictureSet),
-      mode,
+      depth,
       whole-other (nal_unit_type c.args.bytes.now.header) before c.args.bytes.now.unit.now here.0,
     )
-    (joins-here modes.Full _ _ frames before (ends_picture (nal_unit_type c.args.bytes.now.header)) _ _ _ _ _
+    (joins-here depths.Full _ _ frames before (ends_picture (nal_unit_type c.args.bytes.now.header)) _ _ _ _ _
     (slice-goes-on (nal_unit_type c.args.bytes.now.header) here.0) (c.join_whole_slice.ensures.joins frames before kept))
 
 pub returns-in-Some-decoder-clause-no_memory : goal.returns-in-Some-decoder-clause-no_memory
 returns-in-Some-decoder-clause-no_memory g c = λ frames before k m.
-    let here = slice-here c.args.terms.mode c.args.bytes.now.unit.now c.args.bytes.now.header c.args.bytes.now.rbsp.now _ c.requires.header c.requires.bytes
+    let here = slice-here c.args.extent.depth c.args.bytes.now.unit.now c.args.bytes.now.header c.args.bytes.now.rbsp.now _ c.requires.header c.requires.bytes
     c.in-Some.is (is-not _ types.SequenceSet _ c.of-kind.ensures c.in_default-kind.not-SequenceSet)
     (is-not _ types.PictureSet _ c.of-kind.ensures c.in_default-kind.not-PictureSet) in
-    let mode = (some-made _ c.args.terms.mode c.args.state.now.decoder _ c.in-Some-decoder.is c.requires.kept.keeps.decoder).0 in
-    let kept = subst (λ q. KeepsWithin q frames before (ends_picture (nal_unit_type c.args.bytes.now.header)) c.args.state.now) mode k in
+    let depth = (some-made _ c.args.extent.depth c.args.state.now.decoder _ c.in-Some-decoder.is c.requires.kept.keeps.decoder).0 in
+    let kept = subst (λ q. KeepsWithin q frames before (ends_picture (nal_unit_type c.args.bytes.now.header)) c.args.state.now) depth k in
     record {
-      full = mode;
+      full = depth;
       slice = subst (λ (b : ℕ). is_slice (nal_unit_type b) ≡ true) c.requires.header here.0;
       begins = c.join_whole_slice.ensures.no_memory frames before kept m;
     }

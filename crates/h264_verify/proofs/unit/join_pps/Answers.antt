@@ -9,8 +9,7 @@ use Rattle.h264_pps.specs.Pps.{pps}
 use Rattle.h264_pps.specs.declared.Pps.{Pps}
 use Rattle.h264_sets.specs.Sets.{with_pps}
 use Rattle.h264_units.specs.Stream.{NalUnit}
-use Rattle.h264_plane.specs.declared.frame.Frame.{Frame}
-use Rattle.h264_verify.specs.Telling.{took_with}
+use Rattle.h264_verify.specs.Telling.{took_with, Family}
 use Rattle.h264_verify.specs.Outcome.{Plays, structure_outcome}
 use Rattle.h264_verify.specs.Content as contents
 use Rattle.h264_units.specs.UnitTypes.{type_number}
@@ -21,7 +20,7 @@ use Rattle.h264_verify.proofs.Joining.{joins-on, joins-stops, passed-joins}
 use Rattle.h264_verify.proofs.unit.join_pps.Goals as goal
 
 -- the set is read
-set-read : {S : Type 0} (target : Target) (frames : ℕ → Frame) (took : S → List Call → Type 0) (failures : S → ℕ) (unit : NalUnit) (old new : Reader)
+set-read : {S : Type 0} (target : Target) (frames : Family) (took : S → List Call → Type 0) (failures : S → ℕ) (unit : NalUnit) (old new : Reader)
     (s s' : S) (r : Result Pps Stop) → old ≡ record { body = body_of unit; at = 0 } →
     Meets (span took failures s s') (Is (λ (x : Pps). x)) (pps target) old new r →
     Answers (span took failures s s') (Is (λ (x : Pps). x)) (pps target) old new r →
@@ -36,8 +35,8 @@ returns-in_err-set g c =
     let p = err_from_is_err_and c.from_residual.result c.from_residual.ensures.1 in
     let first = rw c.requires.rbsp at c.new-bits.ensures in
     rw (p.1, p.2) (record {
-      joins = λ frames before k. joins-stops c.args.terms.mode frames _ _ _ before c.args.unit.now (pps_outcome c.args.terms.target c.args.unit.now) _
-          contents.OfPps _ _ _ (set-read c.args.terms.target frames _ _ c.args.unit.now _ _ _ _ _ first c.in_err-set.ensures.meets
+      joins = λ frames before k. joins-stops c.args.extent.depth frames _ _ _ before c.args.unit.now (pps_outcome c.args.extent.target c.args.unit.now) _
+          contents.OfPps _ _ _ (set-read c.args.extent.target frames _ _ c.args.unit.now _ _ _ _ _ first c.in_err-set.ensures.meets
           c.in_err-set.ensures.answers);
       counts = tt;
       pictures = tt;
@@ -48,10 +47,11 @@ returns-in_err-set g c =
 pub returns-clause-joins : goal.returns-clause-joins
 returns-clause-joins g c =
     let first = rw c.requires.rbsp at c.new-bits.ensures in
-    λ frames before k. joins-on c.args.terms.mode frames _ _ _ before c.args.unit.now (pps_outcome c.args.terms.target c.args.unit.now) _ contents.OfPps _ _ _
-    _ _ (set-read c.args.terms.target frames _ _ c.args.unit.now _ _ _ _ _ first c.in_ok-set.ensures.meets c.in_ok-set.ensures.answers)
+    λ frames before k. joins-on c.args.extent.depth frames _ _ _ before c.args.unit.now (pps_outcome c.args.extent.target c.args.unit.now) _ contents.OfPps
+    _ _ _
+    _ _ (set-read c.args.extent.target frames _ _ c.args.unit.now _ _ _ _ _ first c.in_ok-set.ensures.meets c.in_ok-set.ensures.answers)
     (gives-plays _ _ (λ (u : Unit {0}). u) tt _)
-    (passed-joins c.args.terms.mode frames before c.args.unit.now (contents.OfPps c.in_ok-set.set) (type_number c.args.kind) c.args.state.now _ tt
+    (passed-joins c.args.extent.depth frames before c.args.unit.now (contents.OfPps c.in_ok-set.set) (type_number c.args.kind) c.args.state.now _ tt
     c.requires.ends c.requires.kind k c.pass.ensures.units
     (c.pass.ensures.sets ∙ c.put_pps.ensures.replaced ∙ ap (λ m. with_pps m c.in_ok-set.set) k.sets) c.pass.ensures.picture c.pass.ensures.due
     c.pass.ensures.others c.pass.ensures.decoder)

@@ -2,7 +2,7 @@ use Rattle.std.proofs.Common.{◌≡◌, [], ◌∷◌, List, Bool, true, false,
 use Rattle.std.proofs.lemmas.Bool.{true_from_ne_false}
 use Rattle.std.proofs.lemmas.Result.{err_from_is_err_and}
 use Rattle.h264_base.specs.Meets.{Reader}
-use Rattle.h264_base.specs.declared.mode.Mode.TheVariants as modes
+use Rattle.h264_verify.specs.declared.state.Depth.TheVariants as depths
 use Rattle.h264_rbsp.specs.Rbsp.{body_of}
 use Rattle.h264_header.specs.declared.header.Header.{Header}
 use Rattle.h264_pps.specs.declared.Pps.{Pps}
@@ -16,6 +16,7 @@ use Rattle.h264_near.specs.Coded.{CodedMacroblock}
 use Rattle.h264_verify.specs.Keeping.{KeepsFrames, KeepsPictures, format_in}
 use Rattle.h264_header.proofs.Entries.{where-ok}
 use Rattle.h264_verify.specs.declared.slices.Slice.{Slice}
+use Rattle.h264_verify.proofs.AgreeingUnits.{agree-none}
 use Rattle.h264_verify.proofs.Slicing.{some-of, sets-after}
 use Rattle.h264_verify.proofs.Sliced.{some-rules, goes-on-with, judges-rules, keeps-slice, sound-slice}
 use Rattle.h264_marking.specs.Ended.{numbering_of}
@@ -33,22 +34,22 @@ use Rattle.h264_verify.proofs.Memory.{answers-memory, is-another, begins-another
 use Rattle.h264_verify.proofs.unit.join_read.Goals as goal
 
 pub place_slice-requires-clause-kept : goal.place_slice-requires-clause-kept
-place_slice-requires-clause-kept g c = some-slice modes.Full c.args.state.now c.requires.kept
+place_slice-requires-clause-kept g c = some-slice depths.Full c.args.state.now c.requires.kept
 
 pub judge_rules-requires-clause-kept : goal.judge_rules-requires-clause-kept
 judge_rules-requires-clause-kept g c =
     let k = c.requires.kept in
-    some-rules modes.Full _ _ k.frames k.before c.args.unit.now c.read_header.new.header c.begins-begins.result _ _ _ _
-    (c.in_ok-place_slice.ensures.placed modes.Full k.frames k.before k.keeps.slices k.keeps.decoder)
+    some-rules depths.Full _ _ k.frames k.before c.args.unit.now c.read_header.new.header c.begins-begins.result _ _ _ _
+    (c.in_ok-place_slice.ensures.placed depths.Full k.frames k.before k.keeps.slices k.keeps.decoder)
 
 pub judge_rules-requires-clause-goes : goal.judge_rules-requires-clause-goes
 judge_rules-requires-clause-goes g c =
     let h = c.read_header.new.header in
     let same = ap (λ (s : Slice). s.header) c.in_ok-place_slice.ensures.slice in
     let k = c.requires.kept in
-    let placed = c.in_ok-place_slice.ensures.placed modes.Full k.frames k.before k.keeps.slices k.keeps.decoder in
+    let placed = c.in_ok-place_slice.ensures.placed depths.Full k.frames k.before k.keeps.slices k.keeps.decoder in
     let named = sets-after c.args.state.now.sets _ h _ c.in_ok-place_slice.ensures.sets (rw same at c.sets_named.ensures.sets) in
-    rw same (goes-on-with modes.Full _ _ k.frames k.before c.args.unit.now h c.begins-begins.result _ _ _ _ placed _ _ k.keeps.sets named
+    rw same (goes-on-with depths.Full _ _ k.frames k.before c.args.unit.now h c.begins-begins.result _ _ _ _ placed _ _ k.keeps.sets named
     c.sets_named.ensures.usable)
 
 pub unreachable-requires : goal.unreachable-requires
@@ -58,8 +59,8 @@ unreachable-requires g c =
     let k = c.requires.kept in
     let b = begins-as k.before h c.args.state.now.slices _ k.keeps.slices c.begins-begins.ensures in
     let begun = subst (λ (x : Header). c.begins-begins.result ≡ begins_at k.before x) (sym same) b in
-    let placed = c.in_ok-place_slice.ensures.placed modes.Full k.frames k.before k.keeps.slices k.keeps.decoder in
-    no-decoder _ _ c.in_default.is (c.in_ok-judge_rules.ensures.frames modes.Full placed.closes.made k.before placed.ended begun placed.closes.keeps)
+    let placed = c.in_ok-place_slice.ensures.placed depths.Full k.frames k.before k.keeps.slices k.keeps.decoder in
+    no-decoder _ _ c.in_default.is (c.in_ok-judge_rules.ensures.frames depths.Full placed.closes.made k.before placed.ended begun placed.closes.keeps)
 
 pub read_data-requires-clause-kept : goal.read_data-requires-clause-kept
 read_data-requires-clause-kept g c =
@@ -68,11 +69,11 @@ read_data-requires-clause-kept g c =
     let k = c.requires.kept in
     let b = begins-as k.before h c.args.state.now.slices _ k.keeps.slices c.begins-begins.ensures in
     let begun = subst (λ (x : Header). c.begins-begins.result ≡ begins_at k.before x) (sym same) b in
-    let placed = c.in_ok-place_slice.ensures.placed modes.Full k.frames k.before k.keeps.slices k.keeps.decoder in
+    let placed = c.in_ok-place_slice.ensures.placed depths.Full k.frames k.before k.keeps.slices k.keeps.decoder in
     let named = sets-after c.args.state.now.sets _ h _ c.in_ok-place_slice.ensures.sets (rw same at c.sets_named.ensures.sets) in
     let marked = read-marked _ _ _ _ c.args.header _ _ _ _ _ _ c.slice_unit-slice_unit.ensures c.requires.fits c.in_ok-read_header.ensures.meets in
     let entered = rw same at (c.in_ok-judge_rules.ensures.entered k.before [] placed.ended begun) in
-    let enters = rw same at (c.in_ok-judge_rules.ensures.frames modes.Full placed.closes.made k.before placed.ended begun placed.closes.keeps) in
+    let enters = rw same at (c.in_ok-judge_rules.ensures.frames depths.Full placed.closes.made k.before placed.ended begun placed.closes.keeps) in
     let s = with_sets c.args.unit.now h [] (c.sets_named.result.0.now, c.sets_named.result.1.now) in
     record {
       frames = placed.closes.made;
@@ -87,7 +88,7 @@ read_data-requires-clause-kept g c =
       };
       next = placed-first c.begins-begins.result (runs_of k.before) h placed.first;
       live = goes-newest (goes_on k.before) (runs_of k.before) h c.begins-begins.result b;
-      sound = sound-slice modes.Full _ _ k.frames k.before c.args.unit.now h c.begins-begins.result _ _ _ _ placed _ _ k.keeps.sets named b []
+      sound = sound-slice depths.Full _ _ k.frames k.before c.args.unit.now h c.begins-begins.result _ _ _ _ placed _ _ k.keeps.sets named b []
           c.judge_rules.new.slices marked c.sets_named.ensures.usable (rw same at c.in_ok-judge_rules.ensures.filled);
       typed = rw same at c.in_ok-judge_rules.ensures.typed;
       keeps = full-decoder _ _ _ c.in-Some.is enters;
@@ -99,7 +100,7 @@ returns-in_err-read_header g c =
     rw (p.1, p.2) (record {
       joins = λ frames before k. record {
         made = frames;
-        same = λ n h. refl;
+        same = agree-none _ frames;
         after = [];
         plays = slice-stops _ _ before c.args.unit.now c.read_header.new.header _ _ _ _
             (header-read frames _ _ before c.args.unit.now c.args.header _ _ c.read_header.new.header _ _ _ _ _ k.sets c.requires.header
@@ -118,9 +119,9 @@ returns-in_err-place_slice g c =
     let p = err_from_is_err_and c.from_residual-in_err-place_slice.result c.from_residual-in_err-place_slice.ensures.1 in
     rw (p.1, p.2) (record {
       joins = λ frames before k.
-          let kept = subst (λ (b : Bool). KeepsWithin modes.Full frames before b c.args.state.now) c.requires.goes_on k in
+          let kept = subst (λ (b : Bool). KeepsWithin depths.Full frames before b c.args.state.now) c.requires.goes_on k in
           let some = some-of _ c.in_ok-read_header.ensures.named in
-          let j = c.in_err-place_slice.ensures.refused modes.Full frames before some.0 kept.slices k.sets some.1 kept.decoder in
+          let j = c.in_err-place_slice.ensures.refused depths.Full frames before some.0 kept.slices k.sets some.1 kept.decoder in
           let read = header-read j.made _ _ before c.args.unit.now c.args.header _ _ h _ _ _ _ _ k.sets c.requires.header c.slice_unit-slice_unit.ensures
           c.requires.first c.in_ok-read_header.ensures.meets c.in_ok-read_header.ensures.answers in
           record {
@@ -143,13 +144,13 @@ returns-in_err-judge_rules g c =
     let p = err_from_is_err_and c.from_residual-in_err-judge_rules.result c.from_residual-in_err-judge_rules.ensures.1 in
     rw (p.1, p.2) (record {
       joins = λ frames before k.
-          let kept = subst (λ (b : Bool). KeepsWithin modes.Full frames before b c.args.state.now) c.requires.goes_on k in
+          let kept = subst (λ (b : Bool). KeepsWithin depths.Full frames before b c.args.state.now) c.requires.goes_on k in
           let b = begins-as before h c.args.state.now.slices _ kept.slices c.begins-begins.ensures in
           let begun = subst (λ (x : Header). c.begins-begins.result ≡ begins_at before x) (sym same) b in
-          let placed = c.in_ok-place_slice.ensures.placed modes.Full frames before kept.slices kept.decoder in
+          let placed = c.in_ok-place_slice.ensures.placed depths.Full frames before kept.slices kept.decoder in
           let named = sets-after c.args.state.now.sets _ h _ c.in_ok-place_slice.ensures.sets (rw same at c.sets_named.ensures.sets) in
-          let plays = rw same at (c.in_err-judge_rules.ensures.plays modes.Full placed.closes.made before placed.ended begun placed.closes.keeps) in
-          let j = judges-rules modes.Full _ _ frames before c.args.unit.now h c.begins-begins.result _ _ _ _ placed _ _ k.sets named b
+          let plays = rw same at (c.in_err-judge_rules.ensures.plays depths.Full placed.closes.made before placed.ended begun placed.closes.keeps) in
+          let j = judges-rules depths.Full _ _ frames before c.args.unit.now h c.begins-begins.result _ _ _ _ placed _ _ k.sets named b
           c.judge_rules.new.decoder _ _ plays tt in
           let read = header-read j.made _ _ before c.args.unit.now c.args.header _ _ h _ _ _ _ _ k.sets c.requires.header c.slice_unit-slice_unit.ensures
           c.requires.first c.in_ok-read_header.ensures.meets c.in_ok-read_header.ensures.answers in
@@ -173,17 +174,17 @@ returns-clause-joins g c = λ frames before k.
     let unit = c.args.unit.now in
     let sets : Pps × Sps = (c.sets_named.result.0.now, c.sets_named.result.1.now) in
     let s = with_sets unit h [] sets in
-    let kept = subst (λ (b : Bool). KeepsWithin modes.Full frames before b c.args.state.now) c.requires.goes_on k in
+    let kept = subst (λ (b : Bool). KeepsWithin depths.Full frames before b c.args.state.now) c.requires.goes_on k in
     let b = begins-as before h c.args.state.now.slices _ kept.slices c.begins-begins.ensures in
     let begun = subst (λ (x : Header). c.begins-begins.result ≡ begins_at before x) (sym same) b in
-    let placed = c.in_ok-place_slice.ensures.placed modes.Full frames before kept.slices kept.decoder in
+    let placed = c.in_ok-place_slice.ensures.placed depths.Full frames before kept.slices kept.decoder in
     let named = sets-after c.args.state.now.sets _ h _ c.in_ok-place_slice.ensures.sets (rw same at c.sets_named.ensures.sets) in
     let usable = c.sets_named.ensures.usable in
     let marked = read-marked _ _ _ _ c.args.header _ _ _ _ _ _ c.slice_unit-slice_unit.ensures c.requires.fits c.in_ok-read_header.ensures.meets in
-    let plays = rw same at (c.in_ok-judge_rules.ensures.plays modes.Full placed.closes.made before placed.ended begun placed.closes.keeps) in
-    let enters = rw same at (c.in_ok-judge_rules.ensures.frames modes.Full placed.closes.made before placed.ended begun placed.closes.keeps) in
+    let plays = rw same at (c.in_ok-judge_rules.ensures.plays depths.Full placed.closes.made before placed.ended begun placed.closes.keeps) in
+    let enters = rw same at (c.in_ok-judge_rules.ensures.frames depths.Full placed.closes.made before placed.ended begun placed.closes.keeps) in
     let filled = rw same at c.in_ok-judge_rules.ensures.filled in
-    let j = judges-rules modes.Full _ _ frames before unit h c.begins-begins.result _ _ _ _ placed _ _ k.sets named b c.judge_rules.new.decoder _ _ plays
+    let j = judges-rules depths.Full _ _ frames before unit h c.begins-begins.result _ _ _ _ placed _ _ k.sets named b c.judge_rules.new.decoder _ _ plays
     enters in
     let first = c.requires.first in
     let read = header-read j.made _ _ before unit c.args.header _ _ h _ _ _ _ _ k.sets c.requires.header c.slice_unit-slice_unit.ensures first
@@ -217,9 +218,9 @@ returns-clause-joins g c = λ frames before k.
       keeps = where-ok c.read_data.result (λ kept_on. record {
         units = units-with before (record { unit = unit; content = contents.OfSlice h d.macroblocks }) _ _ refl (c.in_ok-place_slice.ensures.units ∙ k.units);
         sets = c.in_ok-place_slice.ensures.sets ∙ ap (λ m. maps_with m (contents.OfSlice h d.macroblocks)) k.sets;
-        slices = keeps-slice modes.Full _ _ frames before unit h c.begins-begins.result _ _ _ _ placed _ _ k.sets named b d.macroblocks
+        slices = keeps-slice depths.Full _ _ frames before unit h c.begins-begins.result _ _ _ _ placed _ _ k.sets named b d.macroblocks
             c.judge_rules.new.slices marked usable (entered d.macroblocks) c.in_ok-judge_rules.ensures.due filled;
-        decoder = full-made _ modes.Full c.read_data.new.decoder refl
+        decoder = full-made _ depths.Full c.read_data.new.decoder refl
             (subst (λ (ps : List CodedPicture). KeepsFrames j.made true false ps c.read_data.new.decoder)
             (runs-with before unit h d.macroblocks _ _ sets b k.sets named) kept_on);
       }) d.keeps;
@@ -230,7 +231,7 @@ returns-clause-no_memory g c = λ frames before k m.
     let h = c.read_header.new.header in
     let same = ap (λ (s : Slice). s.header) c.in_ok-place_slice.ensures.slice in
     let sets : Pps × Sps = (c.sets_named.result.0.now, c.sets_named.result.1.now) in
-    let kept = subst (λ (b : Bool). KeepsWithin modes.Full frames before b c.args.state.now) c.requires.goes_on k in
+    let kept = subst (λ (b : Bool). KeepsWithin depths.Full frames before b c.args.state.now) c.requires.goes_on k in
     let named = sets-after c.args.state.now.sets _ h _ c.in_ok-place_slice.ensures.sets (rw same at c.sets_named.ensures.sets) in
     let b = begins-as before h c.args.state.now.slices _ kept.slices c.begins-begins.ensures in
     let begun = true_from_ne_false _ (λ e. c.read_data.ensures.no_memory e m) in

@@ -22,19 +22,19 @@ check-err false rule bit e h = cc
 
 pub close_if-requires-clause-kept : goal.close_if-requires-clause-kept
 close_if-requires-clause-kept g c = let k = c.requires.kept in
-    record { mode = c.args.mode; frames = k.frames; before = k.before; slices_are = k.keeps.slices; keeps = k.keeps.decoder }
+    record { depth = c.args.depth; frames = k.frames; before = k.before; slices_are = k.keeps.slices; keeps = k.keeps.decoder }
 
 pub finish_frames-requires-clause-kept : goal.finish_frames-requires-clause-kept
 finish_frames-requires-clause-kept g c =
     let k = c.requires.kept in
-    let e = c.in_ok-close_if.ensures.closes c.args.mode k.frames k.before k.keeps.slices k.keeps.decoder in
+    let e = c.in_ok-close_if.ensures.closes c.args.depth k.frames k.before k.keeps.slices k.keeps.decoder in
     record {
-      mode = c.args.mode;
+      depth = c.args.depth;
       frames = e.made;
       turn = after_all (runs_of k.before);
       next = length (runs_of k.before);
       few = omega (arith, k.keeps.slices.kept.pictures_are, c.requires.pictures, c.requires.units);
-      keeps = ended-gap c.args.mode e.made (goes_on k.before) (runs_of k.before) _ e.keeps;
+      keeps = ended-gap c.args.depth e.made (goes_on k.before) (runs_of k.before) _ e.keeps;
     }
 
 pub returns-in_err-close_if : goal.returns-in_err-close_if
@@ -42,8 +42,8 @@ returns-in_err-close_if g c =
     let p = err_from_is_err_and c.from_residual.result c.from_residual.ensures.1 in
     rw (p.1, p.2) (record {
       ends = λ frames before k.
-          let e = c.in_err-close_if.ensures.closes c.args.mode frames before k.slices k.decoder in
-          record { made = e.made; same = e.same; plays = end-stops _ _ c.args.mode before c.args.bit _ _ _ e.plays };
+          let e = c.in_err-close_if.ensures.closes c.args.depth frames before k.slices k.decoder in
+          record { made = e.made; same = e.same; plays = end-stops _ _ c.args.depth before c.args.bit _ _ _ e.plays };
       no_memory = error-as _ c.in_err-close_if.ensures.no_memory;
     })
 
@@ -53,15 +53,15 @@ returns-in_err-check g c =
     rw (p.1, p.2) (record {
       ends = λ frames before k.
           let ended = c.in_ok-close_if.ensures.ended before k.slices in
-          let e = c.in_ok-close_if.ensures.closes c.args.mode frames before k.slices k.decoder in
+          let e = c.in_ok-close_if.ensures.closes c.args.depth frames before k.slices k.decoder in
           let met = rw (c.has_pictures.ensures (runs_of before) ended.kept.pictures_are) at c.in_err-check.ensures in
-          let ds = picture_demand c.args.mode before c.args.bit ∷ [] in
+          let ds = picture_demand c.args.depth before c.args.bit ∷ [] in
           record {
             made = e.made;
             same = e.same;
             plays =
-                end-broken _ _ c.args.mode before c.args.bit _ _ _ _ e.plays _
-                (plays-as _ _ (λ x. x) _ _ _ _ _ (needs-err ds (last_frames c.args.mode (runs_of before)) _ (sym met))
+                end-broken _ _ c.args.depth before c.args.bit _ _ _ _ e.plays _
+                (plays-as _ _ (λ x. x) _ _ _ _ _ (needs-err ds (last_frames c.args.depth (runs_of before)) _ (sym met))
                 (answers-plays _ _ _ _ (named-by _ _ _ (check-err _ _ _ _ c.in_err-check.ensures))));
           };
       no_memory = named-memory _ (named-by _ _ _ (check-err _ _ _ _ c.in_err-check.ensures));
@@ -73,17 +73,17 @@ returns-in_err-finish_frames g c =
     rw (p.1, p.2) (record {
       ends = λ frames before k.
           let ended = c.in_ok-close_if.ensures.ended before k.slices in
-          let e = c.in_ok-close_if.ensures.closes c.args.mode frames before k.slices k.decoder in
+          let e = c.in_ok-close_if.ensures.closes c.args.depth frames before k.slices k.decoder in
           let met = rw (c.has_pictures.ensures (runs_of before) ended.kept.pictures_are) at c.in_ok-check.ensures in
-          let ds = picture_demand c.args.mode before c.args.bit ∷ [] in
-          let gap = ended-gap c.args.mode e.made (goes_on before) (runs_of before) _ e.keeps in
+          let ds = picture_demand c.args.depth before c.args.bit ∷ [] in
+          let gap = ended-gap c.args.depth e.made (goes_on before) (runs_of before) _ e.keeps in
           record {
             made = e.made;
             same = e.same;
             plays =
-                end-broken _ _ c.args.mode before c.args.bit _ _ _ _ e.plays _
-                (plays-as _ _ (λ x. x) _ _ _ _ _ (needs-ok ds (last_frames c.args.mode (runs_of before)) _ (sym met))
-                (c.in_err-finish_frames.ensures.plays c.args.mode e.made (after_all (runs_of before)) (length (runs_of before)) gap));
+                end-broken _ _ c.args.depth before c.args.bit _ _ _ _ e.plays _
+                (plays-as _ _ (λ x. x) _ _ _ _ _ (needs-ok ds (last_frames c.args.depth (runs_of before)) _ (sym met))
+                (c.in_err-finish_frames.ensures.plays c.args.depth e.made (after_all (runs_of before)) (length (runs_of before)) gap));
           };
       no_memory = λ m. write-alone _ c.in_err-finish_frames.ensures.no_memory m;
     })
@@ -92,19 +92,19 @@ pub returns : goal.returns
 returns g c = record {
   ends = λ frames before k.
       let ended = c.in_ok-close_if.ensures.ended before k.slices in
-      let e = c.in_ok-close_if.ensures.closes c.args.mode frames before k.slices k.decoder in
+      let e = c.in_ok-close_if.ensures.closes c.args.depth frames before k.slices k.decoder in
       let met = rw (c.has_pictures.ensures (runs_of before) ended.kept.pictures_are) at c.in_ok-check.ensures in
-      let ds = picture_demand c.args.mode before c.args.bit ∷ [] in
-      let gap = ended-gap c.args.mode e.made (goes_on before) (runs_of before) _ e.keeps in
-      let written = c.frames_told.ensures c.args.mode (runs_of before)
-      (c.in_ok-finish_frames.ensures.written c.args.mode e.made (after_all (runs_of before)) (length (runs_of before)) gap) in
+      let ds = picture_demand c.args.depth before c.args.bit ∷ [] in
+      let gap = ended-gap c.args.depth e.made (goes_on before) (runs_of before) _ e.keeps in
+      let written = c.frames_told.ensures c.args.depth (runs_of before)
+      (c.in_ok-finish_frames.ensures.written c.args.depth e.made (after_all (runs_of before)) (length (runs_of before)) gap) in
       record {
         made = e.made;
         same = e.same;
         plays =
-            end-gives _ _ c.args.mode before c.args.bit _ _ _ _ e.plays _ _
-            (plays-as _ _ (λ x. x) _ _ _ _ _ (needs-ok ds (last_frames c.args.mode (runs_of before)) _ (sym met))
-            (c.in_ok-finish_frames.ensures.plays c.args.mode e.made (after_all (runs_of before)) (length (runs_of before)) gap))
+            end-gives _ _ c.args.depth before c.args.bit _ _ _ _ e.plays _ _
+            (plays-as _ _ (λ x. x) _ _ _ _ _ (needs-ok ds (last_frames c.args.depth (runs_of before)) _ (sym met))
+            (c.in_ok-finish_frames.ensures.plays c.args.depth e.made (after_all (runs_of before)) (length (runs_of before)) gap))
             (rw (k.units, ended.kept.pictures_are, written) refl);
       };
   no_memory = λ m. cc;

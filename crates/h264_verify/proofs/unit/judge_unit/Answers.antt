@@ -1,13 +1,12 @@
-use Rattle.std.proofs.Common.{◌≡◌, Option, ℕ, ◌-◌, ◌*◌, ◌<◌, ◌^◌, [], Bool, List, Result, Ok, Err, refl, ap, sym, ◌∙◌, subst, length}
+use Rattle.std.proofs.Common.{◌≡◌, Option, ℕ, ◌-◌, ◌*◌, ◌<◌, ◌^◌, [], Bool, List, Result, Ok, Err, ap, sym, ◌∙◌, subst, length}
 use Rattle.h264_base.specs.declared.stop.Stop.{Stop}
 use Rattle.h264_base.specs.Call.{Call, span}
-use Rattle.h264_plane.specs.declared.frame.Frame.{Frame}
 use Rattle.h264_units.specs.Stream.{NalUnit}
 use Rattle.h264_rbsp.specs.Emulation.{emulation_checked}
 use Rattle.h264_verify.specs.declared.state.State.{State}
-use Rattle.h264_verify.specs.declared.state.Terms.{Terms}
+use Rattle.h264_verify.specs.declared.state.Extent.{Extent}
 use Rattle.h264_verify.specs.declared.decoder.Decoder.{Decoder}
-use Rattle.h264_verify.specs.Telling.{Said, took_with, frame_span}
+use Rattle.h264_verify.specs.Telling.{Said, took_with, frame_span, Family}
 use Rattle.h264_verify.specs.Demands.{judged}
 use Rattle.h264_verify.specs.History.{History}
 use Rattle.h264_verify.specs.Framing.{EndsFrames, closing}
@@ -22,6 +21,7 @@ use Rattle.h264_verify.specs.Keeping.{ended_pictures, ended_in, close_steps}
 use Rattle.h264_verify.specs.Units.{unit_call}
 use Rattle.h264_verify.specs.StepOutcome.{steps_outcome}
 use Rattle.h264_verify.specs.UnitOutcome.{joined_by, unit_by_steps}
+use Rattle.h264_verify.proofs.AgreeingUnits.{agree-none}
 use Rattle.h264_verify.proofs.AgreeingUnits.{agree-less, agree-then, plays-agree}
 use Rattle.h264_verify.proofs.Playing.{answer-stops, answer-on, plays-stops, plays-on, named-by}
 use Rattle.h264_verify.proofs.Joining.{within}
@@ -33,7 +33,7 @@ use Rattle.h264_verify.proofs.unit.judge_unit.Goals as goal
 use Rattle.h264_cavlc.proofs.Loops.{quiet-after}
 
 -- a unit that is sound, part by part
-module _ {S : Type 0} (terms : Terms) (took : S → List Call → Type 0) (failures : S → ℕ) (frames : ℕ → Frame) (before : History) (unit : NalUnit) where
+module _ {S : Type 0} (extent : Extent) (took : S → List Call → Type 0) (failures : S → ℕ) (frames : Family) (before : History) (unit : NalUnit) where
   abbrev kind : ℕ
   kind = nal_unit_type (header_of unit)
 
@@ -43,24 +43,24 @@ module _ {S : Type 0} (terms : Terms) (took : S → List Call → Type 0) (failu
   turns-by : (mid : Option Decoder) (new : State) (s0 s1 s2 s3 : S) (x y z w : Unit {0}) (r : Result (Unit {0}) Stop) →
       (let a : Result (Unit {0}) Stop = Ok x in a ≡ emulation_checked unit.from unit.body) →
       (let a : Result (Unit {0}) Stop = Ok y in a ≡ judged (header_demands (8 * unit.from) (header_of unit))) →
-      ((made : ℕ → Frame) → Plays (span (took_with made took) failures s0 s1) (λ (q : Unit {0}). q)
+      ((made : Family) → Plays (span (took_with made took) failures s0 s1) (λ (q : Unit {0}). q)
       (tells (Said (unit_call unit.from (header_of unit) (length unit.body)))) (Ok z)) →
-      (e : EndsFrames terms.mode (frame_span took failures frames s1 s2) (closing (goes_on before) ends (runs_of before))
-      (steps_outcome (close_steps terms.mode ends before)) mid (Ok w)) →
-      Joins {X = Unit {0}} terms.mode (frame_span took failures e.made s2 s3) (length (ended_pictures (goes_on before) ends (runs_of before)))
-      (joined_by terms kind before unit) new r → Turns {X = Unit {0}} terms (frame_span took failures frames s0 s3) before unit new r
+      (e : EndsFrames extent.depth (frame_span took failures frames s1 s2) (closing (goes_on before) ends (runs_of before))
+      (steps_outcome (close_steps extent.depth ends before)) mid (Ok w)) →
+      Joins {X = Unit {0}} extent.depth (frame_span took failures e.made s2 s3) (length (ended_pictures (goes_on before) ends (runs_of before)))
+      (joined_by extent kind before unit) new r → Turns {X = Unit {0}} extent (frame_span took failures frames s0 s3) before unit new r
   unfolding unit_by_steps
   turns-by mid new s0 s1 s2 s3 x y z w r sound header told e j =
       let n = length (ended_pictures (goes_on before) ends (runs_of before)) in
-      let ended = plays-agree took n e.made j.made failures (λ (q : Unit {0}). q) (steps_outcome (close_steps terms.mode ends before)) s1 s2 (Ok w) j.same
-      (closing-all ends terms.mode before) e.plays in
+      let ended = plays-agree took n e.made j.made failures (λ (q : Unit {0}). q) (steps_outcome (close_steps extent.depth ends before)) s1 s2 (Ok w) j.same
+      (closing-all ends extent.depth before) e.plays in
       let view : Unit {0} → History = λ q. j.after in
       record {
         made = j.made;
         same = agree-then (ended_in before) frames e.made j.made e.same
             (agree-less (ended_in before) n e.made j.made (ended-grows (goes_on before) ends (runs_of before)) j.same);
         after = j.after;
-        plays = plays-course (took_with j.made took) failures view terms before unit s0 s3 r
+        plays = plays-course (took_with j.made took) failures view extent before unit s0 s3 r
             (answer-on (took_with j.made took) failures view _ _ s0 s3 x r (ap answers (sym sound))
             (answer-on (took_with j.made took) failures view _ _ s0 s3 y r (ap answers (sym header))
             (plays-on (took_with j.made took) failures (λ (q : Unit {0}). q) view _ _ s0 s1 s3 z r (told j.made)
@@ -70,28 +70,28 @@ module _ {S : Type 0} (terms : Terms) (took : S → List Call → Type 0) (failu
 
   -- a unit that stops at its bytes, at its header, at the sink, or at the end of the picture before it
   stops-sound : (new : State) (s : S) (e : Stop) → (let a : Result (Unit {0}) Stop = Err e in a ≡ emulation_checked unit.from unit.body) → IsNamed e →
-      Turns {X = Unit {0}} terms (frame_span took failures frames s s) before unit new (Err e)
+      Turns {X = Unit {0}} extent (frame_span took failures frames s s) before unit new (Err e)
   unfolding unit_by_steps
   stops-sound new s e sound named = record {
     made = frames;
-    same = λ n h. refl;
+    same = agree-none _ frames;
     after = [];
-    plays = plays-course (took_with frames took) failures (λ (q : Unit {0}). []) terms before unit s s (Err e)
+    plays = plays-course (took_with frames took) failures (λ (q : Unit {0}). []) extent before unit s s (Err e)
         (answer-stops (took_with frames took) failures (λ (q : Unit {0}). []) _ _ s e (ap answers (sym sound)) named);
     keeps = tt;
   }
 
   stops-header : (new : State) (s : S) (x : Unit {0}) (e : Stop) → (let a : Result (Unit {0}) Stop = Ok x in a ≡ emulation_checked unit.from unit.body) →
       (let a : Result (Unit {0}) Stop = Err e in a ≡ judged (header_demands (8 * unit.from) (header_of unit))) →
-      Turns {X = Unit {0}} terms (frame_span took failures frames s s) before unit new (Err e)
+      Turns {X = Unit {0}} extent (frame_span took failures frames s s) before unit new (Err e)
   unfolding unit_by_steps
   stops-header new s x e sound header =
       let view : Unit {0} → History = λ q. [] in
       record {
         made = frames;
-        same = λ n h. refl;
+        same = agree-none _ frames;
         after = [];
-        plays = plays-course (took_with frames took) failures view terms before unit s s (Err e)
+        plays = plays-course (took_with frames took) failures view extent before unit s s (Err e)
             (answer-on (took_with frames took) failures view _ _ s s x (Err e) (ap answers (sym sound))
             (answer-stops (took_with frames took) failures view _ _ s e (ap answers (sym header))
             (err-named (header_demands (8 * unit.from) (header_of unit)) e (sym header))));
@@ -101,15 +101,15 @@ module _ {S : Type 0} (terms : Terms) (took : S → List Call → Type 0) (failu
   stops-told : (new : State) (s s' : S) (x y : Unit {0}) (e : Stop) → (let a : Result (Unit {0}) Stop = Ok x in a ≡ emulation_checked unit.from unit.body) →
       (let a : Result (Unit {0}) Stop = Ok y in a ≡ judged (header_demands (8 * unit.from) (header_of unit))) →
       Plays (span (took_with frames took) failures s s') (λ (q : Unit {0}). q) (tells (Said (unit_call unit.from (header_of unit) (length unit.body))))
-      (Err e) → Turns {X = Unit {0}} terms (frame_span took failures frames s s') before unit new (Err e)
+      (Err e) → Turns {X = Unit {0}} extent (frame_span took failures frames s s') before unit new (Err e)
   unfolding unit_by_steps
   stops-told new s s' x y e sound header told =
       let view : Unit {0} → History = λ q. [] in
       record {
         made = frames;
-        same = λ n h. refl;
+        same = agree-none _ frames;
         after = [];
-        plays = plays-course (took_with frames took) failures view terms before unit s s' (Err e)
+        plays = plays-course (took_with frames took) failures view extent before unit s s' (Err e)
             (answer-on (took_with frames took) failures view _ _ s s' x (Err e) (ap answers (sym sound))
             (answer-on (took_with frames took) failures view _ _ s s' y (Err e) (ap answers (sym header))
             (plays-stops (took_with frames took) failures (λ (q : Unit {0}). q) view _ _ s s' e told)));
@@ -119,11 +119,11 @@ module _ {S : Type 0} (terms : Terms) (took : S → List Call → Type 0) (failu
   stops-closing : (mid : Option Decoder) (new : State) (s0 s1 s2 : S) (x y z : Unit {0}) (stop : Stop) →
       (let a : Result (Unit {0}) Stop = Ok x in a ≡ emulation_checked unit.from unit.body) →
       (let a : Result (Unit {0}) Stop = Ok y in a ≡ judged (header_demands (8 * unit.from) (header_of unit))) →
-      ((made : ℕ → Frame) → Plays (span (took_with made took) failures s0 s1) (λ (q : Unit {0}). q)
+      ((made : Family) → Plays (span (took_with made took) failures s0 s1) (λ (q : Unit {0}). q)
       (tells (Said (unit_call unit.from (header_of unit) (length unit.body)))) (Ok z)) →
-      EndsFrames terms.mode (frame_span took failures frames s1 s2) (closing (goes_on before) ends (runs_of before))
-      (steps_outcome (close_steps terms.mode ends before)) mid (Err stop) →
-      Turns {X = Unit {0}} terms (frame_span took failures frames s0 s2) before unit new (Err stop)
+      EndsFrames extent.depth (frame_span took failures frames s1 s2) (closing (goes_on before) ends (runs_of before))
+      (steps_outcome (close_steps extent.depth ends before)) mid (Err stop) →
+      Turns {X = Unit {0}} extent (frame_span took failures frames s0 s2) before unit new (Err stop)
   unfolding unit_by_steps
   stops-closing mid new s0 s1 s2 x y z stop sound header told e =
       let view : Unit {0} → History = λ q. [] in
@@ -131,7 +131,7 @@ module _ {S : Type 0} (terms : Terms) (took : S → List Call → Type 0) (failu
         made = e.made;
         same = e.same;
         after = [];
-        plays = plays-course (took_with e.made took) failures view terms before unit s0 s2 (Err stop)
+        plays = plays-course (took_with e.made took) failures view extent before unit s0 s2 (Err stop)
             (answer-on (took_with e.made took) failures view _ _ s0 s2 x (Err stop) (ap answers (sym sound))
             (answer-on (took_with e.made took) failures view _ _ s0 s2 y (Err stop) (ap answers (sym header))
             (plays-on (took_with e.made took) failures (λ (q : Unit {0}). q) view _ _ s0 s1 s2 z (Err stop) (told e.made)
@@ -155,17 +155,17 @@ returns-clause-kept g c = quiet-after c.join.result _ _ _ (c.in_ok-close_if.ensu
 
 pub close_if-requires-clause-kept : goal.close_if-requires-clause-kept
 close_if-requires-clause-kept g c = let k = c.requires.kept in
-    record { mode = c.args.terms.mode; frames = k.frames; before = k.before; slices_are = k.keeps.slices; keeps = k.keeps.decoder }
+    record { depth = c.args.extent.depth; frames = k.frames; before = k.before; slices_are = k.keeps.slices; keeps = k.keeps.decoder }
 
 pub join-requires-clause-kept : goal.join-requires-clause-kept
 join-requires-clause-kept g c =
     let k = c.requires.kept in
     let ended = c.in_ok-close_if.ensures.ended k.before k.keeps.slices in
-    let e = c.in_ok-close_if.ensures.closes c.args.terms.mode k.frames k.before k.keeps.slices k.keeps.decoder in
+    let e = c.in_ok-close_if.ensures.closes c.args.extent.depth k.frames k.before k.keeps.slices k.keeps.decoder in
     record {
       frames = e.made;
       before = k.before;
-      keeps = within {mode = c.args.terms.mode} {frames = k.frames} {made = e.made} {before = k.before} c.args.state.now c.close_if.new.slices
+      keeps = within {depth = c.args.extent.depth} {frames = k.frames} {made = e.made} {before = k.before} c.args.state.now c.close_if.new.slices
           c.close_if.new.decoder k.keeps (rw (c.ends_picture-ends.ensures, c.of.ensures) at ended) (rw (c.ends_picture-ends.ensures, c.of.ensures) at e.keeps);
     }
 
@@ -173,21 +173,21 @@ pub returns-in_err-check_emulation-clause-turns : goal.returns-in_err-check_emul
 returns-in_err-check_emulation-clause-turns g c =
     let p = err_from_is_err_and c.from_residual.result c.from_residual.ensures.1 in
     let n = c.in_err-check_emulation.ensures.err in
-    rw (p.1, p.2) (λ frames before k. stops-sound c.args.terms _ _ frames before c.args.unit.now _ _ _ c.in_err-check_emulation.ensures.value
+    rw (p.1, p.2) (λ frames before k. stops-sound c.args.extent _ _ frames before c.args.unit.now _ _ _ c.in_err-check_emulation.ensures.value
     (named-by _ _ _ n.1))
 
 pub returns-in_err-check_header-clause-turns : goal.returns-in_err-check_header-clause-turns
 returns-in_err-check_header-clause-turns g c =
     let p = err_from_is_err_and c.from_residual-in_err-check_header.result c.from_residual-in_err-check_header.ensures.1 in
     let header = rw (c.from-from.ensures.value, c.body-body.ensures.value) at c.in_err-check_header.ensures in
-    rw (p.1, p.2) (λ frames before k. stops-header c.args.terms _ _ frames before c.args.unit.now _ _ _ _ c.in_ok-check_emulation.ensures.value header)
+    rw (p.1, p.2) (λ frames before k. stops-header c.args.extent _ _ frames before c.args.unit.now _ _ _ _ c.in_ok-check_emulation.ensures.value header)
 
 pub returns-in_err-tell_unit-clause-turns : goal.returns-in_err-tell_unit-clause-turns
 returns-in_err-tell_unit-clause-turns g c =
     let p = err_from_is_err_and c.from_residual-in_err-tell_unit.result c.from_residual-in_err-tell_unit.ensures.1 in
     let header = rw (c.from-from.ensures.value, c.body-body.ensures.value) at c.in_ok-check_header.ensures in
     let says = rw (c.from-from.ensures.value, c.body-body.ensures.value) at c.in_err-tell_unit.ensures.plays in
-    rw (p.1, p.2) (λ frames before k. stops-told c.args.terms _ _ frames before c.args.unit.now _ _ _ _ _ _ c.in_ok-check_emulation.ensures.value header
+    rw (p.1, p.2) (λ frames before k. stops-told c.args.extent _ _ frames before c.args.unit.now _ _ _ _ _ _ c.in_ok-check_emulation.ensures.value header
     (says frames))
 
 pub returns-in_err-close_if-clause-turns : goal.returns-in_err-close_if-clause-turns
@@ -196,8 +196,8 @@ returns-in_err-close_if-clause-turns g c =
     let header = rw (c.from-from.ensures.value, c.body-body.ensures.value) at c.in_ok-check_header.ensures in
     let says = rw (c.from-from.ensures.value, c.body-body.ensures.value) at c.in_ok-tell_unit.ensures.plays in
     let closes = rw (c.ends_picture-ends.ensures, c.of.ensures, c.body-body.ensures.value) at c.in_err-close_if.ensures.closes in
-    rw (p.1, p.2) (λ frames before k. stops-closing c.args.terms _ _ frames before c.args.unit.now _ _ _ _ _ _ _ _ _ c.in_ok-check_emulation.ensures.value
-    header says (closes c.args.terms.mode frames before k.slices k.decoder))
+    rw (p.1, p.2) (λ frames before k. stops-closing c.args.extent _ _ frames before c.args.unit.now _ _ _ _ _ _ _ _ _ c.in_ok-check_emulation.ensures.value
+    header says (closes c.args.extent.depth frames before k.slices k.decoder))
 
 pub returns-clause-turns : goal.returns-clause-turns
 returns-clause-turns g c =
@@ -207,10 +207,10 @@ returns-clause-turns g c =
     let joins = rw c.body-body.ensures.value at c.join.ensures.joins in
     λ frames before k.
     let slices = rw (c.ends_picture-ends.ensures, c.of.ensures, c.body-body.ensures.value) at (c.in_ok-close_if.ensures.ended before k.slices) in
-    let e = closes c.args.terms.mode frames before k.slices k.decoder in
-    let j = joins e.made before (within {mode = c.args.terms.mode} {frames = frames} {made = e.made} {before = before} c.args.state.now c.close_if.new.slices
+    let e = closes c.args.extent.depth frames before k.slices k.decoder in
+    let j = joins e.made before (within {depth = c.args.extent.depth} {frames = frames} {made = e.made} {before = before} c.args.state.now c.close_if.new.slices
     c.close_if.new.decoder k slices e.keeps) in
-    turns-by c.args.terms _ _ frames before c.args.unit.now _ _ _ _ _ _ _ _ _ _ _ c.in_ok-check_emulation.ensures.value header says e j
+    turns-by c.args.extent _ _ frames before c.args.unit.now _ _ _ _ _ _ _ _ _ _ _ c.in_ok-check_emulation.ensures.value header says e j
 
 pub returns-in_err-check_emulation-clause-no_memory : goal.returns-in_err-check_emulation-clause-no_memory
 returns-in_err-check_emulation-clause-no_memory g c =
@@ -241,6 +241,6 @@ returns-clause-no_memory g c =
     let joins = rw c.body-body.ensures.value at c.join.ensures.no_memory in
     λ frames before k m.
     let slices = rw (c.ends_picture-ends.ensures, c.of.ensures, c.body-body.ensures.value) at (c.in_ok-close_if.ensures.ended before k.slices) in
-    let e = closes c.args.terms.mode frames before k.slices k.decoder in
-    joins e.made before (within {mode = c.args.terms.mode} {frames = frames} {made = e.made} {before = before} c.args.state.now c.close_if.new.slices
+    let e = closes c.args.extent.depth frames before k.slices k.decoder in
+    joins e.made before (within {depth = c.args.extent.depth} {frames = frames} {made = e.made} {before = before} c.args.state.now c.close_if.new.slices
     c.close_if.new.decoder k slices e.keeps) m

@@ -1,6 +1,7 @@
 use Rattle.std.proofs.Common.{ap, ◌∙◌, map}
 use Rattle.h264_marking.specs.declared.frame.ReferenceFrame.{ReferenceFrame}
 use Rattle.h264_dpb.proofs.Answering.{miss-room, missed-writes, missed-keeps, missed-frames, missed-ordered}
+use Rattle.h264_dpb.proofs.OutputSteps.{passed-over}
 use Rattle.h264_dpb.proofs.output.Output.miss.Goals as goal
 
 pub put-requires-clause-few : goal.put-requires-clause-few
@@ -28,3 +29,6 @@ pub returns-clause-ordered : goal.returns-clause-ordered
 returns-clause-ordered g c = missed-ordered g.S.Elements.took g.S.Elements.failures (g.F.FrameStore.lent c.args.store.now) c.missing-stored.result
     c.args.self.now c.put.new.self c.args.sink.now c.put.new.sink c.put.result c.missing-stored.ensures.kind c.put.ensures.steps c.put.ensures.within
     c.put.ensures.frames
+
+pub returns-clause-passes : goal.returns-clause-passes
+returns-clause-passes g c = λ n. passed-over g.S.Elements.took g.S.Elements.failures (g.F.FrameStore.lent c.args.store.now) _ _ _ _ _ n c.put.ensures.steps

@@ -1,6 +1,7 @@
 use Rattle.std.proofs.Common.{ap, ◌∙◌, map}
 use Rattle.h264_marking.specs.declared.frame.ReferenceFrame.{ReferenceFrame}
 use Rattle.h264_dpb.proofs.Answering.{stored-as, store-room, store-writes, store-keeps, store-frames, store-ordered}
+use Rattle.h264_dpb.proofs.OutputSteps.{passed-over}
 use Rattle.h264_dpb.proofs.output.Output.store.Goals as goal
 
 pub put-requires-clause-few : goal.put-requires-clause-few
@@ -44,3 +45,6 @@ returns-clause-ordered g c =
     store-ordered g.S.Elements.took g.S.Elements.failures (g.F.FrameStore.lent c.args.store.now) c.args.picture.now c.args.place c.args.held.now
     c.stored_at-stored.result c.args.self.now c.put.new.self c.args.sink.now c.put.new.sink c.put.result s c.put.ensures.steps c.put.ensures.within
     c.put.ensures.frames c.requires.ordered
+
+pub returns-clause-passes : goal.returns-clause-passes
+returns-clause-passes g c = λ n. passed-over g.S.Elements.took g.S.Elements.failures (g.F.FrameStore.lent c.args.store.now) _ _ _ _ _ n c.put.ensures.steps

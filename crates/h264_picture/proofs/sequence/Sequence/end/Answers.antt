@@ -1,9 +1,12 @@
+use Rattle.std.proofs.Common.{◌≡◌, Option, Some, ap, ◌∙◌}
+use Rattle.h264_picture.specs.declared.canvas.Canvas.{Canvas}
+use Rattle.h264_picture.specs.Lent.{lent_within, written_place}
 use Rattle.h264_picture.proofs.Made.{whole-made}
-use Rattle.h264_picture.proofs.Sound.{same-frames}
 use Rattle.h264_picture.proofs.sequence.Sequence.end.Goals as goal
 
-pub invariant_of-self-clause-sound : goal.invariant_of-self-clause-sound
-invariant_of-self-clause-sound c = same-frames _ _ _ _ _ _ (c.end.ensures.size _ _ c.args.self.now.sound.frames) c.end.ensures.count c.args.self.now.sound
-
-pub returns-clause-decoded : goal.returns-clause-decoded
-returns-clause-decoded c width size making picture h n = whole-made width size making picture c.args.self.now _ h n c.end.ensures.lent
+pub returns-in-Some-clause-decoded : goal.returns-in-Some-clause-decoded
+returns-in-Some-clause-decoded c width size making picture h n = whole-made width size making picture c.args.self.now _ h n
+    (λ k e.
+    let same : c.in-Some.canvas ≡ k = cc (c.in-Some.is, e) in
+    ap (λ (o : Option Canvas). lent_within c.end.new.self (written_place o)) c.in-Some.is ∙ c.end.ensures.lent ∙
+    ap (λ (x : Canvas). Some x.frames.frame) same)

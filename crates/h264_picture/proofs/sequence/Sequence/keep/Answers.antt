@@ -9,4 +9,4 @@ returns-clause-reads c width size making slice picture coded h f m e s n =
     let on = c.step_on.ensures in
     kept-on width size making slice picture coded old c.step_on.new.self h on.same.across f
     (subst (Keeps width (picture ++ coded ∷ [])) (sym on.near) (c.push.ensures width picture coded h.keeps m.contexts))
-    (rw on.mb m.qp) e on.size on.next (on.samples making (picture ++ coded ∷ []) (same-samples making _ old _ refl refl refl refl s)) n
+    (rw on.mb m.qp) e on.size on.next (on.samples making (picture ++ coded ∷ []) (same-samples making _ old _ refl refl refl s)) n

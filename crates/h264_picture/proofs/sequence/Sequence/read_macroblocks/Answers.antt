@@ -1,11 +1,11 @@
-use Rattle.std.proofs.Common.{refl, arith, ◌∙◌, ap, length}
+use Rattle.std.proofs.Common.{refl, arith, ◌∙◌}
 use Rattle.std.proofs.lemmas.Result.{err_from_is_err_and}
 use Rattle.h264_mbsyntax.specs.declared.slice.Standing.TheVariants.{Next}
 use Rattle.h264_mbsyntax.proofs.Slices.{turn-next, turn-end, turn-stop, turns-over, over-stop, turns-start}
 use Rattle.h264_picture.specs.Levels.{transform_fits}
 use Rattle.h264_picture.specs.Making.{Reads}
 use Rattle.h264_picture.proofs.Steps.{within-on, same-place, both-places}
-use Rattle.h264_picture.proofs.Sound.{same-places}
+use Rattle.h264_picture.proofs.Canvases.{same-places-in}
 use Rattle.h264_picture.proofs.sequence.Sequence.read_macroblocks.Goals as goal
 
 pub loop-turn-init : goal.loop-turn-init
@@ -58,7 +58,7 @@ loop-turn-preserved g c =
       next_is = let e = v.1 in omega arith;
       size_is = c.read_next.ensures.size ∙ c.loop-turn.invariant.size_is;
       same = both-places _ _ _ c.loop-turn.invariant.same c.read_next.ensures.same;
-      places = same-places _ _ _ (let e = c.read_next.ensures.same.pool in ap length e) c.read_next.ensures.same.place c.loop-turn.invariant.places;
+      places = same-places-in _ _ _ c.read_next.ensures.same.rest c.loop-turn.invariant.places;
       quiet = c.in_ok-read_next.ensures.quiet ∙ c.loop-turn.invariant.quiet;
     }
 

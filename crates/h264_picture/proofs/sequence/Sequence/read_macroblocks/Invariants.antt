@@ -6,7 +6,7 @@ use Rattle.h264_mbsyntax.specs.Slice.{macroblocks}
 use Rattle.h264_picture.specs.Levels.{transform_fits}
 use Rattle.h264_picture.specs.Holds.{IsWithin, KeepsPlace, RefersOn}
 use Rattle.h264_picture.specs.Making.{Making, Reads}
-use Rattle.h264_picture.specs.Sound.{ArePlaces}
+use Rattle.h264_picture.specs.Sound.{ArePlacesIn}
 use Rattle.h264_picture.proofs.sequence.Sequence.read_macroblocks.Given as goal
 
 abbrev pub invariant-loop-turn : goal.invariant-loop-turn
@@ -21,6 +21,6 @@ invariant-loop-turn g l = record {
   next_is : l.self.picture.next ≡ l.fn.self.picture.next + l.turn;
   size_is : l.self.size ≡ l.fn.self.size;
   same : KeepsPlace l.fn.self l.self;
-  places : ArePlaces l.self.frames l.slice.places;
+  places : ArePlacesIn l.self.canvas l.slice.places;
   quiet : g.S.Elements.failures l.sink ≡ g.S.Elements.failures l.fn.sink;
 }

@@ -40,7 +40,7 @@ returns-clause-meets g c width size making picture k =
           c.make_read-fits.ensures.syntax.next) k.first (subst (λ m. HoldsMacroblock m v.macroblock) (sym c.make_read-fits.ensures.syntax.mb) e.holds)
           (e.holds.contexts.slice ∙ c.in_ok-bit.ensures.same)
           (c.make_read-fits.ensures.samples c.in_ok-check-2.ensures.checks width size making picture v.macroblock
-          (moved width size picture _ _ k.holds refl refl refl refl) (same-samples making picture c.args.self.now _ refl refl refl refl k.samples)
+          (moved width size picture _ _ k.holds refl refl refl refl) (same-samples making picture c.args.self.now _ refl refl refl k.samples)
           k.makes e.holds
           (e.holds.contexts.slice ∙ c.in_ok-bit.ensures.same) e.possible) k.makes,
     ))))))
@@ -53,7 +53,7 @@ keep-requires g c = rw (c.make_read-fits.ensures.syntax.next, c.make_read-fits.e
     (one-left c.args.self.now.picture.next c.args.self.now.size c.args.left c.in_ok-check.ensures.checks c.requires.left)
 
 pub invariant_of-self : goal.invariant_of-self
-invariant_of-self g c = record { within = c.args.self.now.within; sound = c.args.self.now.sound }
+invariant_of-self g c = let old = c.args.self.now in record { within = old.within; room = old.room; sound = old.sound; drawn = old.drawn }
 
 pub returns-clause-within : goal.returns-clause-within
 returns-clause-within g c = rw (c.keep.ensures.mb ∙ c.make_read-fits.ensures.syntax.mb) c.in_ok-bit.ensures.within

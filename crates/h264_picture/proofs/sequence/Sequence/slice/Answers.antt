@@ -4,6 +4,7 @@ use Rattle.h264_base.proofs.Steps.{bind, stop, checked}
 use Rattle.h264_mbsyntax.specs.Slice.{slice_data}
 use Rattle.h264_mbsyntax.specs.declared.slice.Standing.TheVariants.{Next}
 use Rattle.h264_picture.specs.Levels.{transform_fits}
+use Rattle.h264_picture.proofs.Canvases.{lent-stays}
 use Rattle.h264_picture.proofs.Steps.{moved, same-samples, qp-first, left-is, makes-with}
 use Rattle.h264_picture.proofs.sequence.Sequence.slice.Goals as goal
 
@@ -23,9 +24,15 @@ returns-clause-meets g c width size making picture h n m =
       holds = moved width size picture _ _ k refl refl refl refl;
       first = omega arith;
       predicted = qp-first context picture n k.past;
-      samples = same-samples making picture c.args.self.now _ refl refl refl refl h.samples;
-      makes = makes-with making _ c.args.samples.now c.args.base c.args.self.now c.places_within.ensures.values refl refl m;
+      samples = same-samples making picture c.args.self.now _ refl refl refl h.samples;
+      makes = makes-with making picture _ c.args.samples.now c.args.base c.args.self.now c.places_in.ensures.values refl refl h.samples m;
     }))))
 
 pub invariant_of-self : goal.invariant_of-self
-invariant_of-self g c = record { within = c.args.self.now.within; sound = c.args.self.now.sound }
+invariant_of-self g c = let old = c.args.self.now in record { within = old.within; room = old.room; sound = old.sound; drawn = old.drawn }
+
+pub places_in-requires : goal.places_in-requires
+places_in-requires g c k e = let old = c.args.self.now in let d = old.drawn k e in let r = old.room in let n = d.count in omega arith
+
+pub returns-clause-frames : goal.returns-clause-frames
+returns-clause-frames g c b = lent-stays _ _ c.read_macroblocks.ensures.same.rest b

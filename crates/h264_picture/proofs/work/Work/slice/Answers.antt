@@ -1,7 +1,8 @@
-use Rattle.std.proofs.Common.{Some, None, List, length, ap, ◌∙◌}
+use Rattle.std.proofs.Common.{Some, None, ◌∙◌}
 use Rattle.h264_base.proofs.OneAnswer.{answers}
 use Rattle.h264_picture.proofs.Steps.{no-memory, weaker}
-use Rattle.h264_plane.specs.declared.frame.Frame.{Frame}
+use Rattle.h264_picture.specs.Lent.{frames_in}
+use Rattle.h264_picture.proofs.Canvases.{for-changed, same-some, is-begun, begun-stays}
 use Rattle.h264_picture.proofs.Turns.{lent-kept}
 use Rattle.h264_picture.proofs.work.Work.slice.Goals as goal
 
@@ -23,10 +24,18 @@ returns-in-Some-clause-no_memory g c width size picture h n =
 
 pub returns-in-Some-clause-kept : goal.returns-in-Some-clause-kept
 returns-in-Some-clause-kept g c place b = let at = rw c.in-Some.is at b in
-    rw c.in-Some.is (lent-kept c.args.self.now.base c.in-Some.sequence.frames c.slice.new.self.frames c.args.self.now.older (c.slice.ensures.frames at.0))
+    rw c.in-Some.is (lent-kept c.args.self.now.base (frames_in c.in-Some.sequence.canvas) (frames_in c.slice.new.self.canvas) c.args.self.now.older
+    (c.slice.ensures.frames (is-begun _ _ _ at)))
+
+pub returns-in-Some-clause-begun : goal.returns-in-Some-clause-begun
+returns-in-Some-clause-begun g c place b = begun-stays _ _ _ _ c.slice.ensures.same.rest (rw c.in-Some.is at b)
+
+pub invariant_of-self-in-Some-clause-made : goal.invariant_of-self-in-Some-clause-made
+invariant_of-self-in-Some-clause-made g c =
+    for-changed _ _ _ _ _ c.args.self.now.made c.in-Some.is (same-some _ _ c.slice.ensures.same.rest)
 
 pub returns-in-Some-clause-places : goal.returns-in-Some-clause-places
-returns-in-Some-clause-places g c = rw c.in-Some.is (ap (λ (frames : List Frame). length frames) c.slice.ensures.same.pool)
+returns-in-Some-clause-places g c = rw c.in-Some.is c.slice.ensures.same.places
 
 pub returns-in-Some-clause-size : goal.returns-in-Some-clause-size
 returns-in-Some-clause-size g c width height h = let s = rw c.in-Some.is at h in (c.slice.ensures.same.across ∙ s.0, c.slice.ensures.same.down ∙ s.1)

@@ -1,5 +1,7 @@
 use Rattle.h264_dpb.specs.Turns.{last_turn}
-use Rattle.h264_verify.proofs.Showing.{writes-plays, writes-alone}
+use Rattle.h264_picture.specs.Places.{lent}
+use Rattle.h264_verify.proofs.Purposes.{lent-for}
+use Rattle.h264_verify.proofs.Showing.{writes-plays, writes-alone, written-by}
 use Rattle.h264_verify.proofs.Filling.{gap-ordered, gap-ready}
 use Rattle.h264_verify.proofs.decoder.Decoder.finish.Goals as goal
 
@@ -11,9 +13,13 @@ finish-requires-clause-ready g c = gap-ready _ c.requires.kept
 
 pub returns-clause-plays : goal.returns-clause-plays
 returns-clause-plays g c = λ frames t next k. writes-plays frames _ _ (last_turn t.buffer).written _ _ _
-    (c.finish.ensures.writes frames t.buffer _ k.output.buffer k.output.frames_are)
+    (written-by frames _ _ (lent c.args.self.now.work) c.args.self.now.output _ _ _ _
+    (lent-for frames c.args.self.now.work c.args.self.now.output k.output.made k.output.frames_are)
+    (λ f x. c.finish.ensures.writes f t.buffer _ k.output.buffer x) c.finish.ensures.passes)
 
 pub returns-clause-no_memory : goal.returns-clause-no_memory
 returns-clause-no_memory g c =
     let k = c.requires.kept.keeps in
-    writes-alone _ _ _ _ _ _ (c.finish.ensures.writes c.requires.kept.frames c.requires.kept.turn.buffer _ k.output.buffer k.output.frames_are)
+    writes-alone _ _ _ _ _ _ (written-by c.requires.kept.frames _ _ (lent c.args.self.now.work) c.args.self.now.output _ _ _ _
+    (lent-for c.requires.kept.frames c.args.self.now.work c.args.self.now.output k.output.made k.output.frames_are)
+    (λ f x. c.finish.ensures.writes f c.requires.kept.turn.buffer _ k.output.buffer x) c.finish.ensures.passes)

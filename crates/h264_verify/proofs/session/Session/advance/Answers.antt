@@ -1,5 +1,5 @@
 use Rattle.std.proofs.Common.{◌≡◌, Option, None, ap, sym, subst, ◌∙◌}
-use Rattle.h264_base.specs.declared.mode.Mode.{Mode}
+use Rattle.h264_verify.specs.declared.state.Depth.{Depth}
 use Rattle.h264_base.specs.declared.stop.Stop.{Stop}
 use Rattle.h264_units.specs.Stream.{IsUndecided}
 use Rattle.h264_units.specs.Splitting.{Splitting}
@@ -9,11 +9,12 @@ use Rattle.h264_verify.proofs.Familiar.{on-keeps, stops-told, told-err}
 use Rattle.h264_verify.proofs.session.Session.advance.Goals as goal
 
 -- a session that has not stopped
-ready-of : (mode : Mode) (stop : Option Stop) (split : Splitting) (state : State) → stop ≡ None → IsSession mode stop split state → IsReady mode split state
-ready-of mode stop split state e k = subst (λ s. IsSession mode s split state) e k
+ready-of : (depth : Depth) (stop : Option Stop) (split : Splitting) (state : State) → stop ≡ None → IsSession depth stop split state → IsReady depth split state
+ready-of depth stop split state e k = subst (λ s. IsSession depth s split state) e k
 
-session-of : (mode : Mode) (stop : Option Stop) (split : Splitting) (state : State) → stop ≡ None → IsReady mode split state → IsSession mode stop split state
-session-of mode stop split state e k = subst (λ s. IsSession mode s split state) (sym e) k
+session-of : (depth : Depth) (stop : Option Stop) (split : Splitting) (state : State) → stop ≡ None → IsReady depth split state →
+    IsSession depth stop split state
+session-of depth stop split state e k = subst (λ s. IsSession depth s split state) (sym e) k
 
 pub returns-in-Ok-clause-undecided : goal.returns-in-Ok-clause-undecided
 returns-in-Ok-clause-undecided g c = λ u. c.in-Ok.ensures.undecided (subst (λ s. IsUndecided s.split.rest) (sym c.self.view_is) u)

@@ -3,8 +3,8 @@ use Rattle.std.proofs.lemmas.Bool.{cases_lt}
 use Rattle.std.proofs.lemmas.List.{get_or-set_same, get_or-set_other, length-set}
 use Rattle.h264_verify.specs.declared.decoder.Decoder.{Decoder}
 use Rattle.h264_verify.specs.Keeping.{IsNear}
-use Rattle.h264_verify.proofs.decoder.Decoder.places.Goals.{in-Some, in_default}
-use Rattle.h264_verify.proofs.decoder.Decoder.places.Goals as goal
+use Rattle.h264_verify.proofs.decoder.Decoder.frame_places.Goals.{in-Some, in_default}
+use Rattle.h264_verify.proofs.decoder.Decoder.frame_places.Goals as goal
 
 abbrev AreNear : Decoder → List (Option ℕ) → List ℕ → ℕ → Type 0
 AreNear d references places all = (k n : ℕ) → k < all → get_or references k None ≡ Some n → IsNear d n (get_or places k 0)

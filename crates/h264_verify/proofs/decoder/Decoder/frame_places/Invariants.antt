@@ -1,6 +1,6 @@
 use Rattle.std.proofs.Common.{◌≡◌, ℕ, ◌<◌, Some, None, get_or, length}
 use Rattle.h264_verify.specs.Keeping.{IsNear}
-use Rattle.h264_verify.proofs.decoder.Decoder.places.Given as goal
+use Rattle.h264_verify.proofs.decoder.Decoder.frame_places.Given as goal
 
 abbrev pub invariant-loop-k : goal.invariant-loop-k
 invariant-loop-k l = record {

@@ -1,0 +1,342 @@
+//! Words that name files by lists and folders, and the plain words that stand for them.
+//!
+//! The plain command line takes none of these words. They are read by a command line of their own, which has the options for lists too, and are written anew
+//! as words that the plain one takes: options, and after `--` each file by its name.
+#![tactic(auto)]
+
+ghost use Rattle.std.specs.Prelude.{◌≡◌, false, true, IfNone, IfSome, map, string_bytes};
+ghost use Rattle.clap.specs.Words.{takes};
+ghost use Rattle.h264_command.specs.Words.{program};
+
+use crate::command::FAULT;
+use crate::command_line::{FLAGS, VALUES, asked, listed, takes_lists};
+use crate::glob::is_match;
+use crate::labels::all_labels;
+use crate::more::blame;
+use clap::error::ErrorKind;
+use clap::{ArgMatches, Error};
+use h264_lines::{Device, put_text};
+use std::alloc::{AllocError, Global};
+use std::io;
+
+/// What lies below a folder.
+#[derive(Drop)]
+pub struct Below {
+    /// The names of files, and of what can't be looked into.
+    pub files: Vec<String>,
+    /// The names of what is no file, such as a socket.
+    pub others: Vec<String>,
+}
+
+/// Finds files that words do not name.
+pub trait Lister {
+    /// The names that a list has, each ended by a byte 00.
+    fn listed_in(&self, list: &str) -> io::Result<Vec<String>>;
+
+    /// What lies below a folder, in the order of the names.
+    fn below(&self, folder: &str) -> io::Result<Below>;
+
+    /// From now on, this name stands for standard input.
+    fn name_input(&self, name: &str) -> io::Result<()>;
+}
+
+/// What comes of words that name files by lists.
+#[derive(Drop)]
+pub enum Listed {
+    /// These words stand for them.
+    Words(Vec<String>),
+    /// They can't be followed, and standard error is told why: the exit status.
+    Fault(u8),
+    /// There was no memory for them.
+    Memory,
+}
+
+/// Why lists can't be followed.
+#[derive(Drop)]
+enum Unlisted {
+    /// There was no memory.
+    Memory,
+    /// A list or a folder of this name can't be read.
+    Unread(String, io::Error),
+    /// What is said of the words.
+    Refused(&'static str),
+}
+
+impl From<AllocError> for Unlisted {
+    fn from(_error: AllocError) -> Unlisted {
+        Unlisted::Memory
+    }
+}
+
+/// The exit status of a list that can't be read.
+const FAILED: u8 = 4;
+
+/// Adds a name.
+fn add(names: &mut Vec<String>, name: String) -> Result<(), Unlisted> {
+    match names.push(name) {
+        Ok(()) => Ok(()),
+        Err(_) => Err(Unlisted::Memory),
+    }
+}
+
+/// Whether the plain command line refuses words.
+fn is_refused(alloc: Global, words: &[String]) -> bool
+    ensures { result ≡ true → takes program (map (λ w. string_bytes w) words.now) ≡ false }
+{
+    let Err(error) = asked(alloc, words) else {
+        return false;
+    };
+    if error.kind() == ErrorKind::OutOfMemory {
+        return false;
+    }
+    true
+}
+
+/// The name of a list or a folder that can't be read, and why.
+fn unread(alloc: Global, name: &str, cause: io::Error) -> Unlisted {
+    match String::from_str(alloc, name) {
+        Ok(name) => Unlisted::Unread(name, cause),
+        Err(_) => Unlisted::Memory,
+    }
+}
+
+/// The last part of a name, behind its last slash.
+fn last_part(name: &str) -> &str {
+    match name.rsplit_once('/') {
+        Some((_, last)) => last,
+        None => name,
+    }
+}
+
+/// Adds what lies below a folder, and says on standard error what is left out.
+fn add_below<L: Lister, E: Device>(
+    alloc: Global,
+    names: &mut Vec<String>,
+    lister: &L,
+    folder: &str,
+    glob: Option<&str>,
+    err: &mut E,
+) -> Result<(), Unlisted> {
+    let below = match lister.below(folder) {
+        Ok(below) => below,
+        Err(cause) => return Err(unread(alloc, folder, cause)),
+    };
+    let Below { files, others } = below;
+    for name in others.iter() {
+        blame(
+            alloc,
+            err,
+            name.as_str(),
+            &io::Error::other("it is no file, and is left out"),
+        );
+    }
+    for name in files {
+        let wanted = match glob {
+            Some(glob) => is_match(glob, last_part(name.as_str())),
+            None => true,
+        };
+        if wanted {
+            add(names, name)?;
+        }
+    }
+    Ok(())
+}
+
+/// Adds the names that a list has. A name that is that of standard input is a file's here.
+fn add_listed<L: Lister>(
+    alloc: Global,
+    names: &mut Vec<String>,
+    lister: &L,
+    list: &str,
+) -> Result<(), Unlisted> {
+    let listed = match lister.listed_in(list) {
+        Ok(listed) => listed,
+        Err(cause) => return Err(unread(alloc, list, cause)),
+    };
+    for name in listed {
+        if name.as_str() == "-" {
+            add(names, String::from_str(alloc, "./-")?)?;
+        } else {
+            add(names, name)?;
+        }
+    }
+    Ok(())
+}
+
+/// Adds the files that words name one by one. Where standard input has a name of its own, that stands for it.
+fn add_given<L: Lister>(
+    alloc: Global,
+    names: &mut Vec<String>,
+    lister: &L,
+    found: &ArgMatches<'_>,
+) -> Result<(), Unlisted> {
+    let given = found.get_strs("FILE").unwrap_or(&[]);
+    let input = found.get_str("name");
+    let mut inputs = 0usize;
+    for name in given.iter() {
+        if *name == "-" {
+            inputs = inputs.saturating_add(1);
+        }
+    }
+    if input.is_some() && inputs != 1 {
+        return Err(Unlisted::Refused(
+            "h264v: --name names standard input, which is given by one -\n",
+        ));
+    }
+    for name in given.iter() {
+        let name = match input {
+            Some(input) if *name == "-" => {
+                if let Err(cause) = lister.name_input(input) {
+                    return Err(unread(alloc, input, cause));
+                }
+                input
+            }
+            _ => *name,
+        };
+        add(names, String::from_str(alloc, name)?)?;
+    }
+    Ok(())
+}
+
+/// The names of all files that words name.
+fn names_in<L: Lister, E: Device>(
+    alloc: Global,
+    lister: &L,
+    subcommand: &str,
+    found: &ArgMatches<'_>,
+    err: &mut E,
+) -> Result<Vec<String>, Unlisted> {
+    let mut names: Vec<String> = Vec::new(alloc);
+    add_given(alloc, &mut names, lister, found)?;
+    if !takes_lists(subcommand) {
+        return Ok(names);
+    }
+    for list in found.get_strs("files0-from").unwrap_or(&[]).iter() {
+        add_listed(alloc, &mut names, lister, list)?;
+    }
+    let glob = found.get_str("glob");
+    let folders = found.get_strs("recursive").unwrap_or(&[]);
+    if glob.is_some() && folders.is_empty() {
+        return Err(Unlisted::Refused("h264v: --glob belongs to --recursive\n"));
+    }
+    for folder in folders.iter() {
+        add_below(alloc, &mut names, lister, folder, glob, err)?;
+    }
+    if names.is_empty() {
+        return Err(Unlisted::Refused("h264v: the lists name no file\n"));
+    }
+    Ok(names)
+}
+
+/// The labels that words name: all of them, and those that are given beside that.
+fn labels_in(alloc: Global, found: &ArgMatches<'_>) -> Result<Vec<String>, Unlisted> {
+    let mut names: Vec<String> = Vec::new(alloc);
+    for label in found.get_strs("FILE").unwrap_or(&[]).iter() {
+        add(&mut names, String::from_str(alloc, label)?)?;
+    }
+    for label in all_labels(alloc)?.iter() {
+        add(&mut names, String::from_str(alloc, label)?)?;
+    }
+    Ok(names)
+}
+
+/// Whether words name files by lists, or all labels.
+fn has_list(name: &str, found: &ArgMatches<'_>) -> bool {
+    if name == "explain" {
+        return found.get_flag("all");
+    }
+    if found.get_str("name").is_some() {
+        return true;
+    }
+    takes_lists(name)
+        && (found.get_strs("files0-from").is_some()
+            || found.get_strs("recursive").is_some()
+            || found.get_str("glob").is_some())
+}
+
+/// The plain words of a subcommand with these options, and these names for its files.
+fn plain_words(
+    alloc: Global,
+    subcommand: &str,
+    found: &ArgMatches<'_>,
+    names: Vec<String>,
+) -> Result<Vec<String>, AllocError> {
+    let mut words: Vec<String> = Vec::new(alloc);
+    words.push(String::from_str(alloc, "h264v")?)?;
+    words.push(String::from_str(alloc, subcommand)?)?;
+    for option in FLAGS {
+        if found.get_flag(option) {
+            words.push(format!(in alloc; "--{option}")?)?;
+        }
+    }
+    for option in VALUES {
+        if let Some(value) = found.get_str(option) {
+            words.push(format!(in alloc; "--{option}={value}")?)?;
+        }
+    }
+    words.push(String::from_str(alloc, "--")?)?;
+    for name in names {
+        words.push(name)?;
+    }
+    Ok(words)
+}
+
+/// What words say that have a list. None where they have none.
+fn list_in<'a>(alloc: Global, words: &'a [String]) -> Option<ArgMatches<'a>> {
+    let Ok(matches) = listed(alloc, words) else {
+        return None;
+    };
+    let has_one = match matches.subcommand() {
+        Some((name, found)) => has_list(name, found),
+        None => false,
+    };
+    if has_one { Some(matches) } else { None }
+}
+
+/// The plain words that stand for words with a list.
+fn follow<L: Lister, E: Device>(
+    alloc: Global,
+    matches: &ArgMatches<'_>,
+    lister: &L,
+    err: &mut E,
+) -> Result<Vec<String>, Unlisted> {
+    let Some((name, found)) = matches.subcommand() else {
+        return Ok(Vec::new(alloc));
+    };
+    let names = if name == "explain" {
+        labels_in(alloc, found)?
+    } else {
+        names_in(alloc, lister, name, found, err)?
+    };
+    Ok(plain_words(alloc, name, found, names)?)
+}
+
+/// What comes of words that name files by lists, the program's name first. None where they have no list, as all words that the plain command line takes.
+pub fn listed_words<L: Lister, E: Device>(
+    alloc: Global,
+    words: &[String],
+    lister: &L,
+    err: &mut E,
+) -> Option<Listed>
+    ensures refused { IfSome result (λ _. takes program (map (λ w. string_bytes w) words.now) ≡ false) }
+    ensures untold { IfNone result (err.new ≡ err.old) }
+{
+    if !is_refused(alloc, words) {
+        return None;
+    }
+    let Some(matches) = list_in(alloc, words) else {
+        return None;
+    };
+    match follow(alloc, &matches, lister, err) {
+        Ok(plain) => Some(Listed::Words(plain)),
+        Err(Unlisted::Memory) => Some(Listed::Memory),
+        Err(Unlisted::Unread(name, cause)) => {
+            blame(alloc, err, name.as_str(), &cause);
+            Some(Listed::Fault(FAILED))
+        }
+        Err(Unlisted::Refused(text)) => {
+            let _ = put_text(err, text);
+            Some(Listed::Fault(FAULT))
+        }
+    }
+}

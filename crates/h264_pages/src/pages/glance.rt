@@ -1,0 +1,302 @@
+//! What the first parameter sets of a byte stream say of it, whatever its profile is: for a reader, and for no verdict.
+#![tactic(auto)]
+
+use crate::pages::container::Start;
+use crate::pages::page::Page;
+use crate::pages::profile::{profile_name, put_level_of};
+
+/// What is shown of a frame, in luma samples.
+#[derive(Clone, Copy, PartialEq, Eq)]
+pub struct Size {
+    pub width: u64,
+    pub height: u64,
+}
+
+/// What a stream says of itself at its start.
+#[derive(Clone, Copy, PartialEq, Eq)]
+pub struct Declared {
+    pub profile_idc: u64,
+    pub constraint_set1: bool,
+    pub constraint_set3: bool,
+    /// level_idc, where the set could be read so far.
+    pub level_idc: Option<u64>,
+    /// The size and whether all pictures are frames, where the set could be read so far.
+    pub format: Option<Format>,
+    /// Whether the first picture parameter set asks for CABAC, where it could be read.
+    pub cabac: Option<bool>,
+}
+
+/// The format of the pictures that a sequence parameter set says.
+#[derive(Clone, Copy, PartialEq, Eq)]
+pub struct Format {
+    pub size: Size,
+    pub frame_mbs_only: bool,
+}
+
+/// nal_unit_type of a sequence parameter set (table 7-1).
+const SEQUENCE_SET: u8 = 7;
+
+/// nal_unit_type of a picture parameter set (table 7-1).
+const PICTURE_SET: u8 = 8;
+
+/// profile_idc of the Main profile (A.2.2).
+const MAIN: u64 = 77;
+
+/// The values of profile_idc with which a set says its chroma format (7.3.2.1.1).
+const WITH_CHROMA_FORMAT: [u64; 13] = [
+    100, 110, 122, 244, 44, 83, 86, 118, 128, 138, 139, 134, 135,
+];
+
+/// constraint_set1_flag and constraint_set3_flag in the byte of the flags (7.3.2.1.1).
+const CONSTRAINT_SET1: u64 = 0x40;
+
+const CONSTRAINT_SET3: u64 = 0x10;
+
+/// The longest run of zeros in a code word of 32 bits (9.1).
+const MOST_ZEROS: u32 = 32;
+
+/// Samples in a row of a macroblock.
+const SIDE: u64 = 16;
+
+/// The bits of a unit at the start of a stream, without emulation prevention bytes.
+#[derive(Clone, Copy)]
+struct BitsAt<'a> {
+    start: &'a Start,
+    /// The place of the next byte.
+    place: usize,
+    /// The byte that is read, its next bit first, and how many of its bits are left.
+    byte: u8,
+    left: u8,
+    /// How many bytes 00 came last.
+    zeros: u8,
+}
+
+impl<'a> BitsAt<'a> {
+    /// The bits from this place on.
+    fn new(start: &'a Start, place: usize) -> BitsAt<'a> {
+        BitsAt {
+            start,
+            place,
+            byte: 0,
+            left: 0,
+            zeros: 0,
+        }
+    }
+
+    /// The next byte of the input. None: it is not known.
+    fn next_byte(&mut self) -> Option<u8> {
+        let byte = self.start.known_at(self.place)?;
+        self.place = self.place.saturating_add(1);
+        Some(byte)
+    }
+
+    /// Takes up the next byte that is no emulation prevention byte (7.4.1).
+    fn take_up(&mut self) -> Option<()> {
+        let mut byte = self.next_byte()?;
+        if self.zeros >= 2 && byte == 3 {
+            byte = self.next_byte()?;
+            self.zeros = 0;
+        }
+        self.zeros = if byte == 0 {
+            self.zeros.saturating_add(1)
+        } else {
+            0
+        };
+        self.byte = byte;
+        self.left = 8;
+        Some(())
+    }
+
+    /// The next bit.
+    fn flag(&mut self) -> Option<bool> {
+        if self.left == 0 {
+            self.take_up()?;
+        }
+        let is_set = self.byte >= 128;
+        self.byte = self.byte.wrapping_mul(2);
+        self.left = self.left.saturating_sub(1);
+        Some(is_set)
+    }
+
+    /// So many bits after these, as a number.
+    fn number_after(&mut self, first: u64, count: u32) -> Option<u64> {
+        let mut value = first;
+        for _ in 0..count {
+            value = value
+                .saturating_mul(2)
+                .saturating_add(u64::from(self.flag()?));
+        }
+        Some(value)
+    }
+
+    /// A ue(v) or the number of a se(v) (9.1).
+    fn ue(&mut self) -> Option<u64> {
+        for zeros in 0..MOST_ZEROS {
+            if self.flag()? {
+                return Some(self.number_after(1, zeros)?.saturating_sub(1));
+            }
+        }
+        None
+    }
+
+    /// Passes over the elements of the picture order count (7.3.2.1.1).
+    fn pass_counts(&mut self) -> Option<()> {
+        let kind = self.ue()?;
+        if kind == 0 {
+            self.ue()?;
+        }
+        if kind == 1 {
+            self.flag()?;
+            self.ue()?;
+            self.ue()?;
+            let cycle = u8::try_from(self.ue()?).ok()?;
+            for _ in 0..cycle {
+                self.ue()?;
+            }
+        }
+        Some(())
+    }
+
+    /// chroma_format_idc, 1 where the set does not say it. None: it could not be read, or scaling lists follow, which are not read.
+    fn chroma_format(&mut self, profile_idc: u64) -> Option<u64> {
+        if !WITH_CHROMA_FORMAT.contains(&profile_idc) {
+            return Some(1);
+        }
+        let chroma_format = self.ue()?;
+        if chroma_format == 3 {
+            self.flag()?;
+        }
+        self.ue()?;
+        self.ue()?;
+        self.flag()?;
+        if self.flag()? {
+            return None;
+        }
+        Some(chroma_format)
+    }
+
+    /// What two offsets cut off a side, in samples.
+    fn cut(&mut self, unit: u64) -> Option<u64> {
+        let first = self.ue()?;
+        let second = self.ue()?;
+        Some(first.saturating_add(second).saturating_mul(unit))
+    }
+
+    /// The format, from after level_idc on (7.3.2.1.1).
+    fn format(&mut self, profile_idc: u64) -> Option<Format> {
+        self.ue()?;
+        let chroma_format = self.chroma_format(profile_idc)?;
+        self.ue()?;
+        self.pass_counts()?;
+        self.ue()?;
+        self.flag()?;
+        let columns = self.ue()?.saturating_add(1);
+        let rows = self.ue()?.saturating_add(1);
+        let frame_mbs_only = self.flag()?;
+        if !frame_mbs_only {
+            self.flag()?;
+        }
+        self.flag()?;
+        let fields: u64 = if frame_mbs_only { 1 } else { 2 };
+        let across: u64 = if chroma_format == 1 || chroma_format == 2 {
+            2
+        } else {
+            1
+        };
+        let down: u64 = if chroma_format == 1 { 2 } else { 1 };
+        let is_cropped = self.flag()?;
+        let cut_across = if is_cropped { self.cut(across)? } else { 0 };
+        let cut_down = if is_cropped {
+            self.cut(down.saturating_mul(fields))?
+        } else {
+            0
+        };
+        Some(Format {
+            size: Size {
+                width: columns.saturating_mul(SIDE).saturating_sub(cut_across),
+                height: rows
+                    .saturating_mul(SIDE)
+                    .saturating_mul(fields)
+                    .saturating_sub(cut_down),
+            },
+            frame_mbs_only,
+        })
+    }
+}
+
+/// entropy_coding_mode_flag of the first picture parameter set (7.3.2.2).
+fn cabac_of(start: &Start) -> Option<bool> {
+    let place = start.unit_of_type(PICTURE_SET)?;
+    let mut bits = BitsAt::new(start, place.saturating_add(1));
+    bits.ue()?;
+    bits.ue()?;
+    bits.flag()
+}
+
+impl Declared {
+    /// What the first sequence parameter set and the first picture parameter set say. None: no sequence parameter set is among the first bytes.
+    pub fn of(start: &Start) -> Option<Declared> {
+        let place = start.unit_of_type(SEQUENCE_SET)?;
+        let mut bits = BitsAt::new(start, place.saturating_add(1));
+        let profile_idc = bits.number_after(0, 8)?;
+        let flags = bits.number_after(0, 8)?;
+        let level_idc = bits.number_after(0, 8);
+        Some(Declared {
+            profile_idc,
+            constraint_set1: flags & CONSTRAINT_SET1 != 0,
+            constraint_set3: flags & CONSTRAINT_SET3 != 0,
+            level_idc,
+            format: bits.format(profile_idc),
+            cabac: cabac_of(start),
+        })
+    }
+
+    /// The name of the profile.
+    pub fn profile(&self) -> &'static str {
+        profile_name(self.profile_idc, self.constraint_set1)
+    }
+
+    /// Whether the profile is Main.
+    pub fn is_main(&self) -> bool {
+        self.profile_idc == MAIN
+    }
+
+    /// Whether the set says that there may be fields.
+    pub fn has_fields(&self) -> bool {
+        match self.format {
+            Some(format) => !format.frame_mbs_only,
+            None => false,
+        }
+    }
+
+    /// Whether the target main-ip may judge it: Main with CAVLC and without fields.
+    pub fn may_suit_main(&self) -> bool {
+        self.is_main() && self.format.is_some() && !self.has_fields() && self.cabac == Some(false)
+    }
+
+    /// Adds the profile, and level, size and entropy coding where they are known, with commas between them.
+    pub fn put(&self, page: &mut Page) {
+        if self.profile() == "unknown" {
+            page.put("profile_idc ");
+            page.number(self.profile_idc);
+        } else {
+            page.put(self.profile());
+            page.put(" profile");
+        }
+        if let Some(level_idc) = self.level_idc {
+            page.put(", level ");
+            put_level_of(page, level_idc, self.constraint_set3);
+        }
+        if let Some(format) = self.format {
+            page.put(", ");
+            page.number(format.size.width);
+            page.put("x");
+            page.number(format.size.height);
+        }
+        match self.cabac {
+            Some(true) => page.put(", CABAC"),
+            Some(false) => page.put(", CAVLC"),
+            None => {}
+        }
+    }
+}

@@ -1,0 +1,147 @@
+//! What the system gives: words and files.
+#![tactic(auto)]
+
+use crate::folders::{below, names_of};
+use crate::output::{SystemOutput, make_output};
+use h264_command::files::{Maker, Opener};
+use h264_command::handing::{HandingReader, SharedWriter};
+use h264_command::lists::{Below, Lister};
+use h264_command::words::{Words, has_odd_byte, words_of};
+use std::alloc::Global;
+use std::cell::RefCell;
+use std::fs::File;
+use std::io::{ErrorKind, Read, Write};
+use std::{fs, io};
+
+/// The words that the system gives.
+#[derive(Clone, Copy)]
+pub struct SystemWords<'a> {
+    pub rt: &'a HostRuntime,
+}
+
+impl Words for SystemWords<'_> {
+    fn words(&self, alloc: Global) -> io::Result<Vec<String>> {
+        words_of(self.rt, alloc)
+    }
+}
+
+/// The files of the system. Each hands over what waits for standard output before it is read.
+#[derive(Drop)]
+pub struct SystemFiles<'a, W: Write + Drop> {
+    rt: &'a HostRuntime,
+    /// Standard output.
+    out: &'a RefCell<W>,
+    /// The name that stands for standard input, where it has one of its own.
+    input: RefCell<Option<String>>,
+}
+
+impl<'a, W: Write + Drop> SystemFiles<'a, W> {
+    /// The files, and standard output.
+    pub fn new(rt: &'a HostRuntime, out: &'a RefCell<W>) -> SystemFiles<'a, W> {
+        SystemFiles {
+            rt,
+            out,
+            input: RefCell::new(None),
+        }
+    }
+
+    /// Whether this name stands for standard input.
+    fn names_input(&self, name: &str) -> bool {
+        match self.input.try_borrow() {
+            Ok(input) => match &*input {
+                Some(input) => input.as_str() == name,
+                None => false,
+            },
+            Err(_) => false,
+        }
+    }
+}
+
+/// The name by which the system knows standard input.
+const STANDARD_INPUT: &str = "/dev/stdin";
+
+/// Opens standard input.
+fn open_standard_input(rt: &HostRuntime) -> io::Result<File> {
+    match fs::open(rt, STANDARD_INPUT) {
+        Err(error) if error.kind() == ErrorKind::NotFound => Err(io::Error::new(
+            ErrorKind::NotFound,
+            "standard input is closed",
+        )),
+        opened => opened,
+    }
+}
+
+/// Opens the file of this name.
+fn open_input(rt: &HostRuntime, name: &str) -> io::Result<File> {
+    if name == STANDARD_INPUT {
+        open_standard_input(rt)
+    } else if has_odd_byte(name) {
+        Err(io::Error::new(
+            ErrorKind::InvalidFilename,
+            "a name that is not UTF-8: give the file on standard input",
+        ))
+    } else {
+        fs::open(rt, name)
+    }
+}
+
+impl<'a, W: Write + Drop> Opener for SystemFiles<'a, W> {
+    type File = HandingReader<'a, File, W>;
+
+    fn open(&mut self, name: &str) -> io::Result<HandingReader<'a, File, W>> {
+        let name = if self.names_input(name) {
+            STANDARD_INPUT
+        } else {
+            name
+        };
+        Ok(HandingReader {
+            reader: open_input(self.rt, name)?,
+            out: SharedWriter { writer: self.out },
+        })
+    }
+}
+
+impl<W: Write + Drop> Lister for SystemFiles<'_, W> {
+    fn listed_in(&self, list: &str) -> io::Result<Vec<String>> {
+        let name = if list == "-" { STANDARD_INPUT } else { list };
+        let mut bytes: Vec<u8> = Vec::new(self.rt.alloc());
+        open_input(self.rt, name)?.read_to_end(&mut bytes)?;
+        Ok(names_of(self.rt.alloc(), bytes.as_slice())?)
+    }
+
+    fn below(&self, folder: &str) -> io::Result<Below> {
+        below(self.rt, folder)
+    }
+
+    fn name_input(&self, name: &str) -> io::Result<()> {
+        let name = String::from_str(self.rt.alloc(), name)?;
+        *self.input.try_borrow_mut()? = Some(name);
+        Ok(())
+    }
+}
+
+impl<'a, W: Write + Drop> Maker for SystemFiles<'a, W> {
+    type Output = SystemOutput<'a>;
+
+    fn make(&mut self, name: &str) -> io::Result<SystemOutput<'a>> {
+        make_output(self.rt, name)
+    }
+
+    fn finish(&mut self, output: SystemOutput<'a>) -> io::Result<()> {
+        output.finish()
+    }
+
+    fn abandon(&mut self, output: SystemOutput<'a>) {
+        output.abandon();
+    }
+
+    fn is_same(&self, name: &str, other: &str) -> bool {
+        match (
+            fs::canonicalize(self.rt, name),
+            fs::canonicalize(self.rt, other),
+        ) {
+            (Ok(name), Ok(other)) => name == other,
+            _ => false,
+        }
+    }
+}
