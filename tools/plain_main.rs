@@ -3,12 +3,13 @@ use h264_base::{ElementName, Elements, Failed, Mode, SliceType, Stop, Target};
 use h264_dpb::{FrameOut, Rectangle};
 use h264_plane::{Frame, Plane};
 use h264_verify::{FrameSink, NalUnitType, Session, Summary};
-use std::collections::VecDeque;
 use std::io::{Read, Write};
 
 const USAGE: &str = "usage: h264v-quick check|units|headers|frames|decode [--target baseline|main-ip] FILE";
 const NOT_PROVED: &str = "h264v-quick: a plain build, of which nothing is proved";
 const PIECE: usize = 1 << 16;
+/// How many elements `check` keeps for a no.
+const KEPT: usize = 16;
 
 #[derive(PartialEq)]
 enum Task {
@@ -23,7 +24,10 @@ struct Sink<W: Write> {
     task: Task,
     out: W,
     frames: u64,
-    last: VecDeque<(ElementName, u64, i64)>,
+    /// The last elements, once there are so many that the oldest stands at `next`.
+    last: [(ElementName, u64, i64); KEPT],
+    next: usize,
+    is_full: bool,
 }
 
 /// What is shown of a plane, without so many samples on each side: all its rows at once where all columns are shown, else each by itself.
@@ -54,10 +58,9 @@ impl<W: Write> Sink<W> {
 impl<W: Write> Elements for Sink<W> {
     fn element(&mut self, name: ElementName, bit: u64, value: i64) -> Result<(), Failed> {
         if self.task == Task::Check {
-            if self.last.len() == 16 {
-                self.last.pop_front();
-            }
-            self.last.push_back((name, bit, value));
+            self.last[self.next % KEPT] = (name, bit, value);
+            self.next = (self.next + 1) % KEPT;
+            self.is_full |= self.next == 0;
         }
         Ok(())
     }
@@ -212,7 +215,7 @@ fn main() {
     };
     let _ = put_line(&mut std::io::stderr(), NOT_PROVED.into());
     let out = std::io::BufWriter::with_capacity(PIECE, std::io::stdout());
-    let mut sink = Sink { task, out, frames: 0, last: VecDeque::new() };
+    let mut sink = Sink { task, out, frames: 0, last: [(ElementName::ProfileIdc, 0, 0); KEPT], next: 0, is_full: false };
     let mut answer = judge(file, mode, target, &mut sink);
     if sink.task == Task::Decode && sink.out.flush().is_err() {
         answer = Err(Stop::Write);
@@ -220,7 +223,8 @@ fn main() {
     let (line, status) = last_line(&sink.task, &answer);
     let mut written = Ok(());
     if let Err(Stop::No { .. }) = answer {
-        for (name, bit, value) in &sink.last {
+        let (newer, older) = sink.last.split_at(sink.next);
+        for (name, bit, value) in older.iter().filter(|_| sink.is_full).chain(newer) {
             written = written.and(put_line(&mut sink.out, format!("element {} bit {bit} value {value}", name.text())));
         }
     }

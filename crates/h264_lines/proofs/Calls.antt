@@ -1,5 +1,5 @@
 -- Lines, bytes and elements of calls, with one call more.
-use Rattle.std.proofs.Common.{◌≡◌, ℕ, ◌+◌, List, [], ◌∷◌, ◌++◌, sym, ap, ◌∙◌, arith}
+use Rattle.std.proofs.Common.{◌≡◌, ℕ, ◌+◌, List, [], ◌∷◌, ◌++◌, refl, sym, ap, ◌∙◌, arith}
 use Rattle.std.proofs.lemmas.List.{append_assoc, append-nil}
 use Rattle.h264_base.specs.Call.{Call}
 use Rattle.h264_lines.specs.Told.{ended, line_of, lines_of, counted, counted_of, bytes_in, bytes_of, elements_in, elements_of}
@@ -34,6 +34,12 @@ lines-more head listing n m [] call e = append-nil (line_of head listing n call)
 lines-more head listing n m (c ∷ calls) call e =
     ap (λ l. line_of head listing n c ++ l) (lines-more head listing (counted listing c + n) m calls call (omega arith))
     ∙ sym (append_assoc (line_of head listing n c) (lines_of head listing (counted listing c + n) calls) (line_of head listing m call))
+
+pub element-lines-append : (es fs : List Element) → element_lines (es ++ fs) ≡ element_lines es ++ element_lines fs
+unfolding element_lines
+element-lines-append [] fs = refl
+element-lines-append (e ∷ es) fs = ap (λ l. ended (element_text e.name e.bit e.value) ++ l) (element-lines-append es fs) ∙
+    sym (append_assoc (ended (element_text e.name e.bit e.value)) (element_lines es) (element_lines fs))
 
 pub element-lines-more : (es : List Element) (e : Element) → element_lines (es ++ e ∷ []) ≡ element_lines es ++ ended (element_text e.name e.bit e.value)
 unfolding element_lines

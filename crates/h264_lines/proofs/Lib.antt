@@ -2,6 +2,7 @@ pub mod Known
 pub mod Counted
 pub mod PlaneRows
 pub mod Kept
+pub mod Turned
 pub mod Calls
 pub mod Runs
 pub mod Fits

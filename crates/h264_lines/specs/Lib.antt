@@ -6,6 +6,7 @@ pub mod Rows
 pub mod Frames
 pub mod Told
 pub mod Trail
+pub mod Turned
 pub mod Y4m
 pub mod Chosen
 pub mod Answer
