@@ -59,8 +59,10 @@ impl<W: Write> Elements for Sink<W> {
     fn element(&mut self, name: ElementName, bit: u64, value: i64) -> Result<(), Failed> {
         if self.task == Task::Check {
             self.last[self.next % KEPT] = (name, bit, value);
-            self.next = (self.next + 1) % KEPT;
-            self.is_full |= self.next == 0;
+            self.next += 1;
+            if self.next == KEPT {
+                (self.next, self.is_full) = (0, true);
+            }
         }
         Ok(())
     }
