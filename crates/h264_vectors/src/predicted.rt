@@ -205,10 +205,10 @@ pub fn skip_vector(near: &Near, slice: u32) -> Vector
     ensures { (width : ℕ) (picture : List CodedMacroblock) → Keeps width picture near.now → result ≡ syntax.skip_vector width picture slice }
 {
     let a = near.neighbour(slice, &[None; 16], 0, 1);
-    let b = near.neighbour(slice, &[None; 16], 1, 0);
     if keeps_still(a) {
         return Vector { x: 0, y: 0 };
     }
+    let b = near.neighbour(slice, &[None; 16], 1, 0);
     if keeps_still(b) {
         return Vector { x: 0, y: 0 };
     }
