@@ -105,7 +105,10 @@ pub(crate) fn coeff_token_table(size: usize, nc: u8) -> Table
     }
 }
 
-/// Where the words begin that serve a block which is none of chroma DC.
+/// Where the words begin that serve a block which is none of chroma DC, by nC; from 8 on all are alike.
+const FIRST_ENTRIES: [u16; 9] = [0, 0, 256, 256, 512, 512, 512, 512, 768];
+
+/// Where the words begin that serve a block which is none of chroma DC. It is looked up: a choice would often be predicted wrongly.
 #[inline(always)]
 fn first_entry(nc: u8) -> usize
     ensures one { nc < 2 → result ≡ 0 }
@@ -113,15 +116,7 @@ fn first_entry(nc: u8) -> usize
     ensures seven { 4 ≤ nc → nc < 8 → result ≡ 512 }
     ensures more { 8 ≤ nc → result ≡ 768 }
 {
-    if nc < 2 {
-        0
-    } else if nc < 4 {
-        256
-    } else if nc < 8 {
-        512
-    } else {
-        768
-    }
+    usize::from(FIRST_ENTRIES[usize::from(nc.min(8))])
 }
 
 /// The length and the value of the word that 16 bits begin with, of a block that is none of chroma DC. The length of one of more than eight bits is 0.
