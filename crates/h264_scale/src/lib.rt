@@ -17,6 +17,6 @@ mod transform;
 
 pub use dc::{dc2, dc16};
 pub use levels::{ChromaLevels, ChromaWithDc, Levels, LumaLevels, LumaWithDc};
-pub use range::{fits4, fits4_of_dc, fits4_with_dc};
+pub use range::{are_small_together, fits4, fits4_of_dc, fits4_with_dc};
 pub use residual::{residual4, residual4_of_dc, residual4_with_dc};
 pub use transform::TransformRange;

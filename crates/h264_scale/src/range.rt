@@ -1,7 +1,7 @@
 //! Whether the values of the transform of a block are in range (8.5.12), without its residual. Mostly the sizes of its levels tell.
 #![tactic(auto)]
 
-ghost use Rattle.std.specs.Prelude.{◌≡◌, ℕ, ◌+◌, ◌*◌, ◌≤◌, replicate, pos};
+ghost use Rattle.std.specs.Prelude.{◌≡◌, ℕ, ◌+◌, ◌*◌, ◌<◌, ◌≤◌, true, get_or, replicate, pos};
 ghost use Rattle.h264_scale.specs.Residual.{d_of, d_with_dc, residual_fits};
 ghost use Rattle.h264_scale.specs.Fours.{factor_at};
 ghost use Rattle.h264_scale.specs.Lanes.{size_below};
@@ -65,4 +65,32 @@ pub fn fits4_of_dc(dc: i16) -> bool
     ensures { (qp : ℕ) → result ≡ residual_fits (d_with_dc dc (replicate 15 (pos 0)) qp) }
 {
     residual4_of_dc(dc).is_ok()
+}
+
+/// The sum of the levels of four blocks without signs.
+#[inline(always)]
+fn size_of_four(levels: &[[i16; 16]; 16], first: usize) -> u32
+    requires { first + 4 ≤ 16 }
+    ensures each { (b : ℕ) → first ≤ b → b < first + 4 → size_below 16 (get_or levels.now b (replicate 16 (pos 0))) ≤ result }
+    ensures bound { result ≤ 2097152 }
+{
+    total_size(&levels[first])
+        + total_size(&levels[first + 1])
+        + total_size(&levels[first + 2])
+        + total_size(&levels[first + 3])
+}
+
+/// Whether the levels of sixteen blocks are so small together that no value of the transform of any of them leaves its range (8.5.12). Where they are
+/// larger nothing is said.
+#[inline]
+pub fn are_small_together(levels: &[[i16; 16]; 16], qp: u8) -> bool
+    requires { qp ≤ 51 }
+    ensures { result ≡ true → (b : ℕ) → b < 16 → residual_fits (d_of (get_or levels.now b (replicate 16 (pos 0))) qp) ≡ true }
+{
+    // Without a loop, since the compiler then adds the blocks side by side.
+    let size = size_of_four(levels, 0)
+        + size_of_four(levels, 4)
+        + size_of_four(levels, 8)
+        + size_of_four(levels, 12);
+    u64::from(size) * u64::from(greatest_factor(qp)) <= u64::from(SMALL)
 }

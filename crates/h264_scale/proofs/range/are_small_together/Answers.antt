@@ -1,0 +1,25 @@
+use Rattle.std.proofs.Common.{◌≡◌, ◌+◌, ◌*◌, ◌<◌, ◌≤◌, ℕ, pos, replicate, get_or, inl, inr, arith}
+use Rattle.std.proofs.lemmas.Bool.{cases_lt}
+use Rattle.std.proofs.lemmas.Grind.{common_steps}
+use Rattle.std.proofs.lemmas.Nat.{mul-le}
+use Rattle.h264_scale.specs.Lanes.{size_below}
+use Rattle.h264_scale.proofs.Sizes.{few_fit}
+use Rattle.h264_scale.proofs.range.are_small_together.Goals as goal
+
+pub returns : goal.returns
+returns c small b within =
+    let l = get_or c.args.levels.now b (replicate 16 (pos 0)) in
+    let factor = c.greatest_factor in
+    let below : size_below 16 l ≤ c.from.result = elim (cases_lt b 4) [
+      | inl p ↦ omega (arith, c.size_of_four.ensures.each b (omega arith) (omega (arith, p)))
+      | inr p ↦ elim (cases_lt b 8) [
+        | inl q ↦ omega (arith, c.size_of_four-2.ensures.each b (omega (arith, p)) (omega (arith, q)))
+        | inr q ↦ elim (cases_lt b 12) [
+          | inl r ↦ omega (arith, c.size_of_four-3.ensures.each b (omega (arith, q)) (omega (arith, r)))
+          | inr r ↦ omega (arith, c.size_of_four-4.ensures.each b (omega (arith, r)) (omega (arith, within)))
+        ]
+      ]
+    ] in
+    let few : c.from.result * c.from-2.result ≤ 32735 = grind (arith, common_steps, small, c.from-3.ensures) in
+    let product = mul-le (size_below 16 l) factor.result c.from.result c.from-2.result below (let e = c.from-2.ensures in omega arith) in
+    few_fit c.args.qp factor.result factor.ensures.most l (omega (arith, product, few))
