@@ -1,7 +1,7 @@
 //! Whether each value of the transform of a macroblock that was read is in its range (8.5), without its samples.
 #![tactic(auto)]
 
-ghost use Rattle.std.specs.Prelude.{◌≡◌, ◌+◌, ◌*◌, ◌<◌, ◌≤◌, ◌&&◌, get_or, replicate, pos};
+ghost use Rattle.std.specs.Prelude.{◌≡◌, ℕ, ◌+◌, ◌*◌, ◌<◌, ◌≤◌, ◌&&◌, true, get_or, replicate, pos};
 ghost use Rattle.h264_plane.specs.Places.{column_of, row_of};
 ghost use Rattle.h264_mbsyntax.specs.Stored.{shown};
 ghost use Rattle.h264_scale.specs.Residual.{d_of, d_with_dc, residual_fits as values_fit};
@@ -15,7 +15,7 @@ use crate::scaled::{
     LumaBlocks, ReadLevels, dc_levels, is_pcm, is_plane_uncoded, levels_at, luma_of,
 };
 use h264_mbsyntax::Macroblock;
-use h264_scale::{dc2, fits4, fits4_of_dc, fits4_with_dc};
+use h264_scale::{are_small_together, dc2, fits4, fits4_of_dc, fits4_with_dc};
 
 /// Of a block of 16 levels, so many of which are not 0.
 #[inline(always)]
@@ -66,6 +66,19 @@ fn luma_block_fits(blocks: &LumaBlocks<'_>, b: usize, qp: u8) -> bool
     }
 }
 
+/// Whether the sizes of the luma levels tell that each block fits. Where they do not tell, nothing is said.
+#[inline(always)]
+fn is_luma_small(blocks: &LumaBlocks<'_>, qp: u8) -> bool
+    requires { qp ≤ 51 }
+    ensures { result ≡ true → (x y : ℕ) → x < 4 → y < 4 → values_fit (d_in qp blocks.now x y) ≡ true }
+{
+    match blocks {
+        LumaBlocks::NotCoded => true,
+        LumaBlocks::Plain(plain) => are_small_together(plain.levels, qp),
+        LumaBlocks::WithDc(_) => false,
+    }
+}
+
 /// Of luma.
 #[inline(always)]
 fn luma_fits(mb: &Macroblock) -> bool
@@ -75,7 +88,7 @@ fn luma_fits(mb: &Macroblock) -> bool
     let Ok(blocks) = luma_of(mb) else {
         return false;
     };
-    if let LumaBlocks::NotCoded = blocks {
+    if is_luma_small(&blocks, mb.qp) {
         return true;
     }
     for b in 0..16 {

@@ -1,7 +1,7 @@
-use Rattle.std.proofs.Common.{◌≡◌, sym, ap, ◌∙◌, arith}
+use Rattle.std.proofs.Common.{◌≡◌, ℕ, ◌<◌, sym, ap, ◌∙◌, arith}
 use Rattle.h264_plane.specs.Places.{column_of, row_of}
 use Rattle.h264_scale.specs.Residual.{residual_fits}
-use Rattle.h264_scale.proofs.Whole.{all_none, all_more, refused, luma_dc_unfit, luma_unfit, luma_whole}
+use Rattle.h264_scale.proofs.Whole.{all_none, all_more, refused, luma_dc_unfit, luma_unfit, luma_whole, all_to}
 use Rattle.h264_recon.specs.ReadLevels.{luma_by}
 use Rattle.h264_recon.proofs.FromLevels.{uncoded_fits}
 use Rattle.h264_recon.proofs.range.luma_fits.Goals as goal
@@ -11,8 +11,17 @@ returns-in_default c =
     let m = c.args.mb.now in
     sym (luma_dc_unfit m.qp (luma_by m.kind m) (refused _ c.in_default.ensures.range.1))
 
-pub returns-in-NotCoded : goal.returns-in-NotCoded
-returns-in-NotCoded c = let m = c.args.mb.now in sym (uncoded_fits m.qp (luma_by m.kind m) (rw c.in-NotCoded.is at c.in-Ok.ensures.blocks))
+pub returns-then-is_luma_small : goal.returns-then-is_luma_small
+returns-then-is_luma_small c =
+    let m = c.args.mb.now in
+    let l = luma_by m.kind m in
+    let blocks = c.in-Ok.ensures.blocks in
+    let each = λ (b : ℕ) (h : b < 16).
+        let column : column_of b < 4 = omega (arith, h) in
+        let row : row_of b < 4 = omega (arith, h) in
+        sym (ap residual_fits (blocks.each (column_of b) (row_of b) column row))
+        ∙ c.is_luma_small.ensures c.if-is_luma_small.true (column_of b) (row_of b) column row in
+    sym (luma_whole m.qp l blocks.dc (all_to 16 _ each))
 
 pub returns-then-not-luma_block_fits : goal.returns-then-not-luma_block_fits
 returns-then-not-luma_block_fits c =
