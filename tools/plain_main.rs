@@ -24,10 +24,9 @@ struct Sink<W: Write> {
     task: Task,
     out: W,
     frames: u64,
-    /// The last elements, once there are so many that the oldest stands at `next`.
+    /// The last elements, each at its number in the order of telling modulo so many.
     last: [(ElementName, u64, i64); KEPT],
-    next: usize,
-    is_full: bool,
+    told: usize,
 }
 
 /// What is shown of a plane, without so many samples on each side: all its rows at once where all columns are shown, else each by itself.
@@ -58,11 +57,8 @@ impl<W: Write> Sink<W> {
 impl<W: Write> Elements for Sink<W> {
     fn element(&mut self, name: ElementName, bit: u64, value: i64) -> Result<(), Failed> {
         if self.task == Task::Check {
-            self.last[self.next % KEPT] = (name, bit, value);
-            self.next += 1;
-            if self.next == KEPT {
-                (self.next, self.is_full) = (0, true);
-            }
+            self.last[self.told % KEPT] = (name, bit, value);
+            self.told += 1;
         }
         Ok(())
     }
@@ -217,7 +213,7 @@ fn main() {
     };
     let _ = put_line(&mut std::io::stderr(), NOT_PROVED.into());
     let out = std::io::BufWriter::with_capacity(PIECE, std::io::stdout());
-    let mut sink = Sink { task, out, frames: 0, last: [(ElementName::ProfileIdc, 0, 0); KEPT], next: 0, is_full: false };
+    let mut sink = Sink { task, out, frames: 0, last: [(ElementName::ProfileIdc, 0, 0); KEPT], told: 0 };
     let mut answer = judge(file, mode, target, &mut sink);
     if sink.task == Task::Decode && sink.out.flush().is_err() {
         answer = Err(Stop::Write);
@@ -225,8 +221,8 @@ fn main() {
     let (line, status) = last_line(&sink.task, &answer);
     let mut written = Ok(());
     if let Err(Stop::No { .. }) = answer {
-        let (newer, older) = sink.last.split_at(sink.next);
-        for (name, bit, value) in older.iter().filter(|_| sink.is_full).chain(newer) {
+        for k in sink.told.saturating_sub(KEPT)..sink.told {
+            let (name, bit, value) = sink.last[k % KEPT];
             written = written.and(put_line(&mut sink.out, format!("element {} bit {bit} value {value}", name.text())));
         }
     }
