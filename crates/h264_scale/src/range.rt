@@ -92,5 +92,8 @@ pub fn are_small_together(levels: &[[i16; 16]; 16], qp: u8) -> bool
         + size_of_four(levels, 4)
         + size_of_four(levels, 8)
         + size_of_four(levels, 12);
-    u64::from(size) * u64::from(greatest_factor(qp)) <= u64::from(SMALL)
+    if size > SMALL {
+        return false;
+    }
+    size * greatest_factor(qp) <= SMALL
 }

@@ -1,6 +1,5 @@
 use Rattle.std.proofs.Common.{◌≡◌, ◌+◌, ◌*◌, ◌<◌, ◌≤◌, ℕ, pos, replicate, get_or, inl, inr, arith}
-use Rattle.std.proofs.lemmas.Bool.{cases_lt}
-use Rattle.std.proofs.lemmas.Grind.{common_steps}
+use Rattle.std.proofs.lemmas.Bool.{cases_lt, leb-true}
 use Rattle.std.proofs.lemmas.Nat.{mul-le}
 use Rattle.h264_scale.specs.Lanes.{size_below}
 use Rattle.h264_scale.proofs.Sizes.{few_fit}
@@ -10,7 +9,8 @@ pub returns : goal.returns
 returns c small b within =
     let l = get_or c.args.levels.now b (replicate 16 (pos 0)) in
     let factor = c.greatest_factor in
-    let below : size_below 16 l ≤ c.from.result = elim (cases_lt b 4) [
+    let size = c.size_of_four.result + c.size_of_four-2.result + c.size_of_four-3.result + c.size_of_four-4.result in
+    let below : size_below 16 l ≤ size = elim (cases_lt b 4) [
       | inl p ↦ omega (arith, c.size_of_four.ensures.each b (omega arith) (omega (arith, p)))
       | inr p ↦ elim (cases_lt b 8) [
         | inl q ↦ omega (arith, c.size_of_four-2.ensures.each b (omega (arith, p)) (omega (arith, q)))
@@ -20,6 +20,6 @@ returns c small b within =
         ]
       ]
     ] in
-    let few : c.from.result * c.from-2.result ≤ 32735 = grind (arith, common_steps, small, c.from-3.ensures) in
-    let product = mul-le (size_below 16 l) factor.result c.from.result c.from-2.result below (let e = c.from-2.ensures in omega arith) in
+    let few = leb-true (size * factor.result) 32735 small in
+    let product = mul-le (size_below 16 l) factor.result size factor.result below (omega arith) in
     few_fit c.args.qp factor.result factor.ensures.most l (omega (arith, product, few))
