@@ -5,7 +5,7 @@ ghost use Rattle.std.specs.Prelude.{◌≡◌, ◌<◌, ◌^◌};
 ghost use Rattle.h264_c.specs.Infos.{IsCInfo};
 
 use h264_stream::StreamInfo;
-use h264_stream::info::{FrameRate, SampleShape};
+use h264_stream::info::FrameRate;
 
 /// What the parameter sets say of a stream: `h264v_info` of h264v.h.
 #[repr(C)]
@@ -39,9 +39,12 @@ fn in_32_bits(value: u64) -> u32
     }
 }
 
-/// The shape of a sample, with zeros where there is none.
-fn shape_of(info: &StreamInfo) -> SampleShape {
-    info.shape.unwrap_or_default()
+/// The width and the height of a sample, with zeros where they are not known.
+fn shape_of(info: &StreamInfo) -> (u64, u64) {
+    match info.shape {
+        Some(shape) => (shape.width, shape.height),
+        None => (0, 0),
+    }
 }
 
 /// The rate, with zeros where there is none.
@@ -53,7 +56,7 @@ fn rate_of(info: &StreamInfo) -> FrameRate {
 pub(crate) fn info_of(info: &StreamInfo) -> CInfo
     ensures { IsCInfo info.now result }
 {
-    let shape = shape_of(info);
+    let (sar_width, sar_height) = shape_of(info);
     let rate = rate_of(info);
     CInfo {
         rate_frames: rate.frames,
@@ -69,8 +72,8 @@ pub(crate) fn info_of(info: &StreamInfo) -> CInfo
         crop_right: in_32_bits(info.crop_right),
         crop_top: in_32_bits(info.crop_top),
         crop_bottom: in_32_bits(info.crop_bottom),
-        sar_width: in_32_bits(shape.width),
-        sar_height: in_32_bits(shape.height),
+        sar_width: in_32_bits(sar_width),
+        sar_height: in_32_bits(sar_height),
         is_fixed_rate: u32::from(info.is_fixed_rate),
     }
 }

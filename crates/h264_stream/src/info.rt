@@ -4,14 +4,8 @@
 ghost use Rattle.std.specs.Prelude.{◌≡◌, ◌*◌, ◌<◌, ◌^◌};
 ghost use Rattle.h264_stream.specs.Noted.{IsInfo};
 
-use h264_pages::survey::{AspectRatio, Sequence};
-
-/// The shape of a sample: its width to its height.
-#[derive(Clone, Copy, Default)]
-pub struct SampleShape {
-    pub width: u64,
-    pub height: u64,
-}
+use h264_lines::Aspect;
+use h264_pages::survey::Sequence;
 
 /// So many frames in so many seconds.
 #[derive(Clone, Copy, Default)]
@@ -39,7 +33,7 @@ pub struct StreamInfo {
     pub crop_top: u64,
     pub crop_bottom: u64,
     /// The sample aspect ratio. None: it is not given, or not specified.
-    pub shape: Option<SampleShape>,
+    pub shape: Option<Aspect>,
     /// The frame rate of the timing. None: it is not given.
     pub rate: Option<FrameRate>,
     /// Whether the rate is a fixed one.
@@ -54,47 +48,6 @@ const CROP_UNIT: u64 = 2;
 
 /// Fields of a frame: a tick is the time of a field (E.2.1).
 const FIELDS: u64 = 2;
-
-/// The shapes of aspect_ratio_idc 1 and up, width to height (table E-1).
-const SHAPES: [(u64, u64); 16] = [
-    (1, 1),
-    (12, 11),
-    (10, 11),
-    (16, 11),
-    (40, 33),
-    (24, 11),
-    (20, 11),
-    (32, 11),
-    (80, 33),
-    (18, 11),
-    (15, 11),
-    (64, 33),
-    (160, 99),
-    (4, 3),
-    (3, 2),
-    (2, 1),
-];
-
-/// aspect_ratio_idc with which sar_width and sar_height give the shape (table E-1).
-const EXTENDED_SAR: u64 = 255;
-
-impl SampleShape {
-    /// The shape that a set gives. None: it is not specified, or its number is reserved.
-    fn of(ratio: AspectRatio) -> Option<SampleShape> {
-        if ratio.aspect_ratio_idc == EXTENDED_SAR {
-            if ratio.sar_width == 0 || ratio.sar_height == 0 {
-                return None;
-            }
-            return Some(SampleShape {
-                width: ratio.sar_width,
-                height: ratio.sar_height,
-            });
-        }
-        let place = usize::try_from(ratio.aspect_ratio_idc.checked_sub(1)?).ok()?;
-        let (width, height) = *SHAPES.get(place)?;
-        Some(SampleShape { width, height })
-    }
-}
 
 impl FrameRate {
     /// The rate that a set gives (E.2.1). None: it gives no timing.
@@ -118,9 +71,10 @@ fn has_fixed_rate(set: &Sequence) -> bool {
     }
 }
 
-/// The shape of a set's samples.
-fn shape_of(set: &Sequence) -> Option<SampleShape> {
-    SampleShape::of(set.aspect_ratio?)
+/// The shape of a set's samples. None: it is not given, or not specified.
+fn shape_of(set: &Sequence) -> Option<Aspect> {
+    let ratio = set.aspect_ratio?;
+    Aspect::of(ratio.aspect_ratio_idc, ratio.sar_width, ratio.sar_height)
 }
 
 impl StreamInfo {
