@@ -2,3 +2,4 @@ pub mod Queued
 pub mod Decoded
 pub mod Givens
 pub mod Accounting
+pub mod Sending

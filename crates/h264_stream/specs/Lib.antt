@@ -3,3 +3,4 @@ pub mod Decoding
 pub mod Given
 pub mod Whole
 pub mod Noted
+pub mod Sent

@@ -13,6 +13,7 @@ use crate::filling::{Before, Filling};
 use crate::info::StreamInfo;
 use crate::notes::Notes;
 use crate::queue::{FrameQueue, ShownFrame};
+use crate::sent::{NotSent, StartCodes, is_unit, start_code};
 use h264_base::{Mode, Stop, Target};
 use h264_lines::answer::told_answer;
 use h264_pages::pages::Page;
@@ -134,19 +135,25 @@ pub enum Standing {
 
 /// A stream that is decoded as it comes, and its frames, which wait until they are taken.
 ///
+/// It is sent bytes of a byte stream, or NAL units without start codes. What is judged is the byte stream: all that was sent, with a start code put in
+/// before each such unit.
+///
 /// Each frame is copied once, when it is due, into the memory of one that was given back where there is one. The answer is the verdict of the bytes
-/// that were given; or Memory, where memory was refused to the session or to a frame. It is never Read or Write. Once it is known each call answers it
-/// again, and changes nothing.
+/// that were given; or Memory, where memory was refused to the session or to a frame. It is never Read or Write. It is told with its place in what was sent:
+/// start codes that were put in are not counted. Once it is known each call answers it again, and changes nothing.
 #[derive(Drop)]
 pub struct Decoder {
     standing: Standing,
     queue: FrameQueue,
     notes: Notes,
+    codes: StartCodes,
 }
 
 impl Decoder {
-    ghost use Rattle.std.specs.Prelude.{◌≤◌, vec_len, vec_capacity};
-    ghost use Rattle.h264_stream.specs.Given.{IsGiven, HasAnswered};
+    ghost use Rattle.std.specs.Prelude.{◌≤◌, ◌*◌, length, vec_len, vec_capacity};
+    ghost use Rattle.h264_units.specs.Stream.{IsBody, input_limit};
+    ghost use Rattle.h264_stream.specs.Given.{IsGiven, HasAnswered, HasTold};
+    ghost use Rattle.h264_stream.specs.Sent.{start_code, sent_answer};
     ghost use Rattle.h264_stream.specs.Noted.{verdict_object, IsInfo};
     ghost use Rattle.h264_pages.specs.Pages.{text_on};
     ghost use Rattle.std.specs.Prelude.{None, MatchOption};
@@ -156,6 +163,7 @@ impl Decoder {
     pub fn new(alloc: Global, mode: Mode, target: Target) -> Result<Decoder, Stop>
         ensures given { IfOk result (λ d. IsGiven (terms_of mode target) d []) }
         ensures handed_out { IfOk result (λ d. d.queue.handed_out ≡ 0) }
+        ensures codes { IfOk result (λ d. d.codes.bits.items ≡ []) }
         ensures err { IfErr result (λ e. e ≡ Stop.Memory) }
     {
         let session = Session::new(alloc, mode, target)?;
@@ -163,6 +171,7 @@ impl Decoder {
             standing: Standing::Running(session),
             queue: FrameQueue::new(alloc),
             notes: Notes::new(alloc),
+            codes: StartCodes::new(alloc),
         })
     }
 
@@ -171,6 +180,7 @@ impl Decoder {
     pub fn explaining(alloc: Global, mode: Mode, target: Target) -> Result<Decoder, Stop>
         ensures given { IfOk result (λ d. IsGiven (terms_of mode target) d []) }
         ensures handed_out { IfOk result (λ d. d.queue.handed_out ≡ 0) }
+        ensures codes { IfOk result (λ d. d.codes.bits.items ≡ []) }
         ensures err { IfErr result (λ e. e ≡ Stop.Memory) }
     {
         let decoder = Decoder::new(alloc, mode, target)?;
@@ -180,8 +190,8 @@ impl Decoder {
         }
     }
 
-    /// Decodes the next bytes. None: the stream goes on. Else the answer, however it goes on.
-    pub fn send(&mut self, piece: &[u8]) -> Option<Result<Summary, Stop>>
+    /// Judges the next bytes of the byte stream. None: it goes on. Else the answer, however it goes on.
+    fn judge(&mut self, piece: &[u8]) -> Option<Result<Summary, Stop>>
         ensures given { (terms : Terms) (bytes : List ℕ) → IsGiven terms self.old bytes →
             IfNone result (IsGiven terms self.new (bytes ++ piece.now)) }
         ensures answered { (terms : Terms) (bytes : List ℕ) → IsGiven terms self.old bytes →
@@ -190,11 +200,13 @@ impl Decoder {
         ensures grows { (terms : Terms) (bytes : List ℕ) → IsGiven terms self.old bytes →
             HasGrown self.old.queue.handed_out self.old.queue.waiting.items self.new.queue.handed_out self.new.queue.waiting.items }
         ensures again { (answer : Result Summary Stop) → self.old.standing ≡ Fallen answer → (result ≡ Some answer) × (self.new ≡ self.old) }
+        ensures codes { self.new.codes.bits.items ≡ self.old.codes.bits.items }
     {
         let answer = match &mut self.standing {
             Standing::Fallen(answer) => return Some(*answer),
             Standing::Running(session) => {
                 self.notes.note_bytes(piece);
+                self.codes.pass(piece.len());
                 match feed_queue(session, piece, &mut self.queue, &mut self.notes) {
                     None => return None,
                     Some(answer) => answer,
@@ -205,24 +217,99 @@ impl Decoder {
         Some(answer)
     }
 
-    /// Decodes the end of the stream: the answer to all that was given.
-    pub fn finish(&mut self) -> Result<Summary, Stop>
-        ensures answered { (terms : Terms) (bytes : List ℕ) → IsGiven terms self.old bytes → HasAnswered terms self.new bytes result }
+    /// Judges a start code and the unit after it, as `judge` does.
+    fn judge_unit(&mut self, unit: &[u8]) -> Option<Result<Summary, Stop>>
+        ensures given { (terms : Terms) (bytes : List ℕ) → IsGiven terms self.old bytes →
+            IfNone result (IsGiven terms self.new (bytes ++ (start_code ++ unit.now))) }
+        ensures answered { (terms : Terms) (bytes : List ℕ) → IsGiven terms self.old bytes →
+            IfSome result (λ answer. (later : List ℕ) → HasAnswered terms self.new ((bytes ++ (start_code ++ unit.now)) ++ later) answer) }
         ensures grows { (terms : Terms) (bytes : List ℕ) → IsGiven terms self.old bytes →
             HasGrown self.old.queue.handed_out self.old.queue.waiting.items self.new.queue.handed_out self.new.queue.waiting.items }
-        ensures again { (answer : Result Summary Stop) → self.old.standing ≡ Fallen answer → (result ≡ answer) × (self.new ≡ self.old) }
+        ensures codes { self.new.codes.bits.items ≡ self.old.codes.bits.items }
+    {
+        match self.judge(start_code()) {
+            Some(answer) => Some(answer),
+            None => {
+                self.notes.note_start_code();
+                self.judge(unit)
+            }
+        }
+    }
+
+    /// Decodes the next bytes. None: the stream goes on. Else the answer, however it goes on.
+    pub fn send(&mut self, piece: &[u8]) -> Option<Result<Summary, Stop>>
+        ensures given { (terms : Terms) (bytes : List ℕ) → IsGiven terms self.old bytes →
+            IfNone result (IsGiven terms self.new (bytes ++ piece.now)) }
+        ensures told { (terms : Terms) (bytes : List ℕ) → IsGiven terms self.old bytes →
+            IfSome result (λ told. (later : List ℕ) → HasTold terms self.new ((bytes ++ piece.now) ++ later) told) }
+        // No frame is handed out, and what waited comes first.
+        ensures grows { (terms : Terms) (bytes : List ℕ) → IsGiven terms self.old bytes →
+            HasGrown self.old.queue.handed_out self.old.queue.waiting.items self.new.queue.handed_out self.new.queue.waiting.items }
+        ensures again { (answer : Result Summary Stop) → self.old.standing ≡ Fallen answer →
+            (result ≡ Some (sent_answer self.old.codes.bits.items answer)) × (self.new ≡ self.old) }
+        ensures codes { self.new.codes.bits.items ≡ self.old.codes.bits.items }
+    {
+        let answer = self.judge(piece)?;
+        Some(self.codes.sent_answer(answer))
+    }
+
+    /// Decodes the next NAL unit, which has no start code: one is put in before it. None: the stream goes on. Else the answer, however it goes on.
+    /// Err: nothing was sent.
+    pub fn send_unit(&mut self, unit: &[u8]) -> Result<Option<Result<Summary, Stop>>, NotSent>
+        ensures given { (terms : Terms) (bytes : List ℕ) → IsGiven terms self.old bytes →
+            IfOk result (λ told. IfNone told (IsGiven terms self.new (bytes ++ (start_code ++ unit.now)))) }
+        ensures told { (terms : Terms) (bytes : List ℕ) → IsGiven terms self.old bytes →
+            IfOk result (λ told. IfSome told (λ told. (later : List ℕ) → HasTold terms self.new ((bytes ++ (start_code ++ unit.now)) ++ later) told)) }
+        // The start code is noted, at its bit of the byte stream.
+        ensures codes { (terms : Terms) (bytes : List ℕ) → IsGiven terms self.old bytes → length bytes ≤ input_limit →
+            OnOk result (self.new.codes.bits.items ≡ self.old.codes.bits.items ++ 8 * length bytes ∷ []) }
+        ensures grows { (terms : Terms) (bytes : List ℕ) → IsGiven terms self.old bytes →
+            HasGrown self.old.queue.handed_out self.old.queue.waiting.items self.new.queue.handed_out self.new.queue.waiting.items }
+        // What is sent is one unit.
+        ensures unit { (terms : Terms) (bytes : List ℕ) → IsGiven terms self.old bytes → OnOk result (IsBody unit.now) }
+        ensures no_unit { result ≡ Err NotSent.NoUnit → IsBody unit.now → ⊥ }
+        // Memory is asked for only where the list of start codes is full.
+        ensures memory { result ≡ Err NotSent.Memory → vec_capacity self.old.codes.bits ≤ vec_len self.old.codes.bits }
+        ensures not_sent { (terms : Terms) (bytes : List ℕ) → IsGiven terms self.old bytes → OnErr result (IsGiven terms self.new bytes) }
+        ensures kept { OnErr result (self.new.codes.bits.items ≡ self.old.codes.bits.items) }
+        ensures again { (answer : Result Summary Stop) → self.old.standing ≡ Fallen answer →
+            (result ≡ Ok (Some (sent_answer self.old.codes.bits.items answer))) × (self.new ≡ self.old) }
+    {
+        if let Standing::Fallen(answer) = &self.standing {
+            return Ok(Some(self.codes.sent_answer(*answer)));
+        }
+        if !is_unit(unit) {
+            return Err(NotSent::NoUnit);
+        }
+        if self.codes.put().is_err() {
+            return Err(NotSent::Memory);
+        }
+        match self.judge_unit(unit) {
+            None => Ok(None),
+            Some(answer) => Ok(Some(self.codes.sent_answer(answer))),
+        }
+    }
+
+    /// Decodes the end of the stream: the answer to all that was given.
+    pub fn finish(&mut self) -> Result<Summary, Stop>
+        ensures told { (terms : Terms) (bytes : List ℕ) → IsGiven terms self.old bytes → HasTold terms self.new bytes result }
+        ensures grows { (terms : Terms) (bytes : List ℕ) → IsGiven terms self.old bytes →
+            HasGrown self.old.queue.handed_out self.old.queue.waiting.items self.new.queue.handed_out self.new.queue.waiting.items }
+        ensures again { (answer : Result Summary Stop) → self.old.standing ≡ Fallen answer →
+            (result ≡ sent_answer self.old.codes.bits.items answer) × (self.new ≡ self.old) }
+        ensures codes { self.new.codes.bits.items ≡ self.old.codes.bits.items }
     {
         let open = mem::replace(&mut self.standing, Standing::Fallen(Err(Stop::Memory)));
         match open {
             Standing::Fallen(answer) => {
                 self.standing = Standing::Fallen(answer);
-                return answer;
+                return self.codes.sent_answer(answer);
             }
             Standing::Running(session) => {
                 self.notes.note_end();
                 let answer = conclude_queue(session, &mut self.queue, &mut self.notes);
                 self.standing = Standing::Fallen(answer);
-                return answer;
+                return self.codes.sent_answer(answer);
             }
         }
     }
@@ -237,6 +324,7 @@ impl Decoder {
         ensures given { (terms : Terms) (bytes : List ℕ) → IsGiven terms self.old bytes → IsGiven terms self.new bytes }
         ensures answered { (terms : Terms) (bytes : List ℕ) (answer : Result Summary Stop) → HasAnswered terms self.old bytes answer →
             HasAnswered terms self.new bytes answer }
+        ensures codes { self.new.codes.bits.items ≡ self.old.codes.bits.items }
     {
         self.queue.take_frame()
     }
@@ -251,6 +339,7 @@ impl Decoder {
         ensures given { (terms : Terms) (bytes : List ℕ) → IsGiven terms self.old bytes → IsGiven terms self.new bytes }
         ensures answered { (terms : Terms) (bytes : List ℕ) (answer : Result Summary Stop) → HasAnswered terms self.old bytes answer →
             HasAnswered terms self.new bytes answer }
+        ensures codes { self.new.codes.bits.items ≡ self.old.codes.bits.items }
     {
         self.queue.give_back(frame);
     }
@@ -266,11 +355,11 @@ impl Decoder {
     /// The object of JSON of the answer (docs/OUTPUT.md), without `file`. None: the stream goes on, or there is no memory for it.
     pub fn object(&self, alloc: Global) -> Option<Page>
         ensures answered { (answer : Result Summary Stop) → self.now.standing ≡ Fallen answer →
-            IfSome result (λ page. (more : List ℕ) × (text_on page ≡ verdict_object answer more)) }
+            IfSome result (λ page. (more : List ℕ) × (text_on page ≡ verdict_object (sent_answer self.now.codes.bits.items answer) more)) }
         ensures running { (terms : Terms) (bytes : List ℕ) → IsGiven terms self.now bytes → result ≡ None }
     {
         match &self.standing {
-            Standing::Fallen(answer) => self.notes.object(alloc, *answer),
+            Standing::Fallen(answer) => self.notes.object(alloc, self.codes.sent_answer(*answer)),
             Standing::Running(_) => None,
         }
     }

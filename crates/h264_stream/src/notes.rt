@@ -5,6 +5,7 @@ ghost use Rattle.std.specs.Prelude.{◌≡◌, ℕ, List, None, IfSome};
 ghost use Rattle.h264_pages.specs.Pages.{answer_fields, text_on, AddsFirst};
 ghost use Rattle.h264_stream.specs.Noted.{verdict_object};
 
+use crate::sent::{BITS_A_BYTE, CODE_BITS};
 use h264_base::{ElementName, Stop, Summary};
 use h264_pages::pages::{
     Finding, Page, Start, guide_of, put_bare_verdict_fields, put_verdict_fields,
@@ -22,6 +23,8 @@ struct Explained {
     start: Start,
     /// Whether the stream has ended.
     ended: bool,
+    /// How many bits of start codes were put in before the unit that is read.
+    code_bits: u64,
 }
 
 /// What is noted of a stream.
@@ -61,6 +64,7 @@ impl Notes {
                 survey,
                 start: Start::new(),
                 ended: false,
+                code_bits: 0,
             }),
             listens: true,
         })
@@ -97,6 +101,13 @@ impl Notes {
         }
     }
 
+    /// Notes that a start code was put in. All units before it were noted.
+    pub(crate) fn note_start_code(&mut self) {
+        if let Some(explained) = &mut self.explained {
+            explained.code_bits = explained.code_bits.saturating_add(CODE_BITS);
+        }
+    }
+
     /// Notes that the stream has ended.
     pub(crate) fn note_end(&mut self) {
         if let Some(explained) = &mut self.explained {
@@ -119,9 +130,10 @@ impl Notes {
                 NalUnitType::SequenceSet | NalUnitType::PictureSet
             );
         if let Some(explained) = &mut self.explained {
+            let sent_byte = byte.saturating_sub(explained.code_bits / BITS_A_BYTE);
             explained
                 .survey
-                .note_unit(byte, nal_unit_type, nal_ref_idc, length);
+                .note_unit(sent_byte, nal_unit_type, nal_ref_idc, length);
         }
     }
 
@@ -138,7 +150,8 @@ impl Notes {
     fn note_heard(&mut self, name: ElementName, bit: u64, value: i64) {
         self.note_set(name, value);
         if let Some(explained) = &mut self.explained {
-            explained.survey.note_element(name, bit, value);
+            let sent_bit = bit.saturating_sub(explained.code_bits);
+            explained.survey.note_element(name, sent_bit, value);
         }
     }
 

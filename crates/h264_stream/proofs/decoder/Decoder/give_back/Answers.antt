@@ -5,6 +5,7 @@ returns-clause-given c terms bytes v = record {
   session = v.session;
   runs = v.runs;
   decoding = rw (c.give_back.ensures.waiting, c.give_back.ensures.handed_out) v.decoding;
+  counted = v.counted;
 }
 
 pub returns-clause-answered : goal.returns-clause-answered

@@ -1,16 +1,5 @@
-use Rattle.std.proofs.Common.{refl}
-use Rattle.h264_stream.proofs.Givens.{given-decoding}
 use Rattle.h264_stream.proofs.decoder.Decoder.send.Goals as goal
 
-pub returns-in-None-clause-grows : goal.returns-in-None-clause-grows
-returns-in-None-clause-grows c terms bytes v = c.feed_queue.ensures.grows terms bytes (given-decoding c.in-Running.is v)
-
-pub returns-clause-grows : goal.returns-clause-grows
-returns-clause-grows c terms bytes v = c.feed_queue.ensures.grows terms bytes (given-decoding c.in-Running.is v)
-
-pub returns-in-None-clause-given : goal.returns-in-None-clause-given
-returns-in-None-clause-given c terms bytes v = record {
-  session = c.feed_queue.new.session;
-  runs = refl;
-  decoding = rw c.in-None.is at (c.feed_queue.ensures.goes terms bytes (given-decoding c.in-Running.is v));
-}
+pub returns-clause-told : goal.returns-clause-told
+returns-clause-told c terms bytes v later =
+    record { answer = c.in_ok-answer.answer; answered = c.in_ok-answer.ensures.answered terms bytes v later; told_is = c.sent_answer.ensures }

@@ -8,7 +8,12 @@ returns-clause-given c terms bytes v =
     let d = v.decoding in
     let w = waits-after (calls_of d.frames d.told) c.take_frame.result c.take_frame.ensures.first c.take_frame.ensures.counted c.take_frame.ensures.kept
     d.waits in
-    record { session = v.session; runs = v.runs; decoding = record { frames = d.frames; told = d.told; fed = d.fed; decoded = d.decoded; waits = w } }
+    record {
+      session = v.session;
+      runs = v.runs;
+      decoding = record { frames = d.frames; told = d.told; fed = d.fed; decoded = d.decoded; waits = w };
+      counted = v.counted;
+    }
 
 pub returns-clause-answered : goal.returns-clause-answered
 returns-clause-answered c terms bytes answer v =
