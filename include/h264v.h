@@ -2,7 +2,7 @@
  *
  *     h264v *decoder;
  *     if (h264v_open(H264V_FULL, H264V_BASELINE, &decoder) != H264V_OPENED) ..
- *     send bytes, in pieces of any size, and after each piece receive frames until there is none
+ *     send bytes, in pieces of any size, or units without start codes, and after each receive frames until there is none
  *     finish, and receive the last frames
  *     close
  *
@@ -65,6 +65,9 @@ enum {
     H264V_FELL = 1     /* the verdict stands, whatever bytes may still come, and was written */
 };
 
+/* What h264v_send_unit answers beside these. Nothing was sent then, the verdict was not written, and the decoder is as it was. */
+enum { H264V_NO_UNIT = 2 /* no NAL unit has these bytes; or H264V_MEMORY, where memory was refused */ };
+
 /* What h264v_receive answers. */
 enum {
     H264V_NO_FRAME = 0, /* none waits; the frame was not written */
@@ -73,7 +76,7 @@ enum {
 
 /* A verdict. Fields that the kind does not have are 0. */
 typedef struct {
-    uint64_t bit;      /* NO and OUTSIDE: where it stands, in bits of the input from 0, the highest bit of a byte first */
+    uint64_t bit;      /* NO and OUTSIDE: where it stands, in bits of what was sent from 0, the highest bit of a byte first */
     uint64_t units;    /* YES: the units of the stream */
     uint64_t pictures; /* YES: the coded pictures; 0 with H264V_UNITS */
     uint64_t frames;   /* YES: the frames; 0 with H264V_UNITS and H264V_HEADERS */
@@ -135,8 +138,18 @@ int32_t h264v_open_explaining(uint32_t mode, uint32_t target, h264v **decoder);
 
 /* Decodes the next `size` bytes of the stream. They are read before it returns, and not kept.
  * Answers H264V_GOES_ON, or H264V_FELL: then the verdict is in *verdict, no frame comes after those that wait, and each
- * further call of h264v_send and h264v_finish says that verdict again and changes nothing. */
+ * further call of h264v_send, h264v_send_unit and h264v_finish says that verdict again and changes nothing. */
 int32_t h264v_send(h264v *decoder, const uint8_t *bytes, size_t size, h264v_verdict *verdict);
+
+/* Decodes the next NAL unit of the stream: `size` bytes without a start code, as MP4 (AVCC) and RTP have them. The library puts 00 00 01
+ * before them. Places count the bytes that were sent, and no start code that was put in: the bit of a verdict, and the places of
+ * h264v_explain. A unit is judged once its end is known, by the next unit or by h264v_finish, so a verdict may stand in an earlier one.
+ * Answers H264V_GOES_ON or H264V_FELL, as h264v_send does. H264V_NO_UNIT: no NAL unit has these bytes (7.4.1), since there are none,
+ * or 00 00 00 or 00 00 01 stands in them, or the last one is 00. Zero bytes after a unit are no part of it: leave them out.
+ * H264V_MEMORY: memory was refused. The decoder keeps 8 bytes for each unit.
+ * Both calls may be used for one stream. The start code ends a unit that h264v_send left open, and bytes of h264v_send after a unit
+ * begin with a start code of their own. */
+int32_t h264v_send_unit(h264v *decoder, const uint8_t *bytes, size_t size, h264v_verdict *verdict);
 
 /* Lends the next frame in the order of output, and takes back the one lent before.
  * Answers H264V_FRAME, or H264V_NO_FRAME. A frame that waits stays until it is received, after the verdict too. */

@@ -4,14 +4,16 @@
 //! `Stream` what it points to, and `CVerdict` and `CFrame` what C reads. A caller in C has to do what the header asks of it.
 #![tactic(auto)]
 
-ghost use Rattle.std.specs.Prelude.{◌≡◌, ◌≢◌, ℕ, ◌<◌, ◌≤◌, ◌++◌, ◌⊎◌, List, ◌∷◌, take, length, Result, Some, None, pos};
+ghost use Rattle.std.specs.Prelude.{◌≡◌, ◌≢◌, ℕ, ◌*◌, ◌<◌, ◌≤◌, ◌++◌, ◌⊎◌, List, [], ◌∷◌, take, length, Result, Some, None, pos, vec_len, vec_capacity};
 ghost use Rattle.h264_base.specs.declared.mode.Mode.{Mode};
 ghost use Rattle.h264_base.specs.declared.mode.Target.{Target};
 ghost use Rattle.h264_base.specs.declared.stop.Stop.{Stop};
 ghost use Rattle.h264_verify.specs.Units.{terms_of};
 ghost use Rattle.h264_base.specs.declared.summary.Summary.{Summary};
 ghost use Rattle.h264_verify.specs.declared.state.Terms.{Terms};
-ghost use Rattle.h264_stream.specs.Given.{IsGiven, HasAnswered};
+ghost use Rattle.h264_stream.specs.Given.{IsGiven, HasTold};
+ghost use Rattle.h264_stream.specs.Sent.{start_code, sent_answer};
+ghost use Rattle.h264_units.specs.Stream.{IsBody, input_limit};
 ghost use Rattle.h264_verify.specs.Account.{Account};
 ghost use Rattle.h264_stream.specs.declared.decoder.Decoder.{Decoder};
 ghost use Rattle.h264_stream.specs.declared.queue.ShownFrame.{ShownFrame};
@@ -35,7 +37,7 @@ mod version;
 
 use frame::CFrame;
 use h264_base::Stop;
-use h264_stream::{Decoder, judge_bytes};
+use h264_stream::{Decoder, NotSent, judge_bytes};
 use info::{CInfo, info_of};
 use numbers::{mode_of, target_of};
 use std::alloc::Global;
@@ -47,7 +49,7 @@ use version::version;
 /// What `h264v_open` answers where there is a decoder.
 const OPENED: i32 = 0;
 
-/// What `h264v_open` answers where memory was refused.
+/// What `h264v_open` and `h264v_send_unit` answer where memory was refused.
 const MEMORY: i32 = 3;
 
 /// What `h264v_open` answers where the mode or the target is not known.
@@ -58,6 +60,9 @@ const GOES_ON: i32 = 0;
 
 /// What `h264v_send` answers where the verdict stands.
 const FELL: i32 = 1;
+
+/// What `h264v_send_unit` answers where the bytes are those of no NAL unit.
+const NO_UNIT: i32 = 2;
 
 /// What `h264v_receive` answers where no frame waits.
 const NO_FRAME: i32 = 0;
@@ -147,8 +152,9 @@ pub extern "C" fn h264v_send(
     ensures untouched { result ≡ pos 0 → verdict.new ≡ verdict.old }
     // The verdict is that of what was sent, however it goes on.
     ensures verdict { (terms : Terms) (before : List ℕ) → IsGiven terms decoder.value.decoder before → result ≡ pos 1 →
-        (answer : Result Summary Stop) × (after : Decoder) × IsVerdict answer verdict.new
-        × ((later : List ℕ) → HasAnswered terms after ((before ++ bytes.now) ++ later) answer) }
+        (told : Result Summary Stop) × (after : Decoder) × IsVerdict told verdict.new
+        × ((later : List ℕ) → HasTold terms after ((before ++ bytes.now) ++ later) told)
+        × (after.codes.bits.items ≡ decoder.value.decoder.codes.bits.items) }
 {
     let mut stream = decoder.into_box(alloc);
     let answer = stream.decoder.send(bytes);
@@ -159,6 +165,40 @@ pub extern "C" fn h264v_send(
             *verdict = verdict_of(answer);
             FELL
         }
+    }
+}
+
+/// Decodes the next NAL unit, which has no start code. FELL: the verdict stands in `verdict`. NO_UNIT and MEMORY: nothing was sent.
+#[unsafe(no_mangle)]
+pub extern "C" fn h264v_send_unit(
+    alloc: Global,
+    decoder: Handle,
+    bytes: &[u8],
+    verdict: &mut CVerdict,
+) -> i32
+    ensures answers { (result ≡ pos 0) ⊎ (result ≡ pos 1) ⊎ (result ≡ pos 2) ⊎ (result ≡ pos 3) }
+    ensures untouched { result ≢ pos 1 → verdict.new ≡ verdict.old }
+    // What is sent is a unit, and what is none is told as such.
+    ensures unit { (terms : Terms) (before : List ℕ) → IsGiven terms decoder.value.decoder before → (result ≡ pos 0) ⊎ (result ≡ pos 1) → IsBody bytes.now }
+    ensures no_unit { result ≡ pos 2 → IsBody bytes.now → ⊥ }
+    ensures memory { result ≡ pos 3 → vec_capacity decoder.value.decoder.codes.bits ≤ vec_len decoder.value.decoder.codes.bits }
+    // The verdict is that of what was sent and of the unit after a start code, however it goes on. The bits of the start code are not counted in its place.
+    ensures verdict { (terms : Terms) (before : List ℕ) → IsGiven terms decoder.value.decoder before → result ≡ pos 1 →
+        (told : Result Summary Stop) × (after : Decoder) × IsVerdict told verdict.new
+        × ((later : List ℕ) → HasTold terms after ((before ++ (start_code ++ bytes.now)) ++ later) told)
+        × (length before ≤ input_limit → after.codes.bits.items ≡ decoder.value.decoder.codes.bits.items ++ 8 * length before ∷ []) }
+{
+    let mut stream = decoder.into_box(alloc);
+    let sent = stream.decoder.send_unit(bytes);
+    let _at = Box::into_raw(stream);
+    match sent {
+        Ok(None) => GOES_ON,
+        Ok(Some(answer)) => {
+            *verdict = verdict_of(answer);
+            FELL
+        }
+        Err(NotSent::NoUnit) => NO_UNIT,
+        Err(NotSent::Memory) => MEMORY,
     }
 }
 
@@ -188,7 +228,8 @@ pub extern "C" fn h264v_receive(alloc: Global, decoder: Handle, frame: &mut CFra
 pub extern "C" fn h264v_finish(alloc: Global, decoder: Handle, verdict: &mut CVerdict)
     // The verdict is that of all that was sent.
     ensures { (terms : Terms) (before : List ℕ) → IsGiven terms decoder.value.decoder before →
-        (answer : Result Summary Stop) × (after : Decoder) × IsVerdict answer verdict.new × HasAnswered terms after before answer }
+        (told : Result Summary Stop) × (after : Decoder) × IsVerdict told verdict.new × HasTold terms after before told
+        × (after.codes.bits.items ≡ decoder.value.decoder.codes.bits.items) }
 {
     let mut stream = decoder.into_box(alloc);
     let answer = stream.decoder.finish();
@@ -201,7 +242,7 @@ pub extern "C" fn h264v_finish(alloc: Global, decoder: Handle, verdict: &mut CVe
 pub extern "C" fn h264v_explain(alloc: Global, decoder: Handle, buffer: &mut [u8]) -> usize
     // The object is that of the verdict, and a 0 stands after it.
     ensures object { (answer : Result Summary Stop) → decoder.value.decoder.standing ≡ Fallen answer → 0 < result → result < length buffer.old →
-        (more : List ℕ) × (take result buffer.new ≡ verdict_object answer more) }
+        (more : List ℕ) × (take result buffer.new ≡ verdict_object (sent_answer decoder.value.decoder.codes.bits.items answer) more) }
     ensures wide { length buffer.old ≤ result → buffer.new ≡ buffer.old }
     ensures running { (terms : Terms) (before : List ℕ) → IsGiven terms decoder.value.decoder before → result ≡ 0 }
 {
