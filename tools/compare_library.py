@@ -3,13 +3,14 @@
 
     tools/compare_library.py PROGRAM LIBRARY PAGE SCREENSHOT FILE|FOLDER..
 
-PROGRAM is h264v, LIBRARY the shared object (libh264v.so.0), PAGE what web/build.sh wrote. The ways are C (examples/c/decode.c), Python (python/) and
-the page in headless Chromium; SCREENSHOT shows it with the last stream. `-` for PAGE leaves the page out. A FOLDER stands for the .264 files in it.
+PROGRAM is h264v, LIBRARY the shared object (libh264v.so.0), PAGE what web/build.sh wrote. The ways are C (examples/c/decode.c), Python (python/), units
+without start codes by Python, and the page in headless Chromium; SCREENSHOT shows it with the last stream. `-` for PAGE leaves the page out. A FOLDER stands for the .264 files in it.
 Each stream is judged for both targets. Says of each difference what it is, and at the end how many streams agree; status 1 where one differs.
 Needs cc, and chromium for the page. A plain build is compared as well as a proved one: which they are is the caller's to say.
 """
 import hashlib
 import os
+import re
 import subprocess
 import sys
 import tempfile
@@ -120,16 +121,62 @@ class InPython:
             return f"no: bit {verdict.bit}: {verdict.label} (clause {verdict.clause})"
         return f"outside: bit {verdict.bit}: {verdict.label}"
 
+    def frames_of(self, decoder):
+        """The frames that a decoder has, each with its count, its size and its digest."""
+        return [(f.count, f"{f.width}x{f.height}", hashlib.md5(f.samples).hexdigest()) for f in decoder]
+
     def judge(self, name, target, wanted):
         """What differs from the program's answer: of Decoder, or of check."""
         number = self.module.Target(TARGETS.index(target))
         with open(name, "rb") as file, self.module.Decoder(file, target=number, lend=True) as decoder:
-            frames = [(f.count, f"{f.width}x{f.height}", hashlib.md5(f.samples).hexdigest()) for f in decoder]
+            frames = self.frames_of(decoder)
             verdict = decoder.verdict
         with open(name, "rb") as file:
             checked = self.module.check(file.read(), target=number)
         told = Answer(self.line_of(verdict), int(verdict.kind), frames)
         return wanted.difference(told) or (None if checked == verdict else f"check says {checked}")
+
+
+def units_of(data):
+    """Where each NAL unit of a byte stream begins, and its bytes, without the zero bytes after it (B.1.1)."""
+    starts = [found.end() for found in re.finditer(b"\0\0\1", data)]
+    ends = [start - len(b"\0\0\1") for start in starts[1:]] + [len(data)]
+    return [(start, data[start:end].rstrip(b"\0")) for start, end in zip(starts, ends)]
+
+
+def line_in_units(line, units):
+    """A last line with its bit counted in the bytes of the units alone."""
+    found = re.search(r"bit (\d+):", line)
+    if not found:
+        return line
+    bit = int(found[1])
+    sent = sum(min(max(bit - 8 * start, 0), 8 * len(unit)) for start, unit in units)
+    return line.replace(found[0], f"bit {sent}:", 1)
+
+
+class InUnits(InPython):
+    """The Python module over the shared object, by units without start codes."""
+
+    #: What no unit breaks, but the bytes around the units.
+    AROUND = (": ByteStream ", ": EmptyUnit ")
+
+    def judge(self, name, target, wanted):
+        """What differs from the program's answer, whose bit is counted in the bytes of the units alone."""
+        if any(label in wanted.line for label in self.AROUND):
+            return None
+        with open(name, "rb") as file:
+            units = units_of(file.read())
+        frames = []
+        with self.module.Decoder(target=self.module.Target(TARGETS.index(target)), lend=True) as decoder:
+            for _, unit in units:
+                decoder.send_unit(unit)
+                frames += self.frames_of(decoder)
+                if decoder.verdict:
+                    break
+            verdict = decoder.finish()
+            frames += self.frames_of(decoder)
+        told = Answer(self.line_of(verdict), int(verdict.kind), frames)
+        return Answer(line_in_units(wanted.line, units), wanted.status, wanted.frames).difference(told)
 
 
 class OnPage:
@@ -170,7 +217,7 @@ def main():
     path, library, page, screenshot, *words = sys.argv[1:]
     names, frames = list(names_in(words)), 0
     with tempfile.TemporaryDirectory(prefix="h264v-compare.") as folder:
-        ways = {"C": InC(library, folder).judge, "Python": InPython(library).judge}
+        ways = {"C": InC(library, folder).judge, "Python": InPython(library).judge, "units": InUnits(library).judge}
         shown = None if page == "-" else OnPage(page)
         if shown:
             ways["page"] = shown.judge

@@ -8,7 +8,9 @@
 #include <stdlib.h>
 
 enum { SIDE = 16, SAMPLES = SIDE * SIDE * 3 / 2, GREY = 128, MARK = 0x5a, VECTOR_BIT = 256, BYTES_OF_VERDICT = 72, BYTES_OF_FRAME = 32 };
-enum { MORE = 40, OBJECT = 2048, BYTES_OF_INFO = 72 };
+enum { MORE = 40, OBJECT = 2048, BYTES_OF_INFO = 72, LAST_UNIT = 29 };
+/* Of VECTOR_TOO_LONG: where its second and its last start code begin, and how many bytes its four start codes have. */
+enum { SECOND_CODE = 10, LAST_CODE = 26, CODES = 4 + 4 + 3 + 3 };
 
 /* The sizes that other languages lay out by hand. */
 _Static_assert(sizeof(h264v_verdict) == BYTES_OF_VERDICT, "the size of a verdict");
@@ -48,6 +50,15 @@ static int is_vector_range(const h264v_verdict *v)
 {
     return v->kind == H264V_NO && v->bit == VECTOR_BIT && v->units == 0 && v->pictures == 0 && v->frames == 0 &&
            strcmp(v->label, "VectorRange") == 0 && strcmp(v->clause, "A.3") == 0;
+}
+
+/* Whether an object of JSON has a text in it. */
+static int has(const char *object, const char *text)
+{
+    if (strstr(object, text))
+        return 1;
+    printf("%s\n", object);
+    return 0;
 }
 
 /* h264v_open with modes and targets that are, and that are not. */
@@ -155,6 +166,75 @@ static void broken(const stream *s)
     h264v_close(decoder);
 }
 
+/* Sends the units of a stream from this place on without their start codes, up to its end or to the verdict; the last answer. */
+static int32_t sent_units(h264v *decoder, const stream *s, size_t at, h264v_verdict *verdict)
+{
+    int32_t answer = H264V_GOES_ON;
+    size_t end;
+    for (size_t from = unit_from(s, at, &end); from < s->size && answer == H264V_GOES_ON; from = unit_from(s, end, &end))
+        answer = h264v_send_unit(decoder, s->bytes + from, end - from, verdict);
+    return answer;
+}
+
+/* A legal stream in units, between bytes that are no unit: what each call answers, and what it leaves. */
+static void legal_in_units(const stream *s)
+{
+    static const uint8_t none[1] = {0}, two_units[] = {0x67, 0x42, 0, 0, 1, 0x68}, zeros[] = {0x67, 0, 0, 0, 1}, after[] = {0x68, 0xce, 0};
+    h264v *decoder = opened(H264V_FULL, H264V_BASELINE);
+    h264v_verdict verdict;
+    size_t end;
+    memset(&verdict, MARK, sizeof verdict);
+    for (size_t from = unit_from(s, 0, &end); from < s->size; from = unit_from(s, end, &end)) {
+        expect(h264v_send_unit(decoder, none, 0, &verdict) == H264V_NO_UNIT, "no bytes are no unit");
+        expect(h264v_send_unit(decoder, two_units, sizeof two_units, &verdict) == H264V_NO_UNIT, "two units are no unit");
+        expect(h264v_send_unit(decoder, zeros, sizeof zeros, &verdict) == H264V_NO_UNIT, "no unit has 00 00 00");
+        expect(h264v_send_unit(decoder, after, sizeof after, &verdict) == H264V_NO_UNIT, "no unit ends in 00");
+        expect(h264v_send_unit(decoder, s->bytes + from, end - from, &verdict) == H264V_GOES_ON, "a unit goes on");
+    }
+    expect(is_marked(&verdict, sizeof verdict), "the verdict is not written while the stream goes on");
+    h264v_finish(decoder, &verdict);
+    expect(is_yes(&verdict, 3, 1, 1), "the verdict on legal units");
+    expect(received(decoder, 0) == 1, "their frame");
+    memset(&verdict, MARK, sizeof verdict);
+    expect(h264v_send_unit(decoder, none, 0, &verdict) == H264V_FELL && is_yes(&verdict, 3, 1, 1), "a unit after the verdict says it again");
+    h264v_close(decoder);
+}
+
+/* A stream that breaks a rule, of which so many bytes are sent as they are and the rest in units: the bit counts no start code that was put in. */
+static void broken_in_units(const stream *s, size_t bytes, uint64_t bit)
+{
+    h264v *decoder;
+    h264v_verdict verdict, again;
+    char object[OBJECT], wanted[64];
+    expect(h264v_open_explaining(H264V_FULL, H264V_BASELINE, &decoder) == H264V_OPENED, "there is a decoder that explains");
+    expect(h264v_send(decoder, s->bytes, bytes, &verdict) == H264V_GOES_ON, "the first bytes go on");
+    if (sent_units(decoder, s, bytes, &verdict) == H264V_GOES_ON)
+        h264v_finish(decoder, &verdict);
+    expect(verdict.kind == H264V_NO && verdict.bit == bit && strcmp(verdict.label, "VectorRange") == 0, "the bit of what was sent");
+    memset(&again, MARK, sizeof again);
+    expect(sent_units(decoder, s, 0, &again) == H264V_FELL && same(&verdict, &again), "a unit after the verdict says it again");
+    expect(h264v_explain(decoder, object, sizeof object) < sizeof object, "an object");
+    snprintf(wanted, sizeof wanted, ",\"bit\":%u,\"byte\":%u,\"unit\":%u,\"nal_unit_type\":1,", (unsigned)bit, (unsigned)bit / 8,
+             (unsigned)bit / 8 - (VECTOR_BIT / 8 - LAST_UNIT));
+    expect(has(object, wanted) && has(object, "\"element\":\"mb_type\","), "its places count the same bytes");
+    h264v_close(decoder);
+}
+
+/* A picture that lacks a macroblock: this is known by the next unit, and stands in the one before it. */
+static void incomplete_in_units(void)
+{
+    static const uint8_t delimiter[] = {0x09, 0x10};
+    const stream cropped = {(uint8_t *)CROPPED, sizeof CROPPED};
+    h264v *decoder = opened(H264V_FULL, H264V_BASELINE);
+    h264v_verdict verdict;
+    expect(sent_units(decoder, &cropped, 0, &verdict) == H264V_GOES_ON, "the units of half a picture go on");
+    expect(h264v_send_unit(decoder, delimiter, sizeof delimiter, &verdict) == H264V_GOES_ON, "so does a delimiter, whose end is not known");
+    expect(h264v_send_unit(decoder, delimiter, sizeof delimiter, &verdict) == H264V_FELL, "by its end it is known");
+    expect(verdict.kind == H264V_NO && strcmp(verdict.label, "Incomplete") == 0, "the picture is incomplete");
+    expect(verdict.bit == 8 * (sizeof CROPPED - 3 * (START + 1)), "after the last byte of its slice");
+    h264v_close(decoder);
+}
+
 /* Streams of which there is little. */
 static void of_little(void)
 {
@@ -240,15 +320,6 @@ static h264v *explaining(uint32_t mode)
         return decoder;
     printf("not so: there is a decoder that explains\n");
     exit(EXIT_FAILURE);
-}
-
-/* Whether an object of JSON has a text in it. */
-static int has(const char *object, const char *text)
-{
-    if (strstr(object, text))
-        return 1;
-    printf("%s\n", object);
-    return 0;
 }
 
 /* h264v_explain of a broken stream, in pieces of so many bytes, with room for the object and without. */
@@ -339,6 +410,11 @@ int main(int argc, char **argv)
     no_frames(&legal, H264V_HEADERS, 1, 0);
     no_frames(&legal, H264V_VERDICT, 1, 1);
     broken(&bad);
+    legal_in_units(&legal);
+    broken_in_units(&bad, 0, VECTOR_BIT - 8 * CODES);
+    broken_in_units(&bad, SECOND_CODE, VECTOR_BIT - 8 * (CODES - 4));
+    broken_in_units(&bad, LAST_CODE, VECTOR_BIT - 8 * 3);
+    incomplete_in_units();
     of_little();
     outside(&legal);
     checks(&legal, &bad);

@@ -72,4 +72,28 @@ static inline int go_on(stream *s, unsigned pictures)
     return 1;
 }
 
+/* How many bytes a start code has, 00 00 01. */
+enum { START = 3 };
+
+/* Whether a start code, or 00 00 00, stands at a place of a stream. */
+static inline int ends_unit(const stream *s, size_t at)
+{
+    return at + START <= s->size && s->bytes[at] == 0 && s->bytes[at + 1] == 0 && s->bytes[at + 2] <= 1;
+}
+
+/* Where the next NAL unit of a byte stream begins, from this place on, and where it ends, which is written; the end of the stream where there is none. */
+static inline size_t unit_from(const stream *s, size_t at, size_t *end)
+{
+    size_t from;
+    while (at < s->size && !(ends_unit(s, at) && s->bytes[at + 2] == 1))
+        at++;
+    if (at == s->size)
+        return *end = s->size;
+    from = at += START;
+    while (at < s->size && !ends_unit(s, at))
+        at++;
+    *end = at;
+    return from;
+}
+
 #endif

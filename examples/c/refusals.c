@@ -180,6 +180,49 @@ static long refused_explanations(const stream *s)
     return number - 1;
 }
 
+/* Sends the units of a stream without their start codes, to its end or to its verdict. One that was not sent for want of memory is sent again; whether
+ * there was one. */
+static int decode_units(h264v *decoder, const stream *s, h264v_verdict *verdict)
+{
+    int32_t answer = H264V_GOES_ON;
+    int was_unsent = 0;
+    size_t end;
+    for (size_t from = unit_from(s, 0, &end); from < s->size && answer == H264V_GOES_ON; from = unit_from(s, end, &end)) {
+        answer = h264v_send_unit(decoder, s->bytes + from, end - from, verdict);
+        if (answer == H264V_MEMORY) {
+            was_unsent = 1;
+            answer = h264v_send_unit(decoder, s->bytes + from, end - from, verdict);
+        }
+    }
+    h264v_finish(decoder, verdict);
+    return was_unsent;
+}
+
+/* A stream in units with each allocation refused: the verdict is memory, or a unit is not sent and nothing has changed; how many there were. */
+static long refused_units(const stream *s)
+{
+    h264v_verdict whole, verdict;
+    h264v *decoder = opened(H264V_FULL, H264V_BASELINE);
+    long number = 0, before;
+    int was_refused = 1, was_unsent, ever_unsent = 0;
+    expect(!decode_units(decoder, s, &whole), "each unit is sent");
+    h264v_close(decoder);
+    before = standing;
+    while (was_refused) {
+        decoder = opened(H264V_FULL, H264V_BASELINE);
+        until = ++number;
+        was_unsent = decode_units(decoder, s, &verdict);
+        was_refused = until == 0;
+        until = 0;
+        expect(was_refused && !was_unsent ? verdict.kind == H264V_MEMORY : same(&verdict, &whole), "units say memory, or the verdict");
+        ever_unsent |= was_unsent;
+        h264v_close(decoder);
+        expect(standing == before, "units keep nothing");
+    }
+    expect(ever_unsent, "a refusal that leaves a unit unsent");
+    return number - 1;
+}
+
 /* Decodes and checks a stream with each of its allocations refused, and prints how many there were. */
 static void refuse_each(const char *name, const stream *s)
 {
@@ -190,8 +233,8 @@ static void refuse_each(const char *name, const stream *s)
     h264v_close(decoder);
     while (refused(s, ++number, &whole, &all))
         untold += is_untold;
-    printf("%s: %ld allocations, each refused in turn, %ld of them untold; %ld of a check; %ld with an explanation\n", name, number - 1, untold,
-           refused_checks(s), refused_explanations(s));
+    printf("%s: %ld allocations, each refused in turn, %ld of them untold; %ld of a check; %ld with an explanation; %ld in units\n", name, number - 1,
+           untold, refused_checks(s), refused_explanations(s), refused_units(s));
 }
 
 int main(int argc, char **argv)

@@ -9,6 +9,13 @@
             use(frame.y, frame.cb, frame.cr)        # memoryviews of rows and columns, which numpy takes without a copy
     decoder.verdict                                 # the verdict on what was read
 
+    with h264v.Decoder() as decoder:                # NAL units without start codes, as MP4 has them
+        for unit in units:
+            decoder.send_unit(unit)
+            for frame in decoder:                   # the frames that wait
+                use(frame.y, frame.cb, frame.cr)
+        print(decoder.finish())                     # the verdict; frames may still wait
+
 The library is looked for where H264V_LIBRARY says, then where the system's loader looks, then in ~/.local/lib.
 """
 import ctypes
@@ -56,7 +63,7 @@ class Verdict(NamedTuple):
     """What is said of a stream. Numbers that the kind does not have are 0, and texts are empty."""
 
     kind: Kind
-    #: NO and OUTSIDE: the bit of the input where it stands, from 0, the highest bit of a byte first
+    #: NO and OUTSIDE: the bit of what was sent where it stands, from 0, the highest bit of a byte first
     bit: int
     #: YES: the units, the coded pictures, and the frames
     units: int
@@ -141,6 +148,7 @@ _OPENED = 0
 _TOLD = 1
 _FRAME = 1
 _FELL = 1
+_NO_UNIT = 2
 
 
 def _load():
@@ -165,6 +173,7 @@ def _declared(library):
         ("h264v_explain", size, [handle, ctypes.c_char_p, size]),
         ("h264v_stream", ctypes.c_int32, [handle, info]),
         ("h264v_send", ctypes.c_int32, [handle, bytes_at, size, verdict]),
+        ("h264v_send_unit", ctypes.c_int32, [handle, bytes_at, size, verdict]),
         ("h264v_receive", ctypes.c_int32, [handle, frame]),
         ("h264v_finish", None, [handle, verdict]),
         ("h264v_close", None, [handle]),
@@ -252,6 +261,9 @@ class Decoder:
     The source is a path (str or os.PathLike), a bytes-like object, a file that is open for reading, or an iterable of bytes. It is
     read as frames are asked for. Once the iterator is at its end, `verdict` is the verdict on what was read; before that it is None.
 
+    Without a source the units are sent by `send_unit`, and the iterator has the frames that wait: it ends where none does, and can be
+    used again after the next unit. `finish` says that there are no more units.
+
     Each frame has its own bytes, of which `numpy.asarray(frame.y)` makes no further copy. With lend=True it has the library's: they
     stay until the next frame is asked for or the decoder is closed, and no longer, whoever still holds a view of them.
 
@@ -264,9 +276,9 @@ class Decoder:
     #: The library's decoder; None where there is none, or none any more.
     _handle = None
 
-    def __init__(self, source, mode=Mode.FULL, target=Target.BASELINE, lend=False, explain=False):
+    def __init__(self, source=None, mode=Mode.FULL, target=Target.BASELINE, lend=False, explain=False):
         self.verdict = None
-        self._pieces = _pieces(source)
+        self._pieces = None if source is None else _pieces(source)
         self._lend = lend
         handle = ctypes.c_void_p()
         make = _library.h264v_open_explaining if explain else _library.h264v_open
@@ -284,18 +296,47 @@ class Decoder:
             frame = _Frame()
             if _library.h264v_receive(self._handle, frame) == _FRAME:
                 return self._frame(frame)
-            if self.verdict is not None:
+            if self.verdict is not None or self._pieces is None:
                 raise StopIteration
             self._send()
 
+    def send_unit(self, unit):
+        """Sends a NAL unit without a start code, a bytes-like object. The verdict, where it stands then; else None.
+
+        Places in a verdict count the bytes that were sent, and no start codes. ValueError: no NAL unit has these bytes, and nothing was
+        sent. There are none, or 00 00 00 or 00 00 01 stands in them, or the last one is 00. ValueError too once the decoder is closed."""
+        self._open()
+        at, size, kept = _bytes_of(unit)
+        verdict = _Verdict()
+        answer = _library.h264v_send_unit(self._handle, at, size, verdict)
+        del kept
+        if answer == _NO_UNIT:
+            raise ValueError("no NAL unit has these bytes")
+        if answer == _MEMORY:
+            raise MemoryError("libh264v: memory was refused")
+        if answer == _FELL:
+            self.verdict = _told(verdict)
+        return self.verdict
+
+    def finish(self):
+        """Says that the stream ends here: the verdict on all that was sent. Frames may then wait."""
+        self._open()
+        verdict = _Verdict()
+        _library.h264v_finish(self._handle, verdict)
+        self.verdict = _told(verdict)
+        return self.verdict
+
+    def _open(self):
+        if self._handle is None:
+            raise ValueError("the decoder is closed")
+
     def _send(self):
         """Sends the next piece, or the end."""
-        verdict = _Verdict()
         piece = next(self._pieces, None)
         if piece is None:
-            _library.h264v_finish(self._handle, verdict)
-            self.verdict = _told(verdict)
+            self.finish()
             return
+        verdict = _Verdict()
         at, size, kept = _bytes_of(piece)
         if _library.h264v_send(self._handle, at, size, verdict) == _FELL:
             self.verdict = _told(verdict)

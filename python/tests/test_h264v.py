@@ -175,6 +175,50 @@ class Decode(unittest.TestCase):
         self.assertTrue(numpy.shares_memory(plane, numpy.asarray(frame.samples)))
 
 
+def units_of(data):
+    """The NAL units of a byte stream whose units have no zero bytes after them."""
+    return [unit.rstrip(b"\0") for unit in data.split(b"\0\0\1")[1:]]
+
+
+class Units(unittest.TestCase):
+    def test_a_legal_stream(self):
+        data = read("one_frame.264")
+        (wanted,) = h264v.Decoder(data)
+        with h264v.Decoder() as decoder:
+            for unit in units_of(data):
+                self.assertIsNone(decoder.send_unit(unit))
+                self.assertEqual(list(decoder), [])
+            self.assertEqual(decoder.finish(), h264v.check(data))
+            (frame,) = decoder
+            self.assertEqual(bytes(frame.samples), bytes(wanted.samples))
+            self.assertEqual(decoder.send_unit(b"\0"), decoder.verdict)
+
+    def test_places_count_no_start_codes(self):
+        data = read("vector_too_long.264")
+        with h264v.Decoder(explain=True) as decoder:
+            for unit in units_of(data):
+                decoder.send_unit(memoryview(unit))
+            verdict = decoder.finish()
+            found = decoder.explain()
+        # The unit stands 14 bytes earlier, without start codes of 4, 4, 3 and 3 bytes.
+        self.assertEqual((verdict.label, verdict.bit), ("VectorRange", 256 - 8 * 14))
+        self.assertEqual((found["bit"], found["byte"], found["unit"], found["element"]), (144, 18, 29 - 14, "mb_type"))
+
+    def test_what_is_no_unit(self):
+        units = units_of(read("one_frame.264"))
+        decoder = h264v.Decoder()
+        for unit in units:
+            for none in (b"", b"\0", units[0] + b"\0", units[0] + b"\0\0\1" + units[1], units[0] + b"\0\0\0" + units[1]):
+                with self.assertRaises(ValueError):
+                    decoder.send_unit(none)
+            self.assertIsNone(decoder.send_unit(unit))
+        self.assertEqual(decoder.finish().kind, h264v.Kind.YES)
+        decoder.close()
+        for call in (decoder.finish, lambda: decoder.send_unit(units[0])):
+            with self.assertRaises(ValueError):
+                call()
+
+
 @unittest.skipUnless(os.environ.get("H264V_PROGRAM") and os.environ.get("H264V_STREAMS"), "no program or no streams are named")
 class Program(unittest.TestCase):
     def test_frames_and_verdicts_are_the_programs(self):
