@@ -278,7 +278,7 @@ static void checks(const stream *legal, const stream *bad)
         expect(is_yes(&verdict, 3, 1, 1), "a check of all");
         h264v_check(bad->bytes, bad->size, H264V_FULL, target, &verdict);
         expect(is_vector_range(&verdict), "a check of a broken stream");
-        h264v_check(legal->bytes, legal->size, 3, target, &verdict);
+        h264v_check(legal->bytes, legal->size, H264V_VERDICT + 1, target, &verdict);
         expect(verdict.kind == H264V_MISUSE && verdict.bit == 0 && verdict.label[0] == 0, "a check with a mode that is none");
     }
     h264v_check(legal->bytes, legal->size, H264V_FULL, 2, &verdict);
