@@ -138,10 +138,18 @@ class InPython:
 
 
 def units_of(data):
-    """Where each NAL unit of a byte stream begins, and its bytes, without the zero bytes after it (B.1.1)."""
+    """Where each NAL unit of a byte stream begins, and its bytes, without the zero bytes after it (B.1.1). Up to where the bytes are no byte stream."""
     starts = [found.end() for found in re.finditer(b"\0\0\1", data)]
     ends = [start - len(b"\0\0\1") for start in starts[1:]] + [len(data)]
-    return [(start, data[start:end].rstrip(b"\0")) for start, end in zip(starts, ends)]
+    units = []
+    for start, end in zip(starts, ends):
+        whole = data[start:end].rstrip(b"\0")
+        unit = whole.split(b"\0\0\0")[0]
+        if unit:
+            units.append((start, unit))
+        if not unit or unit != whole:
+            break
+    return units
 
 
 def line_in_units(line, units):
