@@ -5,6 +5,7 @@ pub mod Kept
 pub mod Turned
 pub mod Calls
 pub mod Runs
+pub mod Seen
 pub mod Fits
 pub mod Sinks
 pub mod Framed

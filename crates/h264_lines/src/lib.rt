@@ -6,7 +6,8 @@
 //! `answer` has the exit status of an answer, and the answer that is told where a sink broke off. `shown` writes a name of a file as it stands in a line.
 //!
 //! Promised: exactly the texts of `specs/Lines.antt` and `specs/Objects.antt`; that a writer which tells its bytes holds the lines, the samples or the frames
-//! of the calls taken, in order, and after a failure a part of the last (`specs/Told.antt`, `specs/Y4m.antt`); that a trail has the last 16 elements.
+//! of the calls taken, in order, and after a failure a part of the last (`specs/Told.antt`, `specs/Y4m.antt`); that a trail has the last 16 elements;
+//! that no control character of ASCII stands in a name as it is shown.
 //! Nothing is promised of the head of an object.
 #![tactic(auto)]
 
@@ -40,7 +41,7 @@ pub use lines::{
     FrameCall, SliceCall, UnitCall, element_line, frame_line, slice_line, unit_line, verdict_line,
 };
 pub use listing::Listing;
-pub use names::shown;
+pub use names::{put_hex, shown};
 pub use reading::{Reach, Reading};
 pub use send::put_text;
 pub use sheet::{Pen, Sheet};

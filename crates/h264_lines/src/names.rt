@@ -1,9 +1,9 @@
 //! Names of files, and other words, as they stand in lines.
 #![tactic(auto)]
 
-ghost use Rattle.std.specs.Prelude.{◌≡◌, ◌<◌, ◌++◌, IfOk, OnOk, string_bytes};
+ghost use Rattle.std.specs.Prelude.{◌≡◌, ◌<◌, ◌++◌, All, IfOk, OnOk, string_bytes};
 ghost use Rattle.std.specs.Char.{digit_char};
-ghost use Rattle.h264_lines.specs.Names.{shown_above, shown_byte, shown_character, shown};
+ghost use Rattle.h264_lines.specs.Names.{IsSeen, hex_byte, shown_above, shown_byte, shown_character, shown};
 
 use std::alloc::{AllocError, Global};
 
@@ -19,13 +19,20 @@ fn digit(n: u8) -> char
     }
 }
 
+/// Adds the two hexadecimal digits of a byte. AllocError: there is no memory for them; one of them may have been added.
+pub fn put_hex(out: &mut String, byte: u8) -> Result<(), AllocError>
+    ensures { OnOk result (string_bytes out.new ≡ string_bytes out.old ++ hex_byte byte) }
+{
+    out.push(digit(byte / 16))?;
+    out.push(digit(byte % 16))
+}
+
 /// Adds a byte as `\x` and its two hexadecimal digits. AllocError: there is no memory for it; a part of it may have been added.
 fn put_byte(out: &mut String, byte: u8) -> Result<(), AllocError>
     ensures { OnOk result (string_bytes out.new ≡ string_bytes out.old ++ shown_byte byte) }
 {
     out.push_str("\\x")?;
-    out.push(digit(byte / 16))?;
-    out.push(digit(byte % 16))
+    put_hex(out, byte)
 }
 
 /// Adds a control character above ASCII, by its two bytes. AllocError: there is no memory for it; a part of it may have been added.
@@ -62,7 +69,8 @@ fn put_character(out: &mut String, c: char) -> Result<(), AllocError>
 /// A name as it stands in a line: a backslash as `\\`, a line end as `\n`, each other control character by its bytes, as `\x1b`. A byte that is no part of
 /// UTF-8, which stands in a word as U+0000 and its two hexadecimal digits, is `\x` and these. AllocError: there is no memory for it.
 pub fn shown(alloc: Global, name: &str) -> Result<String, AllocError>
-    ensures { IfOk result (λ s. string_bytes s ≡ shown name.now) }
+    ensures text { IfOk result (λ s. string_bytes s ≡ shown name.now) }
+    ensures seen { IfOk result (λ s. All IsSeen (string_bytes s)) }
 {
     let mut out = String::new(alloc);
     for c in name.chars() {
