@@ -6,11 +6,7 @@ ghost use Rattle.h264_command.specs.Explained.{folded, label_in, IsNoLabel, rule
 ghost use Rattle.h264_command.specs.Explained.{strict_lines, strict_front, strict_object};
 
 use crate::labels::same_but_for_case;
-use h264_base::Stop;
-use h264_pages::pages::{Answer, Guide};
-use h264_pages::{
-    FeatureEntry, RuleEntry, entry_by_label, entry_of, entry_of_feature, escaped, feature_by_name,
-};
+use h264_pages::{FeatureEntry, RuleEntry, entry_by_label, escaped, feature_by_name};
 use h264_strict::{StrictEntry, strict_by_label};
 use std::alloc::{AllocError, Global};
 
@@ -20,27 +16,6 @@ pub enum Entry {
     Rule(RuleEntry),
     Feature(FeatureEntry),
     Further(StrictEntry),
-}
-
-/// What is said to a reader of an answer.
-pub fn guide_of(answer: Answer) -> Option<Guide<'static>> {
-    match answer {
-        Err(Stop::No { rule, .. }) => {
-            let entry = entry_of(rule);
-            Some(Guide {
-                breaks: entry.breaks,
-                cause: entry.cause,
-            })
-        }
-        Err(Stop::Outside { feature, .. }) => {
-            let entry = entry_of_feature(feature);
-            Some(Guide {
-                breaks: entry.stands,
-                cause: entry.advice,
-            })
-        }
-        _ => None,
-    }
 }
 
 /// The lines of a rule. AllocError: there is no memory for them.

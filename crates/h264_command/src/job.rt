@@ -22,7 +22,7 @@ use crate::strictly::{FurtherRules, is_broken};
 use h264_base::{Mode, Stop};
 use h264_lines::head::Head;
 use h264_lines::{Sheet, TrailSink};
-use h264_pages::pages::{Answer, Page, put_info, put_info_object};
+use h264_pages::pages::{Answer, Finding, Page, put_info, put_info_object};
 use h264_pages::survey::{Meter, Narrowed, Survey, Surveyed};
 use h264_report::{Ending, StrictJudgement, judge_strictly};
 use h264_strict::StrictSink;
@@ -118,6 +118,11 @@ impl Found {
             Some(further) => is_broken(further),
             None => false,
         }
+    }
+
+    /// Where the answer stands.
+    pub fn finding(&self) -> Option<Finding> {
+        Finding::of(self.answer, &self.survey, &self.seen.start, self.seen.ended)
     }
 
     /// What is told where memory was wanting beside the judgement: that a read failed, where one did. Else None.
@@ -443,12 +448,13 @@ pub fn judge_chosen<S: FrameSink + Drop, K: Sheet, F: io::Read + Drop, M: Meter 
 }
 
 /// What a file has. None where there is no memory for it.
-fn info_text(job: &Job<'_>, survey: &Survey) -> Option<String> {
+fn info_text(job: &Job<'_>, found: &Found) -> Option<String> {
     let mut page = Page::new(job.alloc);
+    let (survey, start) = (&found.survey, &found.seen.start);
     if job.options.json {
-        put_info_object(&mut page, job.file, survey);
+        put_info_object(&mut page, job.file, survey, start);
     } else {
-        put_info(&mut page, survey);
+        put_info(&mut page, survey, start, found.finding());
     }
     if page.is_short() || survey.is_short() {
         return None;
@@ -486,7 +492,7 @@ pub fn info_file<F: io::Read + Drop, M: Meter + Drop>(
         before: String::new(job.alloc),
         change: None,
     };
-    let Some(before) = info_text(job, &found.survey) else {
+    let Some(before) = info_text(job, &found) else {
         return found.if_unread();
     };
     found.before = before;

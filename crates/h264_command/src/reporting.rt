@@ -15,17 +15,15 @@ ghost use Rattle.h264_command.specs.Surveys.{IsSurveyed};
 ghost use Rattle.h264_command.specs.Texts.{TakesText};
 ghost use Rattle.h264_command.specs.Words.{mode_of};
 
-use crate::explaining::guide_of;
 use crate::files::OpenFile;
 use crate::job::{Found, Job, JudgedFurther, Watch, judge, judge_further};
 use crate::strictly::{FurtherRules, put_strict_lines};
-use crate::telling::finding_of;
 use h264_base::{Mode, Stop};
 use h264_lines::{
     Device, Form, LineSink, Listing, Pen, Sheet, WriteDevice, put_text, verdict_line,
 };
 use h264_pages::PageSink;
-use h264_pages::pages::{Album, Answer, Page, Sheets, put_explanation, put_page};
+use h264_pages::pages::{Album, Answer, Page, Sheets, guide_on, put_explanation, put_page};
 use h264_pages::survey::{Meter, Survey, Surveyed};
 use h264_verify::FrameSink;
 use std::io;
@@ -47,8 +45,8 @@ fn put_report(job: &Job<'_>, page: &mut Page, found: &Found, kept: &Kept<'_>) {
         &mut explanation,
         found.answer,
         &found.survey,
-        finding_of(found),
-        guide_of(found.answer),
+        found.finding(),
+        guide_on(found.answer, job.file),
     );
     let Ok(verdict) = verdict_line(job.alloc, Mode::Full, found.answer) else {
         page.give_up();
@@ -67,7 +65,7 @@ fn put_report(job: &Job<'_>, page: &mut Page, found: &Found, kept: &Kept<'_>) {
     let sheets = Sheets {
         file: job.file,
         answer: found.answer,
-        finding: finding_of(found),
+        finding: found.finding(),
         verdict: verdict.as_str(),
         explanation: explanation.as_str(),
         further: further.as_str(),

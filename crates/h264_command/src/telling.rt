@@ -14,27 +14,16 @@ ghost use Rattle.h264_command.specs.Texts.{EndsWith, EndsWithAnswer, EndsWithCha
 ghost use Rattle.h264_command.specs.Words as words;
 
 use crate::command_line::Task;
-use crate::explaining::guide_of;
 use crate::job::{Done, Found, Job, mode_of};
 use crate::strictly::{put_strict_lines, put_strict_objects};
 use h264_base::Stop;
 use h264_lines::head::Head;
 use h264_lines::{Device, put_text, shown, verdict_line};
 use h264_pages::pages::{
-    Answer, Finding, Page, put_answer_fields, put_explanation, put_verdict_fields,
+    Answer, Page, guide_on, put_answer_fields, put_explanation, put_verdict_fields,
 };
 use h264_report::{Ending, put_line};
 use std::alloc::{AllocError, Global};
-
-/// Where the answer of a judgement stands.
-pub fn finding_of(found: &Found) -> Option<Finding> {
-    Finding::of(
-        found.answer,
-        &found.survey,
-        &found.seen.start,
-        found.seen.ended,
-    )
-}
 
 /// Adds the lines before the last: what explains the answer, where that is asked, and what the further rules found.
 fn put_earlier_lines(job: &Job<'_>, page: &mut Page, found: &Found) {
@@ -44,8 +33,8 @@ fn put_earlier_lines(job: &Job<'_>, page: &mut Page, found: &Found) {
             page,
             found.answer,
             &found.survey,
-            finding_of(found),
-            guide_of(found.answer),
+            found.finding(),
+            guide_on(found.answer, job.file),
         );
     }
     if let Some(strict) = &found.strict {
@@ -78,8 +67,8 @@ fn put_verdict_object(job: &Job<'_>, page: &mut Page, found: &Found)
         page,
         found.answer,
         &found.survey,
-        finding_of(found),
-        guide_of(found.answer),
+        found.finding(),
+        guide_on(found.answer, job.file),
     );
     page.close_object();
 }

@@ -1,15 +1,12 @@
 -- Texts within strings of JSON (RFC 8259, 7). To be read beside docs/OUTPUT.md.
-use Rattle.std.specs.Prelude.{ℕ, ◌+◌, ◌/◌, ◌%◌, ◌==◌, nat_lt, List, ◌++◌, flat_map, codes, if◌then◌else◌}
+use Rattle.std.specs.Prelude.{ℕ, ◌==◌, nat_lt, List, ◌++◌, flat_map, codes, if◌then◌else◌}
 use Rattle.std.specs.Char.{encode_utf8}
 use Rattle.std.specs.Str.{chars}
-
--- the code of a hexadecimal digit, in small letters
-abbrev pub digit : ℕ → ℕ
-digit n = if nat_lt n 10 then 48 + n else 87 + n
+use Rattle.h264_lines.specs.Names.{hex_byte}
 
 -- a control character: \u and its four digits, of which the first two are 0
 abbrev pub control : ℕ → List ℕ
-control c = codes "\\u00" ++ (encode_utf8 (digit (c / 16)) ++ encode_utf8 (digit (c % 16)))
+control c = codes "\\u00" ++ hex_byte c
 
 -- a character: a quotation mark and a backslash after a backslash, a control character by its code, each other one as it is
 abbrev pub escaped_character : ℕ → List ℕ

@@ -2,31 +2,18 @@
 #![tactic(auto)]
 
 ghost use Rattle.std.specs.Prelude.{◌≡◌, ◌<◌, ◌++◌, IfOk, OnOk, string_bytes};
-ghost use Rattle.h264_pages.specs.Json.{digit, control, escaped_character, escaped};
+ghost use Rattle.h264_pages.specs.Json.{control, escaped_character, escaped};
 
+use h264_lines::put_hex;
 use std::alloc::{AllocError, Global};
-
-/// A hexadecimal digit, in small letters.
-fn digit(n: u8) -> char
-    requires { n < 16 }
-    ensures { result ≡ digit n }
-{
-    if n < 10 {
-        (b'0' + n) as char
-    } else {
-        (b'a' - 10 + n) as char
-    }
-}
 
 /// Adds a control character by its code. AllocError: there is no memory for it; a part of it may have been added.
 fn put_control(out: &mut String, c: char) -> Result<(), AllocError>
     requires { c < 32 }
     ensures { OnOk result (string_bytes out.new ≡ string_bytes out.old ++ control c) }
 {
-    let code = c as u8;
     out.push_str("\\u00")?;
-    out.push(digit(code / 16))?;
-    out.push(digit(code % 16))
+    put_hex(out, c as u8)
 }
 
 /// Adds a character as it stands within a string of JSON (RFC 8259, 7). AllocError: there is no memory for it; a part of it may have been added.

@@ -23,7 +23,7 @@ pub mod reason;
 pub use album::Album;
 pub use container::{Container, Start};
 pub use explanation::put_explanation;
-pub use finding::{Answer, Finding, Guide, guide_of};
+pub use finding::{Answer, Finding, Guide, guide_of, guide_on};
 pub use html::{Sheets, put_page};
 pub use info::{put_info, put_info_object};
 pub use object::{put_answer_fields, put_bare_verdict_fields, put_verdict_fields};

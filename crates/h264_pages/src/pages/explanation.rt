@@ -2,7 +2,7 @@
 #![tactic(auto)]
 
 use crate::pages::allowed::put_allowed;
-use crate::pages::finding::{Answer, Finding, Guide};
+use crate::pages::finding::{Answer, Finding, Guide, file_in};
 use crate::pages::page::Page;
 use crate::pages::reason::{Reason, put_remedy, put_sentence};
 use crate::survey::Survey;
@@ -111,9 +111,9 @@ fn put_reason(page: &mut Page, reason: Option<Reason>) {
 }
 
 /// Adds the line of what to do about the reason, where there is something.
-fn put_remedy_line(alloc: Global, page: &mut Page, reason: Reason) {
+fn put_remedy_line(alloc: Global, page: &mut Page, reason: Reason, file: Option<&str>) {
     let mut remedy = Page::new(alloc);
-    let has_remedy = put_remedy(&mut remedy, reason, "FILE");
+    let has_remedy = put_remedy(&mut remedy, reason, file);
     if remedy.is_short() {
         page.give_up();
     }
@@ -156,7 +156,7 @@ pub fn put_explanation(
     }
     put_reason(page, finding.reason);
     if let Some(reason) = finding.reason {
-        put_remedy_line(alloc, page, reason);
+        put_remedy_line(alloc, page, reason, file_in(guide));
     }
     if finding.ends_in_unit {
         page.put("explain end the input ends in this unit\n");

@@ -18,6 +18,8 @@ pub struct Guide<'a> {
     pub breaks: &'a str,
     /// What usually causes it, or what to do.
     pub cause: &'a str,
+    /// The file's name, where it is known.
+    pub file: Option<&'a str>,
 }
 
 /// A macroblock by its address, and its place in macroblocks from the upper left.
@@ -59,6 +61,7 @@ pub fn guide_of(answer: Answer) -> Option<Guide<'static>> {
             Some(Guide {
                 breaks: entry.breaks,
                 cause: entry.cause,
+                file: None,
             })
         }
         Err(Stop::Outside { feature, .. }) => {
@@ -66,10 +69,31 @@ pub fn guide_of(answer: Answer) -> Option<Guide<'static>> {
             Some(Guide {
                 breaks: entry.stands,
                 cause: entry.advice,
+                file: None,
             })
         }
         _ => None,
     }
+}
+
+/// What is said to a reader of an answer on a file of this name.
+pub fn guide_on(answer: Answer, file: &str) -> Option<Guide<'_>> {
+    let Guide { breaks, cause, .. } = guide_of(answer)?;
+    Some(Guide {
+        breaks,
+        cause,
+        file: Some(file),
+    })
+}
+
+/// The file's name, where a guide has it.
+pub(crate) fn file_in(guide: Option<Guide<'_>>) -> Option<&'_ str> {
+    guide?.file
+}
+
+/// Why the input is no stream for this program, where a finding says so.
+pub(crate) fn reason_in(finding: Option<Finding>) -> Option<Reason> {
+    finding?.reason
 }
 
 /// The rule that an answer names.

@@ -2,14 +2,26 @@
 #![tactic(auto)]
 
 use crate::pages::container::Start;
+use crate::pages::info::{shown_height, shown_width};
 use crate::pages::page::Page;
 use crate::pages::profile::{profile_name, put_level_of};
+use crate::survey::{ParameterSet, Sequence, Survey};
+use h264_base::ElementName;
 
 /// What is shown of a frame, in luma samples.
 #[derive(Clone, Copy, PartialEq, Eq)]
 pub struct Size {
     pub width: u64,
     pub height: u64,
+}
+
+impl Size {
+    /// Adds the width and the height.
+    pub fn put(self, page: &mut Page) {
+        page.number(self.width);
+        page.put("x");
+        page.number(self.height);
+    }
 }
 
 /// What a stream says of itself at its start.
@@ -20,17 +32,19 @@ pub struct Declared {
     pub constraint_set3: bool,
     /// level_idc, where the set could be read so far.
     pub level_idc: Option<u64>,
-    /// The size and whether all pictures are frames, where the set could be read so far.
-    pub format: Option<Format>,
+    /// The size, where the set could be read so far.
+    pub size: Option<Size>,
+    /// Whether all pictures are frames, where the set could be read so far.
+    pub frame_mbs_only: Option<bool>,
     /// Whether the first picture parameter set asks for CABAC, where it could be read.
     pub cabac: Option<bool>,
 }
 
 /// The format of the pictures that a sequence parameter set says.
-#[derive(Clone, Copy, PartialEq, Eq)]
-pub struct Format {
-    pub size: Size,
-    pub frame_mbs_only: bool,
+#[derive(Clone, Copy)]
+struct Format {
+    size: Size,
+    frame_mbs_only: bool,
 }
 
 /// nal_unit_type of a sequence parameter set (table 7-1).
@@ -233,20 +247,73 @@ fn cabac_of(start: &Start) -> Option<bool> {
     bits.flag()
 }
 
+/// What was read of the sequence parameter set that was read last, where no unit came after it: one that broke a rule, or the input's last unit.
+fn last_set(survey: &Survey) -> Option<Sequence> {
+    match survey.sets.read {
+        Some(ParameterSet::Sequence(set)) => Some(set),
+        _ => None,
+    }
+}
+
+/// The size of a set, where it was read. Where the height counts rows of fields, frame_mbs_only_flag broke a rule and was read last.
+fn size_read(survey: &Survey, set: &Sequence) -> Option<Size> {
+    let last = survey.last_element()?;
+    let has_fields = last.name == ElementName::FrameMbsOnlyFlag && last.value == 0;
+    if set.height == 0 || has_fields {
+        return None;
+    }
+    Some(Size {
+        width: shown_width(set),
+        height: shown_height(set),
+    })
+}
+
 impl Declared {
+    /// What was read of a set.
+    fn of_read(survey: &Survey, set: &Sequence) -> Declared {
+        Declared {
+            profile_idc: set.profile_idc,
+            constraint_set1: set.constraint_set1,
+            constraint_set3: set.constraint_set3,
+            level_idc: if set.level_idc == 0 {
+                None
+            } else {
+                Some(set.level_idc)
+            },
+            size: size_read(survey, set),
+            frame_mbs_only: None,
+            cabac: None,
+        }
+    }
+
+    /// What the sequence parameter set says that was read last, where no unit came after it. The first one of the input is read anew from the first bytes,
+    /// whatever its profile is.
+    pub fn of_last(survey: &Survey, start: &Start) -> Option<Declared> {
+        let set = last_set(survey)?;
+        match Declared::of(start) {
+            Some(declared)
+                if survey.sets.sequences.is_empty() && declared.profile_idc == set.profile_idc => {
+                Some(declared)
+            }
+            _ => Some(Declared::of_read(survey, &set)),
+        }
+    }
+
     /// What the first sequence parameter set and the first picture parameter set say. None: no sequence parameter set is among the first bytes.
-    pub fn of(start: &Start) -> Option<Declared> {
+    fn of(start: &Start) -> Option<Declared> {
         let place = start.unit_of_type(SEQUENCE_SET)?;
         let mut bits = BitsAt::new(start, place.saturating_add(1));
         let profile_idc = bits.number_after(0, 8)?;
         let flags = bits.number_after(0, 8)?;
         let level_idc = bits.number_after(0, 8);
+        let format = bits.format(profile_idc);
         Some(Declared {
             profile_idc,
             constraint_set1: flags & CONSTRAINT_SET1 != 0,
             constraint_set3: flags & CONSTRAINT_SET3 != 0,
             level_idc,
-            format: bits.format(profile_idc),
+            size: format.map(|format| format.size),
+            frame_mbs_only: format.map(|format| format.frame_mbs_only),
             cabac: cabac_of(start),
         })
     }
@@ -263,15 +330,20 @@ impl Declared {
 
     /// Whether the set says that there may be fields.
     pub fn has_fields(&self) -> bool {
-        match self.format {
-            Some(format) => !format.frame_mbs_only,
-            None => false,
-        }
+        self.frame_mbs_only == Some(false)
     }
 
     /// Whether the target main-ip may judge it: Main with CAVLC and without fields.
     pub fn may_suit_main(&self) -> bool {
-        self.is_main() && self.format.is_some() && !self.has_fields() && self.cabac == Some(false)
+        self.is_main() && self.frame_mbs_only == Some(true) && self.cabac == Some(false)
+    }
+
+    /// Adds the level after a text, where it is known.
+    pub fn put_level(&self, page: &mut Page, before: &str) {
+        if let Some(level_idc) = self.level_idc {
+            page.put(before);
+            put_level_of(page, self.profile_idc, level_idc, self.constraint_set3);
+        }
     }
 
     /// Adds the profile, and level, size and entropy coding where they are known, with commas between them.
@@ -283,15 +355,10 @@ impl Declared {
             page.put(self.profile());
             page.put(" profile");
         }
-        if let Some(level_idc) = self.level_idc {
-            page.put(", level ");
-            put_level_of(page, level_idc, self.constraint_set3);
-        }
-        if let Some(format) = self.format {
+        self.put_level(page, ", level ");
+        if let Some(size) = self.size {
             page.put(", ");
-            page.number(format.size.width);
-            page.put("x");
-            page.number(format.size.height);
+            size.put(page);
         }
         match self.cabac {
             Some(true) => page.put(", CABAC"),

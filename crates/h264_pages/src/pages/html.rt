@@ -2,7 +2,7 @@
 #![tactic(auto)]
 
 use crate::pages::album::{Album, Thumbnail};
-use crate::pages::finding::{Answer, Finding};
+use crate::pages::finding::{Answer, Finding, reason_in};
 use crate::pages::info::{count_pictures, rate_of, shown_height, shown_width};
 use crate::pages::page::Page;
 use crate::pages::plot::{pictures_a_bar, put_buffer_plot, put_byte_plot};
@@ -209,15 +209,11 @@ fn put_frames(alloc: Global, page: &mut Page, album: &Album, sheets: &Sheets<'_>
 /// Adds the paragraph on an input without a picture: what it is, and what to do about it.
 fn put_no_pictures(alloc: Global, page: &mut Page, sheets: &Sheets<'_>) {
     page.put("<p>");
-    let reason = match sheets.finding {
-        Some(finding) => finding.reason,
-        None => None,
-    };
-    match reason {
+    match reason_in(sheets.finding) {
         Some(reason) => {
             put_sentence(page, reason);
             let mut remedy = Page::new(alloc);
-            let has_remedy = put_remedy(&mut remedy, reason, sheets.file);
+            let has_remedy = put_remedy(&mut remedy, reason, Some(sheets.file));
             if remedy.is_short() {
                 page.give_up();
             }

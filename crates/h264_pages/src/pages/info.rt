@@ -1,9 +1,14 @@
 //! What a stream has: its sets, pictures and macroblocks.
 #![tactic(auto)]
 
+use crate::pages::container::Start;
+use crate::pages::finding::{Finding, reason_in};
+use crate::pages::glance::Declared;
+use crate::pages::object::put_size;
 use crate::pages::page::Page;
 use crate::pages::profile::{profile_of, put_level};
-use crate::survey::{MacroblockCounts, ParameterSet, Picture, PictureKind, Sequence, Survey};
+use crate::pages::reason::put_sentence;
+use crate::survey::{MacroblockCounts, Picture, PictureKind, Sequence, Survey};
 
 /// Samples in a row of a macroblock.
 const SIDE: u64 = 16;
@@ -166,44 +171,49 @@ fn put_macroblocks(page: &mut Page, counts: MacroblockCounts) {
     page.put("\n");
 }
 
-/// The sequence parameter set that was read last, where no unit came after it: one that broke a rule, or the input's last unit. None: its profile was not read.
-fn last_set(survey: &Survey) -> Option<Sequence> {
-    match survey.sets.read {
-        Some(ParameterSet::Sequence(set)) if set.profile_idc != 0 => Some(set),
-        _ => None,
-    }
+/// What the sequence parameter set says that was read last, where no unit came after it. None: its profile was not read.
+fn last_set(survey: &Survey, start: &Start) -> Option<Declared> {
+    Declared::of_last(survey, start).filter(|set| set.profile_idc != 0)
 }
 
-/// Adds the line of the set that was read last: its profile, and its level and size where they were read.
-fn put_last_set(page: &mut Page, set: &Sequence) {
+/// Adds the line of the set that was read last: its profile, and its level and size where they are known.
+fn put_last_set(page: &mut Page, set: &Declared) {
     page.put("info last set profile ");
     page.number(set.profile_idc);
     page.put(" (");
-    page.put(profile_of(set));
+    page.put(set.profile());
     page.put(")");
-    if set.level_idc != 0 {
-        page.put(" level ");
-        put_level(page, set);
-    }
-    if set.height != 0 {
+    set.put_level(page, " level ");
+    if let Some(size) = set.size {
         page.put(" size ");
-        page.number(shown_width(set));
-        page.put("x");
-        page.number(shown_height(set));
+        size.put(page);
     }
     page.put("\n");
 }
 
-/// Adds the lines of what a stream has. Where it has no picture there are none on pictures and macroblocks.
-pub fn put_info(page: &mut Page, survey: &Survey) {
+/// Adds the line that there is no picture: what the input is, where it is no stream for this program.
+fn put_no_pictures(page: &mut Page, finding: Option<Finding>) {
+    page.put("info no pictures");
+    if finding.is_some() {
+        page.put(": ");
+        match reason_in(finding) {
+            Some(reason) => put_sentence(page, reason),
+            None => page.put("check --explain says why"),
+        }
+    }
+    page.put("\n");
+}
+
+/// Adds the lines of what a stream has. Where it has no picture one line says so in the place of those on pictures and macroblocks.
+pub fn put_info(page: &mut Page, survey: &Survey, start: &Start, finding: Option<Finding>) {
     for set in survey.sets.sequences.iter() {
         put_set(page, set);
     }
-    if let Some(set) = last_set(survey) {
+    if let Some(set) = last_set(survey, start) {
         put_last_set(page, &set);
     }
     if survey.pictures.list.is_empty() {
-        page.put("info no pictures: check --explain says what the input is\n");
+        put_no_pictures(page, finding);
         return;
     }
     put_pictures(page, survey);
@@ -255,19 +265,14 @@ fn put_macroblock_fields(page: &mut Page, counts: MacroblockCounts) {
     page.put("}");
 }
 
-/// Adds the field of the set that was read last: its profile, and its level and size where they were read.
-fn put_last_set_field(page: &mut Page, set: &Sequence) {
+/// Adds the field of the set that was read last: its profile, and its level and size where they are known.
+fn put_last_set_field(page: &mut Page, set: &Declared) {
     page.name("last_set");
     page.put("{\"profile_idc\":");
     page.number(set.profile_idc);
-    page.text_field("profile", profile_of(set));
-    if set.level_idc != 0 {
-        page.number_field("level_idc", set.level_idc);
-    }
-    if set.height != 0 {
-        page.number_field("width", shown_width(set));
-        page.number_field("height", shown_height(set));
-    }
+    page.text_field("profile", set.profile());
+    page.maybe_field("level_idc", set.level_idc);
+    put_size(page, set.size);
     page.put("}");
 }
 
@@ -288,7 +293,7 @@ fn put_count_fields(page: &mut Page, survey: &Survey) {
 }
 
 /// Adds the object of what a stream has, on a line of its own.
-pub fn put_info_object(page: &mut Page, file: &str, survey: &Survey) {
+pub fn put_info_object(page: &mut Page, file: &str, survey: &Survey, start: &Start) {
     page.open_object(file, "info");
     page.name("sets");
     page.put("[");
@@ -299,7 +304,7 @@ pub fn put_info_object(page: &mut Page, file: &str, survey: &Survey) {
         put_set_fields(page, set);
     }
     page.put("]");
-    if let Some(set) = last_set(survey) {
+    if let Some(set) = last_set(survey, start) {
         put_last_set_field(page, &set);
     }
     put_count_fields(page, survey);

@@ -6,8 +6,8 @@ ghost use Rattle.h264_pages.specs.Pages.{word_text, found_fields, answer_fields,
 ghost use Rattle.h264_pages.specs.Pages as pages;
 
 use crate::pages::allowed::put_allowed;
-use crate::pages::finding::{Answer, BITS_A_BYTE, Finding, Guide, bit_of};
-use crate::pages::glance::Declared;
+use crate::pages::finding::{Answer, BITS_A_BYTE, Finding, Guide, bit_of, file_in, reason_in};
+use crate::pages::glance::{Declared, Size};
 use crate::pages::page::Page;
 use crate::pages::reason::{Reason, put_remedy, put_sentence};
 use crate::survey::Survey;
@@ -72,6 +72,16 @@ fn put_element(page: &mut Page, element: Element)
     page.signed_field("value", element.value);
 }
 
+/// Adds the fields of a size, where it is known.
+pub(crate) fn put_size(page: &mut Page, size: Option<Size>)
+    ensures { Grows page.old page.new }
+{
+    if let Some(size) = size {
+        page.number_field("width", size.width);
+        page.number_field("height", size.height);
+    }
+}
+
 /// Adds the fields of what a stream says of itself.
 fn put_declared(page: &mut Page, declared: Declared)
     ensures { Grows page.old page.new }
@@ -79,10 +89,7 @@ fn put_declared(page: &mut Page, declared: Declared)
     page.text_field("profile", declared.profile());
     page.number_field("profile_idc", declared.profile_idc);
     page.maybe_field("level_idc", declared.level_idc);
-    if let Some(format) = declared.format {
-        page.number_field("width", format.size.width);
-        page.number_field("height", format.size.height);
-    }
+    put_size(page, declared.size);
     if let Some(is_cabac) = declared.cabac {
         page.bool_field("cabac", is_cabac);
     }
@@ -102,7 +109,7 @@ fn put_part(page: &mut Page, name: &str, is_there: bool, text: &Page)
 }
 
 /// Adds the fields of the reason, and of what to do about it.
-fn put_reason(alloc: Global, page: &mut Page, reason: Reason)
+fn put_reason(alloc: Global, page: &mut Page, reason: Reason, file: Option<&str>)
     ensures { Grows page.old page.new }
 {
     page.text_field("reason", reason.name());
@@ -112,7 +119,7 @@ fn put_reason(alloc: Global, page: &mut Page, reason: Reason)
         Reason::Hevc | Reason::Cabac => {}
     }
     let mut remedy = Page::new(alloc);
-    let has_remedy = put_remedy(&mut remedy, reason, "FILE");
+    let has_remedy = put_remedy(&mut remedy, reason, file);
     put_part(page, "remedy", has_remedy, &remedy);
 }
 
@@ -154,7 +161,13 @@ fn put_element_found(page: &mut Page, finding: &Finding)
 }
 
 /// Adds the fields of the place and of what was found there.
-fn put_finding(alloc: Global, page: &mut Page, survey: &Survey, finding: &Finding)
+fn put_finding(
+    alloc: Global,
+    page: &mut Page,
+    survey: &Survey,
+    finding: &Finding,
+    file: Option<&str>,
+)
     ensures { Grows page.old page.new }
 {
     put_bit(page, survey, finding);
@@ -162,7 +175,7 @@ fn put_finding(alloc: Global, page: &mut Page, survey: &Survey, finding: &Findin
     put_element_found(page, finding);
     page.bool_field("ends_in_unit", finding.ends_in_unit);
     if let Some(reason) = finding.reason {
-        put_reason(alloc, page, reason);
+        put_reason(alloc, page, reason, file);
     }
 }
 
@@ -191,11 +204,12 @@ fn put_place(
     answer: Answer,
     survey: &Survey,
     finding: Option<Finding>,
+    file: Option<&str>,
 )
     ensures { Grows page.old page.new }
 {
     if let Some(finding) = finding {
-        put_finding(alloc, page, survey, &finding);
+        put_finding(alloc, page, survey, &finding, file);
         put_allowed_field(alloc, page, answer, survey, &finding);
     }
 }
@@ -217,11 +231,7 @@ fn put_guide(alloc: Global, page: &mut Page, finding: Option<Finding>, guide: Gu
     ensures { Grows page.old page.new }
 {
     page.text_field("breaks", guide.breaks);
-    let reason = match finding {
-        Some(finding) => finding.reason,
-        None => None,
-    };
-    put_cause(alloc, page, reason, guide);
+    put_cause(alloc, page, reason_in(finding), guide);
 }
 
 /// Adds the fields of the bit that an answer names, where it names one.
@@ -262,7 +272,7 @@ pub fn put_verdict_fields(
     ensures { AddsFirst page.old page.new (answer_fields answer) }
 {
     put_answer_fields(page, answer);
-    put_place(alloc, page, answer, survey, finding);
+    put_place(alloc, page, answer, survey, finding, file_in(guide));
     if let Some(guide) = guide {
         put_guide(alloc, page, finding, guide);
     }

@@ -35,15 +35,19 @@ pub fn profile_of(set: &Sequence) -> &'static str {
     profile_name(set.profile_idc, set.constraint_set1)
 }
 
-/// level_idc 11, which is level 1b with constraint_set3_flag (A.3.1).
+/// level_idc 11, which is level 1b with constraint_set3_flag in these profiles (7.4.2.1.1).
 const LEVEL_11: u64 = 11;
+
+/// profile_idc of the Baseline, the Main and the Extended profile.
+const FLAGGED: [u64; 3] = [66, 77, 88];
 
 /// level_idc 9, which is level 1b.
 const LEVEL_1B: u64 = 9;
 
-/// Adds the name of a level, such as 3.1, by level_idc and constraint_set3_flag (A.3.1).
-pub fn put_level_of(page: &mut Page, level_idc: u64, constraint_set3: bool) {
-    if level_idc == LEVEL_1B || (level_idc == LEVEL_11 && constraint_set3) {
+/// Adds the name of a level of a profile, such as 3.1, by level_idc and constraint_set3_flag (A.3).
+pub fn put_level_of(page: &mut Page, profile_idc: u64, level_idc: u64, constraint_set3: bool) {
+    let is_flagged = constraint_set3 && FLAGGED.contains(&profile_idc);
+    if level_idc == LEVEL_1B || (level_idc == LEVEL_11 && is_flagged) {
         page.put("1b");
         return;
     }
@@ -56,5 +60,5 @@ pub fn put_level_of(page: &mut Page, level_idc: u64, constraint_set3: bool) {
 
 /// Adds the name of a set's level.
 pub fn put_level(page: &mut Page, set: &Sequence) {
-    put_level_of(page, set.level_idc, set.constraint_set3);
+    put_level_of(page, set.profile_idc, set.level_idc, set.constraint_set3);
 }

@@ -40,26 +40,10 @@ impl Reason {
             return Some(Reason::Hevc);
         }
         match rule {
-            Rule::Profile => Some(Reason::OtherProfile(declared_by(survey, start)?)),
+            Rule::Profile => Some(Reason::OtherProfile(Declared::of_last(survey, start)?)),
             Rule::Tool if asks_for_cabac(survey) => Some(Reason::Cabac),
             _ => None,
         }
-    }
-}
-
-/// What the set says whose profile is refused: the first one of the input, or one that comes later.
-fn declared_by(survey: &Survey, start: &Start) -> Option<Declared> {
-    let set = survey.sequence()?;
-    match Declared::of(start) {
-        Some(declared) if declared.profile_idc == set.profile_idc => Some(declared),
-        _ => Some(Declared {
-            profile_idc: set.profile_idc,
-            constraint_set1: set.constraint_set1,
-            constraint_set3: set.constraint_set3,
-            level_idc: None,
-            format: None,
-            cabac: None,
-        }),
     }
 }
 
@@ -113,16 +97,35 @@ pub fn put_sentence(page: &mut Page, reason: Reason) {
     }
 }
 
-/// Adds the command that extracts the stream of a file of this name, where the input is a container. Whether there is one.
-pub fn put_remedy(page: &mut Page, reason: Reason, file: &str) -> bool {
+/// Adds the command that extracts the stream of a file, where the input is a container. Whether there is one.
+pub fn put_remedy(page: &mut Page, reason: Reason, file: Option<&str>) -> bool {
     match reason {
         Reason::Container(_) => {
             page.put("ffmpeg -i ");
-            put_shell_word(page, file);
+            put_file(page, file);
             page.put(" -c copy -bsf:v h264_mp4toannexb -f h264 OUT.264");
             true
         }
         _ => false,
+    }
+}
+
+/// Whether a line has a character of a name as it is (docs/OUTPUT.md, Names).
+fn is_shown_as_it_is(c: char) -> bool {
+    c != '\\' && !c.is_control()
+}
+
+/// Adds a file's name as a word of a command for ffmpeg; FILE where it is not known, or where a line can't have it as it is. Before a colon ffmpeg looks for a
+/// protocol, which is `file` here.
+fn put_file(page: &mut Page, file: Option<&str>) {
+    match file {
+        Some(name) if name.chars().all(|c| is_shown_as_it_is(c)) => {
+            if name.contains(':') {
+                page.put("file:");
+            }
+            put_shell_word(page, name);
+        }
+        _ => page.put("FILE"),
     }
 }
 

@@ -171,7 +171,7 @@ impl Pictures {
     }
 
     /// Notes an element in the unit and the slice that are read.
-    #[tactic(auto, unfolding(crate::specs::SurveyedPictures::pictures_after, crate::specs::SurveyedPictures::previous_after, crate::specs::SurveyedPictures::begins_picture))]
+    #[tactic(auto, unfolding(crate::specs::SurveyedPictures::pictures_after, crate::specs::SurveyedPictures::previous_after))]
     pub fn note_element(
         &mut self,
         name: ElementName,

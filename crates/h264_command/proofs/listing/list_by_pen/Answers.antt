@@ -9,7 +9,8 @@ use Rattle.h264_command.proofs.listing.list_by_pen.Goals.{After-drop-surveyed}
 use Rattle.h264_command.proofs.listing.list_by_pen.Goals as goal
 
 -- the new sink was told nothing
-new-told : (g : given.Over) (c : After-drop-surveyed g) → TookLines (lent g.K.Sheet.name g.K.Sheet.start g.K.Sheet.was_failed) g.K.Sheet.opening g.K.Sheet.listing
+new-told : (g : given.Over) (c : After-drop-surveyed g) →
+    TookLines (lent g.K.Sheet.name g.K.Sheet.start g.K.Sheet.was_failed) g.K.Sheet.opening g.K.Sheet.listing
     (line_state g.W.Device.contents g.W.Device.has_failed c.new-sink.result) []
 new-told g c = none-lines (c.new-sink.ensures.same_reference ∙ c.requires.name) (ap opening_of c.new-sink.ensures.form ∙ c.requires.opening)
     (c.new-sink.ensures.listing ∙ c.listing_of-listing.ensures ∙ c.requires.listing)

@@ -1,4 +1,4 @@
-use Rattle.std.proofs.Common.{◌≡◌, ℕ, List, [], Bor, IsSome, slice_index_or, length, option_map, refl, sym, ap, ◌∙◌, subst, arith, rules}
+use Rattle.std.proofs.Common.{◌≡◌, ℕ, List, [], Bor, slice_index_or, length, option_map, refl, sym, ap, ◌∙◌, arith, rules}
 use Rattle.clap.specs.Words.{subcommand_rows_of}
 use Rattle.h264_command.specs.More.{Refused, Explained, Judged}
 use Rattle.h264_command.specs.Options.{Same}
