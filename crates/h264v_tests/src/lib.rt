@@ -2,6 +2,8 @@
 #![tactic(auto)]
 
 #[cfg(test)]
+mod asking;
+#[cfg(test)]
 mod check_tests;
 #[cfg(test)]
 mod device_tests;
@@ -14,6 +16,10 @@ mod header_tests;
 #[cfg(test)]
 mod more_tests;
 #[cfg(test)]
+mod name_tests;
+#[cfg(test)]
+mod page_tests;
+#[cfg(test)]
 mod pieces_tests;
 #[cfg(test)]
 mod set_tests;
@@ -21,3 +27,5 @@ mod set_tests;
 mod target_tests;
 #[cfg(test)]
 mod tests;
+#[cfg(test)]
+mod verdict_tests;
