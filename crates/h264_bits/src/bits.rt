@@ -119,6 +119,20 @@ impl<'a> Bits<'a> {
         Some(bits)
     }
 
+    /// The next `n` bits as a number, as `held`, where they are loaded already.
+    #[inline(always)]
+    fn ready(&self, n: u32) -> Option<u64>
+        requires { n ≤ 57 }
+        ensures value { IfSome result (λ v. v ≡ peek_at n self.now.body.bytes self.now.at) }
+        ensures small { IfSome result (λ v. v < 2 ^ n) }
+        ensures together { IfSome result (λ v. AreTogether self.now.body self.now.at n) }
+    {
+        if self.upcoming.count < n {
+            return None;
+        }
+        Some(first_of(self.upcoming, n))
+    }
+
     /// Loads the bits that come next, as many as one load gives. It changes nothing that is read; the elements that follow then seldom need a load of
     /// their own, whose place is predicted wrongly.
     #[inline(always)]
@@ -244,9 +258,9 @@ impl<'a> Bits<'a> {
         Ok(value)
     }
 
-    /// Reads ue(v): an Exp-Golomb word of at most 31 zeros before its 1, as its codeNum (9.1).
+    /// Reads ue(v), as `ue`, of which some bits may not be loaded.
     #[inline(never)]
-    pub fn ue(&mut self) -> Result<u32, NoWord>
+    fn ue_after_load(&mut self) -> Result<u32, NoWord>
         ensures word { IfOk result (λ v. Reads Unsigned self.old.body.bytes self.old.at (pos v) self.new.at) }
         ensures body { self.new.body ≡ self.old.body }
         ensures small { IfOk result (λ v. v < 2 ^ 32 - 1) }
@@ -260,6 +274,25 @@ impl<'a> Bits<'a> {
             }
         }
         self.ue_of_any_length()
+    }
+
+    /// Reads ue(v): an Exp-Golomb word of at most 31 zeros before its 1, as its codeNum (9.1). Most words are short and loaded; what else may be needed
+    /// stands in a function of its own, so that these are read without a register saved.
+    #[inline(never)]
+    pub fn ue(&mut self) -> Result<u32, NoWord>
+        ensures word { IfOk result (λ v. Reads Unsigned self.old.body.bytes self.old.at (pos v) self.new.at) }
+        ensures body { self.new.body ≡ self.old.body }
+        ensures small { IfOk result (λ v. v < 2 ^ 32 - 1) }
+        ensures none { OnErr result (HasNoWord Unsigned self.old.body.bytes self.old.at) }
+        ensures kept { OnErr result (self.new ≡ self.old) }
+    {
+        if let Some(front) = self.ready(SHORT) {
+            if let Some(word) = short_golomb(front) {
+                self.pass_by(word.length);
+                return Ok(word.value);
+            }
+        }
+        self.ue_after_load()
     }
 
     /// Reads se(v): an Exp-Golomb word as a signed number (9.1.1).

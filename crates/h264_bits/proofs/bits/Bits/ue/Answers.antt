@@ -10,9 +10,6 @@ returns-in-Some-short_golomb-clause-word c =
     let inside = c.in-Some.ensures.together.inside in
     let few = c.in-Some-short_golomb.ensures.few in
     let fits : c.in-Some-short_golomb.word.length ≤ 8 * length bytes - i = omega arith in
-    rw (c.pass_by.ensures, c.in-Some.ensures.kept)
+    rw c.pass_by.ensures
     (value-reads Unsigned bytes i (pos c.in-Some-short_golomb.word.value) (i + c.in-Some-short_golomb.word.length)
     (c.in-Some-short_golomb.ensures.word bytes i c.in-Some.ensures.value fits))
-
-pub returns-clause-none : goal.returns-clause-none
-returns-clause-none c = rw (← c.held.ensures.kept) c.ue_of_any_length.ensures.none
