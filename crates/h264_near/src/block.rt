@@ -48,13 +48,10 @@ pub(crate) fn left_of(b: usize) -> Option<usize>
     ensures within { IfSome result (λ n. n < 16) }
     ensures none { result ≡ None → column_of b ≡ 0 }
 {
-    if b % 2 == 1 {
-        return Some(b - 1);
+    if column(b) == 0 {
+        return None;
     }
-    if b / 4 % 2 == 1 {
-        return Some(b - 3);
-    }
-    None
+    Some(b + 2 * (b % 2) - 3)
 }
 
 /// The block above another one, in the same macroblock.
@@ -67,13 +64,10 @@ pub(crate) fn above_of(b: usize) -> Option<usize>
     ensures within { IfSome result (λ n. n < 16) }
     ensures none { result ≡ None → row_of b ≡ 0 }
 {
-    if b / 2 % 2 == 1 {
-        return Some(b - 2);
+    if row(b) == 0 {
+        return None;
     }
-    if b / 8 == 1 {
-        return Some(b - 6);
-    }
-    None
+    Some(b + 4 * (b / 2 % 2) - 6)
 }
 
 /// Whether no block has a coefficient, by total_coeff (9.2.1) of each. There is no branch.
