@@ -305,7 +305,7 @@ class Decoder:
 
         Places in a verdict count the bytes that were sent, and no start codes. ValueError: no NAL unit has these bytes, and nothing was
         sent. There are none, or 00 00 00 or 00 00 01 stands in them, or the last one is 00. ValueError too once the decoder is closed."""
-        self._open()
+        self._check_open()
         at, size, kept = _bytes_of(unit)
         verdict = _Verdict()
         answer = _library.h264v_send_unit(self._handle, at, size, verdict)
@@ -320,13 +320,13 @@ class Decoder:
 
     def finish(self):
         """Says that the stream ends here: the verdict on all that was sent. Frames may then wait."""
-        self._open()
+        self._check_open()
         verdict = _Verdict()
         _library.h264v_finish(self._handle, verdict)
         self.verdict = _told(verdict)
         return self.verdict
 
-    def _open(self):
+    def _check_open(self):
         if self._handle is None:
             raise ValueError("the decoder is closed")
 
