@@ -37,7 +37,11 @@ pub(crate) fn is_unit(bytes: &[u8]) -> bool
 {
     let mut zeros = 0;
     for byte in bytes {
-        if zeros == CODE_ZEROS && *byte <= CODE_END {
+        if *byte > CODE_END {
+            zeros = 0;
+            continue;
+        }
+        if zeros == CODE_ZEROS {
             return false;
         }
         zeros = if *byte == 0 { zeros + 1 } else { 0 };
