@@ -4,7 +4,8 @@
     tools/compare_library.py PROGRAM LIBRARY PAGE SCREENSHOT FILE|FOLDER..
 
 PROGRAM is h264v, LIBRARY the shared object (libh264v.so.0), PAGE what web/build.sh wrote. The ways are C (examples/c/decode.c), Python (python/), units
-without start codes by Python, and the page in headless Chromium; SCREENSHOT shows it with the last stream. `-` for PAGE leaves the page out. A FOLDER stands for the .264 files in it.
+without start codes by Python, and the page in headless Chromium; SCREENSHOT shows it with the last stream. `-` for PAGE leaves the page out. A FOLDER stands
+for the .264 files in it.
 Each stream is judged for both targets. Says of each difference what it is, and at the end how many streams agree; status 1 where one differs.
 Needs cc, and chromium for the page. A plain build is compared as well as a proved one: which they are is the caller's to say.
 """
