@@ -17,10 +17,10 @@ returns-then-is_luma_small c =
     let l = luma_by m.kind m in
     let blocks = c.in-Ok.ensures.blocks in
     let each = λ (b : ℕ) (h : b < 16).
-        let column : column_of b < 4 = omega (arith, h) in
-        let row : row_of b < 4 = omega (arith, h) in
-        sym (ap residual_fits (blocks.each (column_of b) (row_of b) column row))
-        ∙ c.is_luma_small.ensures c.if-is_luma_small.true (column_of b) (row_of b) column row in
+    let column : column_of b < 4 = omega (arith, h) in
+    let row : row_of b < 4 = omega (arith, h) in
+    sym (ap residual_fits (blocks.each (column_of b) (row_of b) column row))
+    ∙ c.is_luma_small.ensures c.if-is_luma_small.true (column_of b) (row_of b) column row in
     sym (luma_whole m.qp l blocks.dc (all_to 16 _ each))
 
 pub returns-then-not-luma_block_fits : goal.returns-then-not-luma_block_fits
