@@ -5,6 +5,7 @@ use Rattle.h264_intra.specs.declared.luma4.Intra4x4PredMode.TheVariants.{Vertica
 use Rattle.h264_near.specs.declared.context.Contexts.{Contexts}
 use Rattle.h264_near.specs.declared.context.Edge.{Edge}
 use Rattle.h264_near.specs.declared.near.Near.{Near}
+use Rattle.h264_near.specs.declared.skipped.Skipped.{Skipped}
 use Rattle.h264_near.specs.Coded.{CodedMacroblock, Prediction, Pcm, is_intra, mode_in, motion_in, number_of, chroma_number_of}
 use Rattle.h264_near.specs.Raster.{last_in, last_left, last_corner}
 
@@ -50,6 +51,10 @@ Right = Borders (λ k. number_of 3 k) (λ c k. chroma_number_of c 1 k)
 -- how many macroblocks wide the picture is
 abbrev pub width_of : Near → ℕ
 width_of near = vec_len near.above
+
+-- the macroblock to the left, where it is skipped
+abbrev pub skipped_before : Near → Option Skipped
+skipped_before near = near.skipped
 
 -- The contexts are those that the next macroblocks need, after these macroblocks of a picture that is so many macroblocks wide.
 pub record Keeps (width : ℕ) (picture : List CodedMacroblock) (near : Near) : Type 0 where

@@ -7,3 +7,4 @@ pub mod Keeps
 pub mod Along
 pub mod Skips
 pub mod Partition
+pub mod Beside

@@ -1,10 +1,10 @@
 //! The blocks along the edges of a macroblock, written field by field over those of another one.
 #![tactic(auto)]
 
-ghost use Rattle.std.specs.Prelude.{Some};
+ghost use Rattle.std.specs.Prelude.{◌≡◌, Some};
 ghost use Rattle.h264_near.specs.Coded.{CodedMacroblock};
 ghost use Rattle.h264_near.specs.Keeps.{AreContexts, IsEdge, Lower, Right};
-ghost use Rattle.h264_near.specs.Skips.{IsSkipped};
+ghost use Rattle.h264_near.specs.Beside.{edge_of};
 
 use crate::context::{Contexts, Edge};
 use crate::skipped::Skipped;
@@ -68,8 +68,7 @@ fn write_right(edge: &mut Edge, m: &Contexts)
 /// Writes an edge of a skipped macroblock: all are alike.
 #[inline(always)]
 fn write_skipped(edge: &mut Edge, m: &Skipped)
-    ensures lower { (coded : CodedMacroblock) → IsSkipped m.now coded → Lower edge.new coded }
-    ensures right { (coded : CodedMacroblock) → IsSkipped m.now coded → Right edge.new coded }
+    ensures { edge.new ≡ edge_of m.now }
 {
     edge.slice = m.slice;
     edge.intra = false;
@@ -109,8 +108,7 @@ fn right_of(m: &Contexts) -> Edge
 #[cold]
 #[inline(never)]
 fn skipped_of(m: &Skipped) -> Edge
-    ensures lower { (coded : CodedMacroblock) → IsSkipped m.now coded → Lower result coded }
-    ensures right { (coded : CodedMacroblock) → IsSkipped m.now coded → Right result coded }
+    ensures { result ≡ edge_of m.now }
 {
     let mut edge = NO_EDGE;
     write_skipped(&mut edge, m);
@@ -142,8 +140,7 @@ pub(crate) fn put_right(place: &mut Option<Edge>, m: &Contexts)
 /// Puts an edge of a skipped macroblock in the place of another one, or of none.
 #[inline(always)]
 pub(crate) fn put_skipped(place: &mut Option<Edge>, m: &Skipped)
-    ensures lower { (coded : CodedMacroblock) → IsSkipped m.now coded → IsEdge Lower place.new (Some coded) }
-    ensures right { (coded : CodedMacroblock) → IsSkipped m.now coded → IsEdge Right place.new (Some coded) }
+    ensures { place.new ≡ Some (edge_of m.now) }
 {
     match place {
         Some(edge) => write_skipped(edge, m),

@@ -7,6 +7,7 @@ ghost use Rattle.h264_near.specs.Intra.{with_totals, with_modes, luma_nc, chroma
 ghost use Rattle.h264_near.specs.Place.{around};
 ghost use Rattle.h264_near.specs.Motions.{neighbour};
 ghost use Rattle.h264_near.specs.Raster.{last_in, last_left};
+ghost use Rattle.h264_near.specs.Beside.{IsEdgeOf};
 
 use crate::block::{above_of, column, left_of, number, row};
 use crate::context::{Contexts, Edge};
@@ -26,12 +27,18 @@ pub struct Near {
     left: Option<Edge>,
     corner: Option<Edge>,
     column: usize,
+    /// The macroblock to the left, where it is skipped.
+    skipped: Option<Skipped>,
 
     ghost within: { column < vec_len above },
+    ghost beside: { IsEdgeOf skipped left },
 }
 
 impl Near {
-    ghost use Rattle.h264_near.specs.Keeps.{Keeps, AreContexts, IsEdge, Lower, Right, width_of};
+    ghost use Rattle.std.specs.Prelude.{Some, replicate, Option};
+    ghost use Rattle.h264_near.specs.declared.motion.Motion.{Motion as MotionView};
+    ghost use Rattle.h264_near.specs.declared.skipped.Skipped.{Skipped as SkippedView};
+    ghost use Rattle.h264_near.specs.Keeps.{Keeps, AreContexts, IsEdge, Lower, Right, skipped_before, width_of};
     ghost use Rattle.h264_near.specs.Skips.{IsSkipped};
 
     /// The contexts of a picture so many macroblocks wide, of which none is decoded.
@@ -46,6 +53,7 @@ impl Near {
             left: None,
             corner: None,
             column: 0,
+            skipped: None,
         })
     }
 
@@ -65,6 +73,7 @@ impl Near {
         ensures corner { self.new.corner ≡ None }
         ensures column { self.new.column ≡ 0 }
     {
+        self.skipped = None;
         self.left = None;
         self.corner = None;
         self.column = 0;
@@ -343,6 +352,7 @@ impl Near {
         if self.column + 1 < self.above.len() {
             self.corner = self.above[self.column];
             put_lower(&mut self.above[self.column], m);
+            self.skipped = None;
             put_right(&mut self.left, m);
             self.column += 1;
         } else {
@@ -361,10 +371,50 @@ impl Near {
             self.corner = self.above[self.column];
             put_skipped(&mut self.above[self.column], m);
             put_skipped(&mut self.left, m);
+            self.skipped = Some(*m);
             self.column += 1;
         } else {
             put_skipped(&mut self.above[self.column], m);
             self.begin_row();
+        }
+    }
+
+    /// What the macroblock to the left is, where it is skipped.
+    #[inline(always)]
+    pub fn skipped_before(&self) -> &Option<Skipped>
+        ensures { result.now ≡ skipped_before self.now }
+    {
+        &self.skipped
+    }
+
+    /// Goes on after a macroblock that is skipped as the one to the left is, where it is not the last of its row.
+    #[inline(always)]
+    fn repeat(&mut self)
+        ensures keeps { (width : ℕ) (picture : List CodedMacroblock) (s : SkippedView) (coded : CodedMacroblock) → Keeps width picture self.old →
+            self.old.skipped ≡ Some s → IsSkipped s coded → length picture % width + 1 < width → Keeps width (picture ++ coded ∷ []) self.new }
+        ensures same { self.new.skipped ≡ self.old.skipped }
+    {
+        if self.column + 1 >= self.above.len() {
+            return;
+        }
+        self.corner = self.above[self.column];
+        self.above[self.column] = self.left;
+        self.column += 1;
+    }
+
+    /// Goes on after so many macroblocks that are skipped as the one to the left is, all in its row and none the last of it.
+    #[inline]
+    pub fn push_repeated(&mut self, count: u32)
+        ensures keeps { (width : ℕ) (picture : List CodedMacroblock) (s : SkippedView) (coded : CodedMacroblock) → Keeps width picture self.old →
+            skipped_before self.old ≡ Some s → IsSkipped s coded → length picture % width + count < width →
+            Keeps width (picture ++ replicate count coded) self.new }
+        // What stands to the left of each of them.
+        ensures left { (width : ℕ) (picture : List CodedMacroblock) (s : SkippedView) (coded : CodedMacroblock) → Keeps width picture self.old →
+            skipped_before self.old ≡ Some s → IsSkipped s coded → length picture % width + count < width → (k : ℕ) → k < count →
+            (motions : List (Option MotionView)) → neighbour width (picture ++ replicate k coded) s.slice motions 0 1 ≡ Some (Some s.motion) }
+    {
+        for _turn in 0..count {
+            self.repeat();
         }
     }
 }
