@@ -6,3 +6,4 @@ pub mod Quantiser
 pub mod Possible
 pub mod Fits
 pub mod OfSlice
+pub mod Still

@@ -8,3 +8,4 @@ pub mod Possible
 pub mod Fit
 pub mod OfSlice
 pub mod Coded
+pub mod Still

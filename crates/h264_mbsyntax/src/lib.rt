@@ -14,5 +14,5 @@ pub mod slice;
 
 pub use macroblock::{Kind, Macroblock, read_macroblock};
 pub use residual::Residual;
-pub use skip::skip_macroblock;
+pub use skip::{is_repeated, skip_macroblock};
 pub use slice::Standing;
