@@ -30,7 +30,7 @@ use Rattle.h264_picture.specs.declared.canvas.Canvas.{Canvas}
 use Rattle.h264_picture.specs.declared.samples.SliceSamples.{SliceSamples}
 use Rattle.h264_picture.specs.declared.slice.Slice.{Slice}
 
-past-next : (slice : SliceContext) (picture : List CodedMacroblock) (m : CodedMacroblock) → m.slice ≡ slice.number → slice.number ≤ length picture →
+pub past-next : (slice : SliceContext) (picture : List CodedMacroblock) (m : CodedMacroblock) → m.slice ≡ slice.number → slice.number ≤ length picture →
     IsPast (picture ++ m ∷ [])
 past-next slice picture m e f x g =
     let l = length-append picture (m ∷ []) in

@@ -12,3 +12,4 @@ pub mod Making
 pub mod Filter
 pub mod Weights
 pub mod Sources
+pub mod Still

@@ -6,7 +6,7 @@
 //! `slice_context` is what macroblocks take from the slice's header, its parameter sets and its reference list.
 //! The samples of each macroblock are made after its levels, in place in a frame of the sequence: after each the equations hold of
 //! the macroblocks so far (`in_place::go_on`). For the verdict alone (`Purpose`) no sample is made, and there is no memory for one: of a
-//! macroblock's levels only the range of their transform is judged.
+//! macroblock's levels only the range of their transform is judged, and skipped macroblocks that stand still are passed by rows (`still`).
 //! A `Sequence` has the memory, and in it the `Picture` that is decoded and, where frames are made, their `Canvas`; a `Slice` is made where
 //! slice data begin, and lent to each macroblock.
 //! The allocator is lent to `Work::activate` alone; nothing that is kept has one, but for the `Vec`s of planes, lines and contexts.
@@ -27,6 +27,7 @@ mod samples;
 mod sequence;
 mod slice;
 mod step;
+mod still;
 pub mod work;
 
 pub use buffer::buffer_size;

@@ -39,13 +39,16 @@ impl Sequence {
         ensures same { KeepsPlace self.old self.new }
     {
         let mut standing = Standing::Next;
-        for turn in 0..left {
+        let mut turn = 0;
+        while turn < left {
             match self.read_next(bits, slice, left - turn, standing, sink)? {
                 None => {
                     return Ok(());
                 }
                 Some(next) => {
-                    standing = next;
+                    let passed = self.pass(slice, next, left - turn - 1);
+                    standing = passed.standing;
+                    turn += 1 + passed.count;
                 }
             }
         }
