@@ -12,4 +12,4 @@ pub mod Unique
 pub mod Skipped
 pub mod Made
 pub mod Sources
-pub mod Still
+pub mod Passing

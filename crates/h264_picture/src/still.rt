@@ -1,7 +1,7 @@
 //! Runs of skipped macroblocks that stand still, where no samples are made: all of a row at once.
 #![tactic(auto)]
 
-ghost use Rattle.std.specs.Prelude.{◌≡◌, ℕ, ◌+◌, ◌×◌, ◌<◌, ◌≤◌, None, Some, true};
+ghost use Rattle.std.specs.Prelude.{◌≡◌, ℕ, ◌+◌, ◌<◌, ◌≤◌, None, Some, true};
 ghost use Rattle.h264_near.specs.Skips.{IsSkipped};
 
 use crate::sequence::Sequence;

@@ -18,9 +18,13 @@ invariant-loop-turn g l = record {
   within : l.self.mb.qp ≤ 51;
   refers : RefersOn l.slice.context l.standing;
   standing_is : IsWithin (l.left - l.turn) l.standing;
+  below : l.turn ≤ l.left;
   next_is : l.self.picture.next ≡ l.fn.self.picture.next + l.turn;
   size_is : l.self.size ≡ l.fn.self.size;
   same : KeepsPlace l.fn.self l.self;
   places : ArePlacesIn l.self.canvas l.slice.places;
   quiet : g.S.Elements.failures l.sink ≡ g.S.Elements.failures l.fn.sink;
 }
+
+abbrev pub decreases-loop-turn : goal.decreases-loop-turn
+decreases-loop-turn g l = l.left - l.turn

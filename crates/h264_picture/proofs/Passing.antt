@@ -1,5 +1,5 @@
 -- Skipped macroblocks that stand still are passed, and slice data go on after them.
-use Rattle.std.proofs.Common.{◌≡◌, ℕ, zero, suc, ◌+◌, ◌-◌, ◌*◌, ◌%◌, ◌<◌, ◌≤◌, Bool, List, [], ◌∷◌, ◌++◌, length, replicate, Option, Some, None, refl, ap, sym, subst, ◌∙◌}
+use Rattle.std.proofs.Common.{◌≡◌, ℕ, zero, suc, ◌+◌, ◌-◌, ◌*◌, ◌%◌, ◌<◌, ◌≤◌, Bool, List, length, replicate, Option, Some, None, ap, sym, subst, ◌∙◌}
 use Rattle.std.proofs.Common.{arith, length-append}
 use Rattle.std.proofs.lemmas.List.{append-nil, length-replicate}
 use Rattle.h264_base.specs.Call.{Call}
@@ -22,7 +22,6 @@ use Rattle.h264_picture.specs.declared.slice.Slice.{Slice}
 use Rattle.h264_picture.specs.declared.still.Passed.{Passed}
 use Rattle.h264_picture.specs.Holds.{HoldsIn, IsPast}
 use Rattle.h264_picture.specs.Making.{Making, HasSamples, HasSamplesIn, Reads, setting_of}
-use Rattle.h264_picture.specs.Sound.{IsSound}
 use Rattle.h264_picture.specs.Still.{Passes}
 use Rattle.h264_picture.proofs.Steps.{past-next, skipped-slice}
 
@@ -55,7 +54,7 @@ no-samples (Some making) picture picture' old new none h =
     absurd (subst (λ (o : Option Canvas). HasSamplesIn (setting_of old) making picture o) none h)
 
 -- the column of the next macroblock
-pub column-is : (width size : ℕ) (picture : List CodedMacroblock) (s : Sequence) → HoldsIn width size picture s →
+column-is : (width size : ℕ) (picture : List CodedMacroblock) (s : Sequence) → HoldsIn width size picture s →
     length picture % width ≡ s.picture.position.column
 column-is width size picture s h =
     let a = h.columns in
@@ -64,6 +63,11 @@ column-is width size picture s h =
     let d = s.sound.column in
     remainder _ width s.picture.position.row s.picture.position.column (omega arith) (sym h.next ∙ c ∙
     ap (λ k. s.picture.position.row * k + s.picture.position.column) h.columns)
+
+-- so many more stand in its row
+pub row-room : (width size : ℕ) (picture : List CodedMacroblock) (n : ℕ) (s : Sequence) → HoldsIn width size picture s →
+    s.picture.position.column + n < s.across → length picture % width + n < width
+row-room width size picture n s h room = let c = column-is width size picture s h in let w = h.columns in omega arith
 
 -- so many more
 pub reads-still : (width size : ℕ) (making : Option Making) (slice : Slice) (picture : List CodedMacroblock) (n : ℕ) (old new : Sequence) →
@@ -99,3 +103,20 @@ passed-on {took = took} {failures = failures} {g = g} {old = old} {bits = bits} 
     (none ∙ ap (λ k. left - k) p.1) l))
 passed-on fits width slice left picture (Skipping bit more) passed p few l =
     rw p.0 (still-on fits width slice bit left more passed.count picture p.2 few p.1 l)
+
+-- and a turn of the loop over macroblocks ends there
+pub turn-passed : {S : Type 0} {took : S → List Call → Type 0} {failures : S → ℕ} {g : Grammar (List CodedMacroblock)} {old bits : Reader} {s s' : S}
+    (fits : CodedMacroblock → Bool) (width : ℕ) (slice : SliceContext) (left turn : ℕ) (picture : List CodedMacroblock) (standing : Standing) (passed : Passed)
+    (K : List CodedMacroblock → Type 0) → Passes width slice picture standing passed → passed.count ≤ left - turn - 1 →
+    K (with_still slice picture passed.count) →
+    Leads took failures g (macroblocks fits width slice (left - (turn + 1)) standing picture) old bits s s' →
+    (now : List CodedMacroblock) × K now ×
+    Leads took failures g (macroblocks fits width slice (left - (turn + (1 + passed.count))) passed.standing now) old bits s s'
+turn-passed {took = took} {failures = failures} {g = g} {old = old} {bits = bits} {s = s} {s' = s'} fits width slice left turn picture standing passed K p few k
+    l =
+    let e : left - (turn + 1) - passed.count ≡ left - (turn + (1 + passed.count)) = omega arith in (
+      with_still slice picture passed.count,
+      k,
+      subst (λ n. Leads took failures g (macroblocks fits width slice n passed.standing (with_still slice picture passed.count)) old bits s s') e
+          (passed-on fits width slice (left - (turn + 1)) picture standing passed p (omega arith) l),
+    )
