@@ -38,7 +38,8 @@ length-still slice picture n =
     let own = skipped_of slice picture zero_vector in
     length-append picture (replicate n own) ∙ ap (λ k. length picture + k) (length-replicate n own)
 
-past-still : (slice : SliceContext) (picture : List CodedMacroblock) (n : ℕ) → slice.number ≤ length picture → IsPast picture → IsPast (with_still slice picture n)
+past-still : (slice : SliceContext) (picture : List CodedMacroblock) (n : ℕ) → slice.number ≤ length picture → IsPast picture →
+    IsPast (with_still slice picture n)
 past-still slice picture zero f p = subst IsPast (sym (append-nil picture)) p
 past-still slice picture (suc n) f p =
     let own = skipped_of slice picture zero_vector in
