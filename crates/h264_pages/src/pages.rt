@@ -10,6 +10,7 @@ pub mod allowed;
 pub mod container;
 pub mod explanation;
 pub mod finding;
+pub mod first_sets;
 mod glance;
 pub mod html;
 pub mod info;

@@ -1,5 +1,7 @@
-//! What the first bytes of an input are.
+//! What is kept of an input: its first bytes, which may be those of a container, and its first parameter sets.
 #![tactic(auto)]
+
+use crate::pages::first_sets::FirstSets;
 
 /// A file that holds streams between other bytes, or another kind of stream.
 #[derive(Clone, Copy, PartialEq, Eq)]
@@ -14,32 +16,26 @@ pub enum Container {
     Flv,
 }
 
-/// How many bytes are looked at: a container's first ones, or the first parameter sets of a stream.
-const LOOKED_AT: usize = 256;
-
-/// The first bytes of an input.
-#[derive(Clone, Copy)]
-pub struct Start {
-    bytes: [u8; 256],
-    /// How many of them are known.
-    known: usize,
-    /// How many bytes came.
-    count: usize,
-    /// The byte where the second packet of a transport stream begins.
-    second: Option<u8>,
-}
-
 /// The bytes of a packet of a transport stream (H.222.0, 2.4.3).
 const PACKET: usize = 188;
+
+/// How many of an input's first bytes are kept, by which a container is known: a packet, and the first byte of the next.
+const FIRST_BYTES: usize = PACKET + 1;
+
+/// The first bytes of an input, and its first parameter sets.
+#[derive(Clone, Copy)]
+pub struct Start {
+    bytes: [u8; FIRST_BYTES],
+    /// How many of them are known.
+    known: usize,
+    sets: FirstSets,
+}
 
 /// The byte with which each packet of a transport stream begins.
 const SYNC: u8 = 0x47;
 
 /// nal_unit_type of parameter sets and delimiters of HEVC (H.265, table 7-1).
 const HEVC_TYPES: [u8; 4] = [32, 33, 34, 35];
-
-/// How many values nal_unit_type has: it is the last five bits of a unit's header (7.3.1).
-const UNIT_TYPES: u8 = 32;
 
 /// The second byte of a unit's header in HEVC, of the lowest layer (H.265, 7.3.1.2).
 const HEVC_LAYER: u8 = 1;
@@ -72,64 +68,36 @@ impl Start {
     /// No bytes.
     pub fn new() -> Start {
         Start {
-            bytes: [0; 256],
+            bytes: [0; FIRST_BYTES],
             known: 0,
-            count: 0,
-            second: None,
+            sets: FirstSets::new(),
         }
     }
 
-    /// Notes a byte, if fewer than 256 are known.
-    fn note_byte(&mut self, byte: u8) {
-        if self.known < LOOKED_AT {
-            if let Some(place) = self.bytes.get_mut(self.known) {
-                *place = byte;
-            }
+    /// Notes further bytes.
+    pub fn note(&mut self, bytes: &[u8]) {
+        for byte in bytes.iter().take(FIRST_BYTES.saturating_sub(self.known)) {
+            self.note_first(*byte);
+        }
+        self.sets.note(bytes);
+    }
+
+    /// Keeps a byte, if there is a place for it.
+    fn note_first(&mut self, byte: u8) {
+        if let Some(place) = self.bytes.get_mut(self.known) {
+            *place = byte;
             self.known += 1;
         }
     }
 
-    /// Notes further bytes, of which the first ones are kept.
-    pub fn note(&mut self, bytes: &[u8]) {
-        if self.count > LOOKED_AT {
-            return;
-        }
-        if self.count <= PACKET {
-            if let Some(byte) = bytes.get(PACKET - self.count) {
-                self.second = Some(*byte);
-            }
-        }
-        self.count = self.count.saturating_add(bytes.len());
-        for byte in bytes.iter().take(LOOKED_AT) {
-            self.note_byte(*byte);
-        }
+    /// The first parameter sets.
+    pub fn sets(&self) -> &FirstSets {
+        &self.sets
     }
 
     /// The byte at a place; 0 where it is not known.
     fn at(&self, place: usize) -> u8 {
         self.bytes.get(place).copied().unwrap_or(0)
-    }
-
-    /// The byte at a place. None: it is not known.
-    pub fn known_at(&self, place: usize) -> Option<u8> {
-        if place < self.known {
-            self.bytes.get(place).copied()
-        } else {
-            None
-        }
-    }
-
-    /// The place of the header of the first unit of this nal_unit_type, after a start code.
-    pub fn unit_of_type(&self, nal_unit_type: u8) -> Option<usize> {
-        for start_code in 0..self.known {
-            if self.has(start_code, &[0, 0, 1]) {
-                let place = start_code.saturating_add(3);
-                if self.known_at(place)? % UNIT_TYPES == nal_unit_type {
-                    return Some(place);
-                }
-            }
-        }
-        None
     }
 
     /// Whether these bytes stand from a place on.
@@ -156,7 +124,7 @@ impl Start {
         if self.has(0, b"FLV") {
             return Some(Container::Flv);
         }
-        if self.at(0) == SYNC && self.second == Some(SYNC) {
+        if self.at(0) == SYNC && self.at(PACKET) == SYNC {
             return Some(Container::Ts);
         }
         None

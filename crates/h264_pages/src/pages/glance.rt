@@ -24,7 +24,7 @@ impl Size {
     }
 }
 
-/// What a stream says of itself at its start.
+/// What a stream says of itself in its first parameter sets.
 #[derive(Clone, Copy, PartialEq, Eq)]
 pub struct Declared {
     pub profile_idc: u64,
@@ -47,12 +47,6 @@ struct Format {
     frame_mbs_only: bool,
 }
 
-/// nal_unit_type of a sequence parameter set (table 7-1).
-const SEQUENCE_SET: u8 = 7;
-
-/// nal_unit_type of a picture parameter set (table 7-1).
-const PICTURE_SET: u8 = 8;
-
 /// profile_idc of the Main profile (A.2.2).
 const MAIN: u64 = 77;
 
@@ -72,51 +66,54 @@ const MOST_ZEROS: u32 = 32;
 /// Samples in a row of a macroblock.
 const SIDE: u64 = 16;
 
-/// The bits of a unit at the start of a stream, without emulation prevention bytes.
+/// How many values a scale has: one is changed by a delta_scale modulo this (7.3.2.1.1.1).
+const SCALES: i64 = 256;
+
+/// The scale before the first entry of a scaling list.
+const FIRST_SCALE: i64 = 8;
+
+/// chroma_format_idc of 4:4:4 (table 6-1).
+const CHROMA_444: u64 = 3;
+
+/// How many scaling lists a set may have, and how many in 4:4:4 (7.3.2.1.1).
+const SCALING_LISTS: usize = 8;
+
+const SCALING_LISTS_444: usize = 12;
+
+/// How many of them are of blocks of 4x4 samples. They come first.
+const SMALL_LISTS: usize = 6;
+
+/// How many entries a list has, of blocks of 4x4 and of 8x8 samples.
+const SMALL_ENTRIES: usize = 16;
+
+const LARGE_ENTRIES: usize = 64;
+
+/// The bits of an RBSP.
 #[derive(Clone, Copy)]
-struct BitsAt<'a> {
-    start: &'a Start,
+struct RbspBits<'a> {
+    rbsp: &'a [u8],
     /// The place of the next byte.
     place: usize,
     /// The byte that is read, its next bit first, and how many of its bits are left.
     byte: u8,
     left: u8,
-    /// How many bytes 00 came last.
-    zeros: u8,
 }
 
-impl<'a> BitsAt<'a> {
-    /// The bits from this place on.
-    fn new(start: &'a Start, place: usize) -> BitsAt<'a> {
-        BitsAt {
-            start,
-            place,
+impl<'a> RbspBits<'a> {
+    /// All its bits.
+    fn new(rbsp: &'a [u8]) -> RbspBits<'a> {
+        RbspBits {
+            rbsp,
+            place: 0,
             byte: 0,
             left: 0,
-            zeros: 0,
         }
     }
 
-    /// The next byte of the input. None: it is not known.
-    fn next_byte(&mut self) -> Option<u8> {
-        let byte = self.start.known_at(self.place)?;
-        self.place = self.place.saturating_add(1);
-        Some(byte)
-    }
-
-    /// Takes up the next byte that is no emulation prevention byte (7.4.1).
+    /// Takes up the next byte. None: it is not known.
     fn take_up(&mut self) -> Option<()> {
-        let mut byte = self.next_byte()?;
-        if self.zeros >= 2 && byte == 3 {
-            byte = self.next_byte()?;
-            self.zeros = 0;
-        }
-        self.zeros = if byte == 0 {
-            self.zeros.saturating_add(1)
-        } else {
-            0
-        };
-        self.byte = byte;
+        self.byte = self.rbsp.get(self.place).copied()?;
+        self.place = self.place.saturating_add(1);
         self.left = 8;
         Some(())
     }
@@ -153,6 +150,13 @@ impl<'a> BitsAt<'a> {
         None
     }
 
+    /// A se(v) (9.1.1).
+    fn se(&mut self) -> Option<i64> {
+        let code_num = i64::try_from(self.ue()?).ok()?;
+        let size = code_num / 2;
+        Some(if code_num % 2 == 0 { -size } else { size + 1 })
+    }
+
     /// Passes over the elements of the picture order count (7.3.2.1.1).
     fn pass_counts(&mut self) -> Option<()> {
         let kind = self.ue()?;
@@ -171,20 +175,52 @@ impl<'a> BitsAt<'a> {
         Some(())
     }
 
-    /// chroma_format_idc, 1 where the set does not say it. None: it could not be read, or scaling lists follow, which are not read.
+    /// Passes over a scaling list (7.3.2.1.1.1). After a scale of 0 no entry of it has a delta_scale.
+    fn pass_scaling_list(&mut self, entries: usize) -> Option<()> {
+        let mut scale = FIRST_SCALE;
+        for _ in 0..entries {
+            scale = scale.saturating_add(self.se()?).rem_euclid(SCALES);
+            if scale == 0 {
+                return Some(());
+            }
+        }
+        Some(())
+    }
+
+    /// Passes over the scaling lists of a set with this chroma_format_idc (7.3.2.1.1).
+    fn pass_scaling_lists(&mut self, chroma_format: u64) -> Option<()> {
+        let lists = if chroma_format == CHROMA_444 {
+            SCALING_LISTS_444
+        } else {
+            SCALING_LISTS
+        };
+        for list in 0..lists {
+            let entries = if list < SMALL_LISTS {
+                SMALL_ENTRIES
+            } else {
+                LARGE_ENTRIES
+            };
+            if self.flag()? {
+                self.pass_scaling_list(entries)?;
+            }
+        }
+        Some(())
+    }
+
+    /// chroma_format_idc, 1 where the set does not say it. The scaling lists of the set are passed over.
     fn chroma_format(&mut self, profile_idc: u64) -> Option<u64> {
         if !WITH_CHROMA_FORMAT.contains(&profile_idc) {
             return Some(1);
         }
         let chroma_format = self.ue()?;
-        if chroma_format == 3 {
+        if chroma_format == CHROMA_444 {
             self.flag()?;
         }
         self.ue()?;
         self.ue()?;
         self.flag()?;
         if self.flag()? {
-            return None;
+            self.pass_scaling_lists(chroma_format)?;
         }
         Some(chroma_format)
     }
@@ -240,8 +276,7 @@ impl<'a> BitsAt<'a> {
 
 /// entropy_coding_mode_flag of the first picture parameter set (7.3.2.2).
 fn cabac_of(start: &Start) -> Option<bool> {
-    let place = start.unit_of_type(PICTURE_SET)?;
-    let mut bits = BitsAt::new(start, place.saturating_add(1));
+    let mut bits = RbspBits::new(start.sets().picture()?);
     bits.ue()?;
     bits.ue()?;
     bits.flag()
@@ -286,7 +321,7 @@ impl Declared {
         }
     }
 
-    /// What the sequence parameter set says that was read last, where no unit came after it. The first one of the input is read anew from the first bytes,
+    /// What the sequence parameter set says that was read last, where no unit came after it. The first one of the input is read anew,
     /// whatever its profile is.
     pub fn of_last(survey: &Survey, start: &Start) -> Option<Declared> {
         let set = last_set(survey)?;
@@ -299,10 +334,9 @@ impl Declared {
         }
     }
 
-    /// What the first sequence parameter set and the first picture parameter set say. None: no sequence parameter set is among the first bytes.
+    /// What the first sequence parameter set and the first picture parameter set say. None: no sequence parameter set came.
     fn of(start: &Start) -> Option<Declared> {
-        let place = start.unit_of_type(SEQUENCE_SET)?;
-        let mut bits = BitsAt::new(start, place.saturating_add(1));
+        let mut bits = RbspBits::new(start.sets().sequence()?);
         let profile_idc = bits.number_after(0, 8)?;
         let flags = bits.number_after(0, 8)?;
         let level_idc = bits.number_after(0, 8);
