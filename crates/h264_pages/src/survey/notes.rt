@@ -1,7 +1,7 @@
 //! The survey of a stream.
 #![tactic(auto)]
 
-ghost use Rattle.std.specs.Prelude.{◌≡◌, ◌||◌, false, None, find, reverse, length, IfOk};
+ghost use Rattle.std.specs.Prelude.{◌≡◌, ◌||◌, false, None, [], find, reverse, length, IfOk};
 ghost use Rattle.circular_buffer.specs.Buffer.{last_item};
 ghost use Rattle.h264_units.specs.UnitTypes.{type_number};
 ghost use Rattle.h264_pages.specs.SurveyedPictures.{begins_picture, places_after};
@@ -49,7 +49,10 @@ pub struct Survey {
 impl Survey {
     /// A survey of nothing. AllocError: there is no memory for the last elements.
     pub fn new(alloc: Global) -> Result<Survey, AllocError>
-        ensures { IfOk result (λ survey. IsTold survey nothing_told) }
+        ensures told { IfOk result (λ survey. IsTold survey nothing_told) }
+        ensures places_taken { IfOk result (λ survey. survey.pictures.places_taken.items ≡ []) }
+        ensures pictures { IfOk result (λ survey. survey.pictures.is_short ≡ false) }
+        ensures sets { IfOk result (λ survey. survey.sets.is_short ≡ false) }
     {
         let elements = HeapCircularBuffer::with_capacity(alloc, KEPT)?;
         Ok(Survey {
@@ -69,6 +72,7 @@ impl Survey {
     /// Notes a unit.
     pub fn note_unit(&mut self, byte: u64, nal_unit_type: NalUnitType, nal_ref_idc: u8, length: u64)
         ensures told { Follows (and_unit byte (type_number nal_unit_type) nal_ref_idc length) self.old self.new }
+        ensures places_taken { self.new.pictures.places_taken.items ≡ self.old.pictures.places_taken.items }
         ensures pictures { self.new.pictures.is_short ≡ self.old.pictures.is_short }
         ensures sets { self.old.sets.read ≡ None → self.new.sets.is_short ≡ self.old.sets.is_short }
     {
@@ -88,6 +92,7 @@ impl Survey {
     /// Notes a frame that is output.
     pub fn note_frame(&mut self)
         ensures told { Follows and_frame self.old self.new }
+        ensures places_taken { self.new.pictures.places_taken.items ≡ self.old.pictures.places_taken.items }
         ensures pictures { self.new.pictures.is_short ≡ self.old.pictures.is_short }
         ensures sets { self.new.sets.is_short ≡ self.old.sets.is_short }
     {
@@ -97,6 +102,7 @@ impl Survey {
     /// Notes an element.
     pub fn note_element(&mut self, name: ElementName, bit: u64, value: i64)
         ensures told { Follows (and_element name bit value) self.old self.new }
+        ensures places_taken { self.new.pictures.places_taken.items ≡ self.old.pictures.places_taken.items }
         ensures pictures { begins_picture name value ≡ false → self.new.pictures.is_short ≡ self.old.pictures.is_short }
         ensures sets { self.new.sets.is_short ≡ self.old.sets.is_short }
     {
@@ -144,6 +150,7 @@ impl Survey {
         ensures told { Follows (λ t. t) self.old self.new }
         ensures places_taken { self.new.pictures.is_short ≡ false → self.new.pictures.places_taken.items ≡
             places_after places self.old.pictures.list.items self.old.pictures.places_taken.items }
+        ensures sets { self.new.sets.is_short ≡ self.old.sets.is_short }
     {
         self.pictures.note_places_taken(places);
     }
