@@ -1,65 +1,63 @@
+use crate::cases::each;
 use h264_intra::{
     Intra4x4PredMode, Intra16x16PredMode, IntraChromaPredMode, Neighbours4, Neighbours16,
     NeighboursChroma, Sides, Sides4, predict_chroma, predict4, predict16,
 };
-use std::process::Abort;
 
 #[test]
-fn macroblocks(rt: HostRuntime) {
-    blocks_4x4(&rt);
-    luma16_directions(&rt);
-    luma16_dc(&rt);
-    luma16_plane(&rt);
-    luma16_plane_is_clipped(&rt);
-    chroma_dc(&rt);
-    chroma_directions_and_plane(&rt);
+fn luma(rt: HostRuntime) {
+    each(&rt, &BLOCKS_4X4, is_block_4x4);
+    assert!(rt; luma16_directions());
+    each(&rt, &LUMA_DC, is_luma_dc);
+    assert!(rt; luma16_plane());
+    assert!(rt; luma16_plane_is_clipped());
+}
+
+#[test]
+fn chroma(rt: HostRuntime) {
+    each(&rt, &CHROMA_DC, are_chroma_dcs);
+    assert!(rt; chroma_directions_and_plane());
 }
 
 #[test]
 fn modes(rt: HostRuntime) {
-    modes_by_number(&rt);
-    possible_modes(&rt);
+    assert!(rt; modes_have_numbers());
+    assert!(rt; modes_are_possible());
+    assert!(rt; modes_are_impossible());
 }
 
-fn modes_by_number(rt: &impl Abort) {
-    let luma4 = Intra4x4PredMode::of_number(5);
-    assert_eq!(rt; luma4, Intra4x4PredMode::VerticalRight);
-    let luma16 = Intra16x16PredMode::of_number(2);
-    assert_eq!(rt; luma16, Intra16x16PredMode::Dc);
-    let chroma = IntraChromaPredMode::of_number(2);
-    assert_eq!(rt; chroma, IntraChromaPredMode::Vertical);
-    let numbers = (
-        Intra4x4PredMode::HorizontalUp.number(),
-        Intra16x16PredMode::Plane.number(),
-        IntraChromaPredMode::Dc.number(),
-    );
-    assert_eq!(rt; numbers, (8, 3, 0));
+fn modes_have_numbers() -> bool {
+    Intra4x4PredMode::of_number(5) == Intra4x4PredMode::VerticalRight
+        && Intra16x16PredMode::of_number(2) == Intra16x16PredMode::Dc
+        && IntraChromaPredMode::of_number(2) == IntraChromaPredMode::Vertical
+        && Intra4x4PredMode::HorizontalUp.number() == 8
+        && Intra16x16PredMode::Plane.number() == 3
+        && IntraChromaPredMode::Dc.number() == 0
 }
 
-fn possible_modes(rt: &impl Abort) {
-    let above = Sides4 {
-        left: false,
-        above: true,
-        above_right: false,
-        corner: false,
-    };
-    let both = Sides {
-        left: true,
-        above: true,
-        corner: false,
-    };
-    let possible = (
-        Intra4x4PredMode::DiagonalDownLeft.is_possible(above),
-        Intra16x16PredMode::Horizontal.is_possible(both),
-        IntraChromaPredMode::Dc.is_possible(both),
-    );
-    assert_eq!(rt; possible, (true, true, true));
-    let impossible = (
-        Intra4x4PredMode::HorizontalUp.is_possible(above),
-        Intra16x16PredMode::Plane.is_possible(both),
-        IntraChromaPredMode::Plane.is_possible(both),
-    );
-    assert_eq!(rt; impossible, (false, false, false));
+const ABOVE_ALONE: Sides4 = Sides4 {
+    left: false,
+    above: true,
+    above_right: false,
+    corner: false,
+};
+
+const LEFT_AND_ABOVE: Sides = Sides {
+    left: true,
+    above: true,
+    corner: false,
+};
+
+fn modes_are_possible() -> bool {
+    Intra4x4PredMode::DiagonalDownLeft.is_possible(ABOVE_ALONE)
+        && Intra16x16PredMode::Horizontal.is_possible(LEFT_AND_ABOVE)
+        && IntraChromaPredMode::Dc.is_possible(LEFT_AND_ABOVE)
+}
+
+fn modes_are_impossible() -> bool {
+    !Intra4x4PredMode::HorizontalUp.is_possible(ABOVE_ALONE)
+        && !Intra16x16PredMode::Plane.is_possible(LEFT_AND_ABOVE)
+        && !IntraChromaPredMode::Plane.is_possible(LEFT_AND_ABOVE)
 }
 
 /// Each side there: L0 to L3, A0 to A7 and M.
@@ -174,33 +172,22 @@ const BLOCKS_4X4: [(Intra4x4PredMode, Neighbours4, [u8; 16]); 14] = [
     (Intra4x4PredMode::Dc, ABOVE, [25; 16]),
 ];
 
-fn blocks_4x4(rt: &impl Abort) {
-    for (mode, neighbours, block) in &BLOCKS_4X4 {
-        assert_eq!(rt;
-            predict4(*mode, neighbours),
-            *block,
-            "{mode:?} by {neighbours:?}"
-        );
-    }
+fn is_block_4x4((mode, neighbours, block): &(Intra4x4PredMode, Neighbours4, [u8; 16])) -> bool {
+    predict4(*mode, neighbours) == *block
 }
 
 /// 4, 8, 12, .. on both sides: the plane through them is 4 * (x + 1) + 4 * (y + 1).
 const RAMP: [u8; 16] = [4, 8, 12, 16, 20, 24, 28, 32, 36, 40, 44, 48, 52, 56, 60, 64];
 
-fn luma16_directions(rt: &impl Abort) {
+fn luma16_directions() -> bool {
     let n = Neighbours16 {
         left: Some([9; 16]),
         above: Some(RAMP),
         corner: None,
     };
-    let vertical = predict16(Intra16x16PredMode::Vertical, &n);
-    let horizontal = predict16(Intra16x16PredMode::Horizontal, &n);
-    for y in 0..16 {
-        for x in 0..16 {
-            assert_eq!(rt; usize::from(vertical[16 * y + x]), 4 * x + 4);
-        }
-    }
-    assert_eq!(rt; horizontal, [9; 256]);
+    let rows = [RAMP; 16];
+    predict16(Intra16x16PredMode::Vertical, &n).as_slice() == rows.as_flattened()
+        && predict16(Intra16x16PredMode::Horizontal, &n) == [9; 256]
 }
 
 /// The left column and the row above where they are there, and the DC of them.
@@ -212,35 +199,33 @@ const LUMA_DC: [(Option<[u8; 16]>, Option<[u8; 16]>, u8); 4] = [
     (None, Some([21; 16]), 21),
 ];
 
-fn luma16_dc(rt: &impl Abort) {
-    for (left, above, sample) in &LUMA_DC {
-        let n = Neighbours16 {
-            left: *left,
-            above: *above,
-            corner: None,
-        };
-        let found = predict16(Intra16x16PredMode::Dc, &n);
-        assert_eq!(rt; found, [*sample; 256], "by {n:?}");
-    }
+fn is_luma_dc((left, above, sample): &(Option<[u8; 16]>, Option<[u8; 16]>, u8)) -> bool {
+    let n = Neighbours16 {
+        left: *left,
+        above: *above,
+        corner: None,
+    };
+    predict16(Intra16x16PredMode::Dc, &n) == [*sample; 256]
 }
 
 // H and V are 8 * 204, b and c are 128, a is 16 * 128.
-fn luma16_plane(rt: &impl Abort) {
+fn luma16_plane() -> bool {
     let n = Neighbours16 {
         left: Some(RAMP),
         above: Some(RAMP),
         corner: Some(0),
     };
     let plane = predict16(Intra16x16PredMode::Plane, &n);
-    for y in 0..16 {
-        for x in 0..16 {
-            assert_eq!(rt; usize::from(plane[16 * y + x]), 4 * (x + y) + 8);
+    for k in 0..256 {
+        if usize::from(plane[k]) != 4 * (k % 16 + k / 16) + 8 {
+            return false;
         }
     }
+    true
 }
 
 // H and V are -255 * 36, b and c are -717, a is 0: 314 at (0, 0), (-717 * 8 + 717 * 7 + 16) >> 5 at (15, 0).
-fn luma16_plane_is_clipped(rt: &impl Abort) {
+fn luma16_plane_is_clipped() -> bool {
     let side = [
         255, 255, 255, 255, 255, 255, 255, 255, 0, 0, 0, 0, 0, 0, 0, 0,
     ];
@@ -250,8 +235,7 @@ fn luma16_plane_is_clipped(rt: &impl Abort) {
         corner: Some(255),
     };
     let plane = predict16(Intra16x16PredMode::Plane, &n);
-    let found = [plane[0], plane[7], plane[15], plane[255]];
-    assert_eq!(rt; found, [255, 157, 0, 0]);
+    plane[0] == 255 && plane[7] == 157 && plane[15] == 0 && plane[255] == 0
 }
 
 /// The samples at the corners of the four blocks of a chroma plane.
@@ -272,20 +256,17 @@ const CHROMA_DC: [(Option<[u8; 8]>, Option<[u8; 8]>, [u8; 4]); 4] = [
     (None, Some(CHROMA_ABOVE), [10, 20, 10, 20]),
 ];
 
-fn chroma_dc(rt: &impl Abort) {
-    for (left, above, samples) in &CHROMA_DC {
-        let n = NeighboursChroma {
-            left: *left,
-            above: *above,
-            corner: None,
-        };
-        let found = of_blocks(predict_chroma(IntraChromaPredMode::Dc, &n));
-        assert_eq!(rt; found, *samples, "by {n:?}");
-    }
+fn are_chroma_dcs((left, above, samples): &(Option<[u8; 8]>, Option<[u8; 8]>, [u8; 4])) -> bool {
+    let n = NeighboursChroma {
+        left: *left,
+        above: *above,
+        corner: None,
+    };
+    of_blocks(predict_chroma(IntraChromaPredMode::Dc, &n)) == *samples
 }
 
 // H and V are 8 * 30, b and c are 128, a is 16 * 64.
-fn chroma_directions_and_plane(rt: &impl Abort) {
+fn chroma_directions_and_plane() -> bool {
     let ramp = [4, 8, 12, 16, 20, 24, 28, 32];
     let n = NeighboursChroma {
         left: Some(ramp),
@@ -295,11 +276,13 @@ fn chroma_directions_and_plane(rt: &impl Abort) {
     let vertical = predict_chroma(IntraChromaPredMode::Vertical, &n);
     let horizontal = predict_chroma(IntraChromaPredMode::Horizontal, &n);
     let plane = predict_chroma(IntraChromaPredMode::Plane, &n);
-    for y in 0..8 {
-        for x in 0..8 {
-            assert_eq!(rt; usize::from(vertical[8 * y + x]), 4 * x + 4);
-            assert_eq!(rt; usize::from(horizontal[8 * y + x]), 4 * y + 4);
-            assert_eq!(rt; usize::from(plane[8 * y + x]), 4 * (x + y) + 8);
+    for k in 0..64 {
+        let (x, y) = (k % 8, k / 8);
+        let directions = usize::from(vertical[k]) == 4 * x + 4
+            && usize::from(horizontal[k]) == 4 * y + 4;
+        if !directions || usize::from(plane[k]) != 4 * (x + y) + 8 {
+            return false;
         }
     }
+    true
 }

@@ -6,6 +6,8 @@ mod base;
 #[cfg(test)]
 mod bits;
 #[cfg(test)]
+mod cases;
+#[cfg(test)]
 mod cavlc;
 #[cfg(test)]
 mod deblock;

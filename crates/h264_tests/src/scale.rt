@@ -1,18 +1,21 @@
+use crate::cases::each;
 use h264_scale::{TransformRange, dc2, dc16, residual4, residual4_with_dc};
-use std::process::Abort;
 
 #[test]
 fn blocks(rt: HostRuntime) {
-    blocks_of_one_level(&rt);
-    rows_come_first(&rt);
-    blocks_after_a_dc(&rt);
-    luma_dcs(&rt);
-    chroma_dcs(&rt);
-    extreme_levels(&rt);
+    each(&rt, &ONE_LEVEL, is_block);
+    assert!(rt; rows_come_first());
+    each(&rt, &BEHIND_A_DC, is_block_with_dc);
+    each(&rt, &LUMA_DC, are_luma_dcs);
+    each(&rt, &CHROMA_DC, are_chroma_dcs);
+    each(&rt, &EXTREMES, is_refused);
 }
 
 /// What a block of 16 gives.
 type Answer = Result<[i16; 16], TransformRange>;
+
+/// What the DCs of chroma give.
+type ChromaAnswer = Result<[i16; 4], TransformRange>;
 
 /// The levels with one of them not 0.
 fn one_level(place: usize, level: i16) -> [i16; 16] {
@@ -43,24 +46,16 @@ const ONE_LEVEL: [(usize, i16, u8, Answer); 9] = [
     (0, -2979, 1, Err(TransformRange)),
 ];
 
-fn blocks_of_one_level(rt: &impl Abort) {
-    for (place, level, qp, residual) in &ONE_LEVEL {
-        assert!(rt; *qp <= 51);
-        let levels = one_level(*place, *level);
-        assert_eq!(rt;
-            residual4(&levels, *qp),
-            *residual,
-            "{level} at {place} and QP {qp}"
-        );
-    }
+fn is_block((place, level, qp, residual): &(usize, i16, u8, Answer)) -> bool {
+    *qp <= 51 && residual4(&one_level(*place, *level), *qp) == *residual
 }
 
 // At QP 1 three entries of -126, at (0, 1), (1, 0) and (1, 1). The rows become -126, -63, 63, 126 and -252, -189, -63, 0, and in the
 // second column half of -189 is -95. With the columns first entries of the second and the third row would be others.
-fn rows_come_first(rt: &impl Abort) {
+fn rows_come_first() -> bool {
     let levels = [0, -9, -9, 0, -7, 0, 0, 0, 0, 0, 0, 0, 0, 0, 0, 0];
     let residual = [-6, -4, 0, 2, -4, -2, 0, 2, 0, 1, 1, 2, 2, 2, 2, 2];
-    assert_eq!(rt; residual4(&levels, 1), Ok(residual));
+    residual4(&levels, 1) == Ok(residual)
 }
 
 /// The DC, the 15 levels after it, QP, and the residual.
@@ -83,15 +78,8 @@ const BEHIND_A_DC: [(i16, [i16; 15], u8, Answer); 9] = [
     (i16::MAX, [0; 15], 51, Err(TransformRange)),
 ];
 
-fn blocks_after_a_dc(rt: &impl Abort) {
-    for (dc, levels, qp, residual) in &BEHIND_A_DC {
-        assert!(rt; *qp <= 51);
-        assert_eq!(rt;
-            residual4_with_dc(*dc, levels, *qp),
-            *residual,
-            "{dc} at QP {qp}"
-        );
-    }
+fn is_block_with_dc((dc, levels, qp, residual): &(i16, [i16; 15], u8, Answer)) -> bool {
+    *qp <= 51 && residual4_with_dc(*dc, levels, *qp) == *residual
 }
 
 /// The place in the scan and the level of one Intra 16x16 DC, QP, and the DCs of the blocks.
@@ -120,16 +108,12 @@ const LUMA_DC: [(usize, i16, u8, Answer); 6] = [
     (0, 13107, 0, Err(TransformRange)),
 ];
 
-fn luma_dcs(rt: &impl Abort) {
-    for (place, level, qp, dcs) in &LUMA_DC {
-        assert!(rt; *qp <= 51);
-        let levels = one_level(*place, *level);
-        assert_eq!(rt; dc16(&levels, *qp), *dcs, "{level} at {place} and QP {qp}");
-    }
+fn are_luma_dcs((place, level, qp, dcs): &(usize, i16, u8, Answer)) -> bool {
+    *qp <= 51 && dc16(&one_level(*place, *level), *qp) == *dcs
 }
 
 /// The levels of chroma DC, QP, and the DCs of the blocks.
-const CHROMA_DC: [([i16; 4], u8, Result<[i16; 4], TransformRange>); 6] = [
+const CHROMA_DC: [([i16; 4], u8, ChromaAnswer); 6] = [
     ([1, 0, 0, 0], 30, Ok([160; 4])),
     ([0, 1, 0, 0], 30, Ok([160, -160, 160, -160])),
     ([0, 0, 1, 0], 30, Ok([160, 160, -160, -160])),
@@ -139,11 +123,8 @@ const CHROMA_DC: [([i16; 4], u8, Result<[i16; 4], TransformRange>); 6] = [
     ([i16::MIN; 4], 51, Err(TransformRange)),
 ];
 
-fn chroma_dcs(rt: &impl Abort) {
-    for (levels, qp, dcs) in &CHROMA_DC {
-        assert!(rt; *qp <= 51);
-        assert_eq!(rt; dc2(levels, *qp), *dcs, "{levels:?} at QP {qp}");
-    }
+fn are_chroma_dcs((levels, qp, dcs): &([i16; 4], u8, ChromaAnswer)) -> bool {
+    *qp <= 51 && dc2(levels, *qp) == *dcs
 }
 
 /// Places, levels and QPs of which each leaves the range.
@@ -162,11 +143,7 @@ const EXTREMES: [(usize, i16, u8); 12] = [
     (15, i16::MIN, 51),
 ];
 
-fn extreme_levels(rt: &impl Abort) {
-    for (place, level, qp) in &EXTREMES {
-        assert!(rt; *qp <= 51);
-        let levels = one_level(*place, *level);
-        let refused = residual4(&levels, *qp).is_err() && dc16(&levels, *qp).is_err();
-        assert!(rt; refused, "{level} at {place}");
-    }
+fn is_refused((place, level, qp): &(usize, i16, u8)) -> bool {
+    let levels = one_level(*place, *level);
+    *qp <= 51 && residual4(&levels, *qp).is_err() && dc16(&levels, *qp).is_err()
 }

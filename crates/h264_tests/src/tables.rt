@@ -1,6 +1,7 @@
 //! Rows and values from the standard's tables, and each call once.
 #![tactic(auto)]
 
+use crate::cases::each;
 use h264_tables::{
     Entry, Limits, Strength, Table, alpha, beta, chroma_qp, code_word, limits, lookup, tc0,
 };
@@ -115,18 +116,9 @@ const WORDS: [(Table, &str, u8); 30] = [
     (Table::LevelPrefix, "0000000000000001", 15),
 ];
 
-fn words_are_those_of_the_standard(rt: &impl Abort) {
-    for (table, text, value) in &WORDS {
-        let entry = Entry {
-            length: (text.len() & 0xff) as u8,
-            value: *value,
-        };
-        assert_eq!(rt;
-            lookup(*table, bits(text)),
-            Some(entry),
-            "{text} of {table:?}"
-        );
-    }
+fn is_word((table, text, value): &(Table, &str, u8)) -> bool {
+    let length = (text.len() & 0xff) as u8;
+    matches!(lookup(*table, bits(text)), Some(entry) if entry.length == length && entry.value == *value)
 }
 
 /// Bits that begin with no word.
@@ -144,10 +136,8 @@ const NO_WORDS: [(Table, &str); 11] = [
     (Table::LevelPrefix, "0000000000000000"),
 ];
 
-fn other_bits_are_no_word(rt: &impl Abort) {
-    for (table, text) in &NO_WORDS {
-        assert!(rt; lookup(*table, bits(text)).is_none(), "{text} of {table:?}");
-    }
+fn is_no_word((table, text): &(Table, &str)) -> bool {
+    lookup(*table, bits(text)).is_none()
 }
 
 /// nC, and the table of coeff_token.
@@ -158,19 +148,16 @@ const COEFF_TOKENS: [(u8, Table); 4] = [
     (8, Table::CoeffTokenNc8),
 ];
 
-fn tables_are_chosen(rt: &impl Abort) {
-    for (nc, table) in &COEFF_TOKENS {
-        assert_eq!(rt; Table::coeff_token(*nc), *table);
-    }
-    for (found, table) in [
-        (Table::total_zeros(1), Table::TotalZeros1),
-        (Table::total_zeros(15), Table::TotalZeros15),
-        (Table::total_zeros_chroma_dc(3), Table::TotalZerosChromaDc3),
-        (Table::run_before(6), Table::RunBefore6),
-        (Table::run_before(14), Table::RunBefore7),
-    ] {
-        assert_eq!(rt; found, table);
-    }
+fn is_chosen((nc, table): &(u8, Table)) -> bool {
+    Table::coeff_token(*nc) == *table
+}
+
+fn other_tables_are_chosen() -> bool {
+    Table::total_zeros(1) == Table::TotalZeros1
+        && Table::total_zeros(15) == Table::TotalZeros15
+        && Table::total_zeros_chroma_dc(3) == Table::TotalZerosChromaDc3
+        && Table::run_before(6) == Table::RunBefore6
+        && Table::run_before(14) == Table::RunBefore7
 }
 
 /// level_idc and constraint_set3_flag, and MaxFS, MaxDpbMbs and the limit of vectors.
@@ -190,18 +177,19 @@ const LIMITS: [(u8, bool, u32, u32, u32); 10] = [
 /// level_idc of what is no level up to 5.2.
 const NO_LEVELS: [u8; 9] = [0, 8, 14, 53, 60, 61, 62, 99, 255];
 
-fn levels_have_their_limits(rt: &impl Abort) {
-    for (level_idc, set3, max_fs, max_dpb_mbs, max_vector) in &LIMITS {
-        let expected = Limits {
-            max_fs: *max_fs,
-            max_dpb_mbs: *max_dpb_mbs,
-            max_vector: *max_vector,
-        };
-        assert_eq!(rt; limits(*level_idc, *set3), Some(expected), "at {level_idc}");
-    }
-    for level_idc in &NO_LEVELS {
-        assert!(rt; limits(*level_idc, true).is_none(), "at {level_idc}");
-    }
+fn has_limits(
+    (level_idc, set3, max_fs, max_dpb_mbs, max_vector): &(u8, bool, u32, u32, u32),
+) -> bool {
+    let expected = Limits {
+        max_fs: *max_fs,
+        max_dpb_mbs: *max_dpb_mbs,
+        max_vector: *max_vector,
+    };
+    limits(*level_idc, *set3) == Some(expected)
+}
+
+fn is_no_level(level_idc: &u8) -> bool {
+    limits(*level_idc, true).is_none()
 }
 
 /// qPI before its offset, the offset, and QPC.
@@ -216,10 +204,8 @@ const CHROMA: [(u8, i8, u8); 8] = [
     (40, -10, 29),
 ];
 
-fn chroma_has_its_qp(rt: &impl Abort) {
-    for (qp, offset, expected) in &CHROMA {
-        assert_eq!(rt; chroma_qp(*qp, *offset), *expected, "at {qp} and {offset}");
-    }
+fn is_chroma_qp((qp, offset, expected): &(u8, i8, u8)) -> bool {
+    chroma_qp(*qp, *offset) == *expected
 }
 
 /// indexA or indexB, alpha and beta.
@@ -233,11 +219,8 @@ const THRESHOLDS: [(u8, u8, u8); 7] = [
     (51, 255, 18),
 ];
 
-fn thresholds_are_those_of_the_standard(rt: &impl Abort) {
-    for (index, a, b) in &THRESHOLDS {
-        assert!(rt; *index <= 51);
-        assert_eq!(rt; (alpha(*index), beta(*index)), (*a, *b), "at {index}");
-    }
+fn are_thresholds((index, a, b): &(u8, u8, u8)) -> bool {
+    *index <= 51 && alpha(*index) == *a && beta(*index) == *b
 }
 
 /// indexA, and tC0 where bS is 1, 2 and 3.
@@ -250,29 +233,31 @@ const CLIPS: [(u8, u8, u8, u8); 6] = [
     (51, 13, 17, 25),
 ];
 
-fn clips_are_those_of_the_standard(rt: &impl Abort) {
-    for (index, one, two, three) in &CLIPS {
-        assert!(rt; *index <= 51);
-        let first = (tc0(*index, Strength::One), tc0(*index, Strength::Two));
-        assert_eq!(rt;
-            (first, tc0(*index, Strength::Three)),
-            ((*one, *two), *three)
-        );
-    }
+fn are_clips((index, one, two, three): &(u8, u8, u8, u8)) -> bool {
+    *index <= 51
+        && tc0(*index, Strength::One) == *one
+        && tc0(*index, Strength::Two) == *two
+        && tc0(*index, Strength::Three) == *three
 }
 
 #[test]
 fn code_words(rt: HostRuntime) {
     each_row_is_found(&rt);
-    words_are_those_of_the_standard(&rt);
-    other_bits_are_no_word(&rt);
+    each(&rt, &WORDS, is_word);
+    each(&rt, &NO_WORDS, is_no_word);
 }
 
 #[test]
-fn choices_and_values(rt: HostRuntime) {
-    tables_are_chosen(&rt);
-    levels_have_their_limits(&rt);
-    chroma_has_its_qp(&rt);
-    thresholds_are_those_of_the_standard(&rt);
-    clips_are_those_of_the_standard(&rt);
+fn choices(rt: HostRuntime) {
+    each(&rt, &COEFF_TOKENS, is_chosen);
+    assert!(rt; other_tables_are_chosen());
+}
+
+#[test]
+fn values(rt: HostRuntime) {
+    each(&rt, &LIMITS, has_limits);
+    each(&rt, &NO_LEVELS, is_no_level);
+    each(&rt, &CHROMA, is_chroma_qp);
+    each(&rt, &THRESHOLDS, are_thresholds);
+    each(&rt, &CLIPS, are_clips);
 }
