@@ -1,7 +1,9 @@
 //! Texts on files that hold no stream for the program: what they are, what to do about it, and what `info` and `report` have of them.
 #![tactic(auto)]
 
-use crate::asking::{Asking, check_all};
+use crate::asking::{Asking, check_all, text_of};
+use crate::tests::{Devices, WELL, answer};
+use std::process::Abort;
 use std::test::Fail;
 
 /// The first bytes of an MP4 file: a box of type ftyp.
@@ -318,6 +320,166 @@ h264v does not judge this profile.</p></body></html>\n",
         status: 1,
     },
 ];
+
+/// A part of a stream.
+#[derive(Clone, Copy)]
+enum Part {
+    /// These bytes, in hexadecimal digits.
+    Bytes(&'static str),
+    /// A unit of supplemental enhancement information with so many bytes ff after its header.
+    Sei(usize),
+}
+
+/// Words, the parts of a stream that they ask for, and what is written of it.
+#[derive(Clone, Copy)]
+struct Far<'a> {
+    words: &'a [&'a str],
+    parts: &'a [Part],
+    out: &'a str,
+}
+
+/// The picture parameter set of the streams below, with CABAC.
+const PICTURE_SET: Part = Part::Bytes("0000000168ee3880");
+
+/// A set of the High profile at level 1.3, with 13 macroblocks across and 8 down, of which eight columns and eight rows of samples are cut off. Of its scaling
+/// lists 0, 2, 3, 6 and 7 are there: 16 entries, none, two, 64 that pass over 256, and none.
+const LISTS: Part = Part::Bytes(
+    "000000016764000dad8408421084210842108422118404029203f807f00fe492492492492492492492492492492492492492492492508f41a23cb2a0",
+);
+
+/// A set of the High 4:4:4 Predictive profile with lists 6 and 11 of twelve. Four columns and four rows are cut off.
+const LISTS_444: Part = Part::Bytes(
+    "0000000167f4000d91a0420db6db6db6dffffffffffffc203f807887fa0d11e595",
+);
+
+/// A set of the High profile with eight lists, each delta_scale -128: they take 477 bytes.
+const LONGEST_LISTS: Part = Part::Bytes(
+    "000000016764000dad80404020201010080804040202010100808040402020101008080404020201010080c02020101008080404020201010080804040202010100808040402\
+02010100808040601010080804040202010100808040402020101008080404020201010080804040203008080404020201010080804040202010100808040402020101008080\
+4040202010180404020201010080804040202010100808040402020101008080404020201010080c020201010080804040202010100808040402020101008080404020201010\
+08080406010100808040402020101008080404020201010080804040202010100808040402020101008080404020201010080804040202010100808040402020101008080404\
+02020101008080404020201010080804040202010100808040402020101008080404020201010080804040202010100808040402020101008080404020201010080804040203\
+00808040402020101008080404020201010080804040202010100808040402020101008080404020201010080804040202010100808040402020101008080404020201010080\
+804040202010100808040402020101008080404020201010080804040202010100808040402020101008080404020201010080804040202010100808040402020101e8344796\
+54",
+);
+
+/// A set of the High profile whose offsets of a count cycle have emulation prevention bytes.
+const EMULATED: Part = Part::Bytes(
+    "000000016764000daca000000302000003000003000040000028000004000003020d11e595",
+);
+
+/// A set that ends after its level.
+const CUT: Part = Part::Bytes("0000000167640028ac");
+
+/// What is said of sets behind other units, of long ones, and of one that is cut off. The elements of the sets are those that ffmpeg's filter trace_headers
+/// names.
+const FAR_SETS: [Far<'static>; 8] = [
+    Far {
+        words: &["h264v", "check", "--explain", "stream"],
+        parts: &[Part::Sei(700), Part::Bytes(HIGH)],
+        out: "explain cause The input is an H.264 stream: High profile, level 4, 1920x1080, CABAC. h264v does not judge this profile.\n",
+    },
+    Far {
+        words: &["h264v", "info", "stream"],
+        parts: &[Part::Sei(700), Part::Bytes(HIGH)],
+        out: "info last set profile 100 (High) level 4 size 1920x1080\n",
+    },
+    Far {
+        words: &["h264v", "info", "--json", "stream"],
+        parts: &[Part::Sei(700), Part::Bytes(HIGH)],
+        out: "\"last_set\":{\"profile_idc\":100,\"profile\":\"High\",\"level_idc\":40,\"width\":1920,\"height\":1080}",
+    },
+    Far {
+        words: &["h264v", "check", "--json", "stream"],
+        parts: &[CUT, Part::Sei(2000), PICTURE_SET],
+        out: "\"cause\":\"The input is an H.264 stream: High profile, level 4, CABAC. h264v does not judge this profile.\"",
+    },
+    Far {
+        words: &["h264v", "check", "--json", "stream"],
+        parts: &[Part::Sei(700), LISTS, Part::Sei(700), PICTURE_SET],
+        out: "\"cause\":\"The input is an H.264 stream: High profile, level 1.3, 200x120, CABAC. ",
+    },
+    Far {
+        words: &["h264v", "check", "--json", "stream"],
+        parts: &[LISTS_444, PICTURE_SET],
+        out: "\"cause\":\"The input is an H.264 stream: High 4:4:4 Predictive profile, level 1.3, 204x124, CABAC. ",
+    },
+    Far {
+        words: &["h264v", "check", "--json", "stream"],
+        parts: &[LONGEST_LISTS, PICTURE_SET],
+        out: "\"cause\":\"The input is an H.264 stream: High profile, level 1.3, 200x120, CABAC. ",
+    },
+    Far {
+        words: &["h264v", "check", "--json", "stream"],
+        parts: &[EMULATED, PICTURE_SET],
+        out: "\"cause\":\"The input is an H.264 stream: High profile, level 1.3, 200x120, CABAC. ",
+    },
+];
+
+/// A stream of these parts.
+fn stream_of(rt: &impl AllocGlobal, parts: &[Part]) -> Result<Vec<u8>, Fail> {
+    let mut stream = Vec::new(rt.alloc());
+    for part in parts.iter() {
+        match part {
+            Part::Bytes(digits) => {
+                stream.extend_from_slice(hex::decode(rt.alloc(), digits)?.as_slice())?
+            }
+            Part::Sei(length) => {
+                stream.extend_from_slice(&[0, 0, 0, 1, 6])?;
+                for _ in 0..*length {
+                    stream.push(0xff)?;
+                }
+            }
+        }
+    }
+    Ok(stream)
+}
+
+/// That this is written of a stream that these devices read.
+fn check_far(rt: &(impl Abort + AllocGlobal), far: &Far<'_>, devices: Devices) -> Result<(), Fail> {
+    let stream = stream_of(rt, far.parts)?;
+    let all = answer(rt.alloc(), far.words, stream.as_slice(), devices)?;
+    let out = text_of(all.out)?;
+    assert!(rt; out.contains(far.out), "{} in {out}", far.out);
+    Ok(())
+}
+
+/// Sets behind so many bytes that a read of 4096 bytes ends in the start code of the first, or within it.
+fn sets_between_reads(rt: &(impl Abort + AllocGlobal)) -> Result<(), Fail> {
+    for length in 4075..4092 {
+        let far = Far {
+            words: &["h264v", "info", "stream"],
+            parts: &[Part::Sei(length), Part::Bytes(HIGH)],
+            out: "info last set profile 100 (High) level 4 size 1920x1080\n",
+        };
+        check_far(rt, &far, WELL)?;
+    }
+    Ok(())
+}
+
+/// Sets that are read byte by byte. The picture parameter set comes first, since no byte is read after the other one's end.
+const BY_BYTES: Far<'static> = Far {
+    words: &["h264v", "check", "--explain", "stream"],
+    parts: &[Part::Bytes("0000000168ce3880"), Part::Bytes(MAIN)],
+    out: "explain cause The input is an H.264 stream: Main profile, level 3, 352x288, CAVLC. ",
+};
+
+#[test]
+fn far_sets(rt: HostRuntime) -> Result<(), Fail> {
+    for far in FAR_SETS.iter() {
+        check_far(&rt, far, WELL)?;
+    }
+    sets_between_reads(&rt)?;
+    check_far(
+        &rt,
+        &BY_BYTES,
+        Devices {
+            read_size: 1,
+            ..WELL
+        },
+    )
+}
 
 #[test]
 fn other_files(rt: HostRuntime) -> Result<(), Fail> {
