@@ -8,8 +8,8 @@ use h264_bits::{
     Bits, Found, NoWord, look, read_bits, read_se, read_te, read_trailing, read_u, read_ue,
     read_word,
 };
+use h264_rbsp::Rbsp;
 use h264_tables::Table;
-use std::process::Abort;
 use std::test::Fail;
 
 /// How an element is read.
@@ -70,23 +70,30 @@ fn answer(value: Result<i64, Rule>, bit: u64) -> Result<(i64, u64), Stop> {
     }
 }
 
-/// Stops unless the elements of a stream are these. The sink is told each that is there, and no other.
-fn expect(rt: &(impl Abort + AllocGlobal), case: &Case) -> Result<(), Fail> {
-    let (stream, rows, end) = case;
-    let rbsp = rbsp_in(rt.alloc(), stream)?;
-    let mut bits = Bits::new(&rbsp);
-    let mut sink = Heard::nothing();
-    let mut told = 0u32;
-    for (form, value, bit) in *rows {
-        assert_eq!(rt; read(&mut bits, *form, &mut sink), answer(*value, *bit));
-        if let Ok(value) = value {
-            told = told.wrapping_add(1);
-            assert_eq!(rt; (sink.bit, sink.value), (*bit, *value));
-        }
-        assert_eq!(rt; sink.count, told);
+/// Whether an element is the one of a row, which the sink is told if it is there.
+fn is_read(bits: &mut Bits, (form, value, bit): &Row, sink: &mut Heard) -> bool {
+    let told = sink.count;
+    if read(bits, *form, sink) != answer(*value, *bit) {
+        return false;
     }
-    assert_eq!(rt; bits.stream_bit(), *end);
-    Ok(())
+    match value {
+        Ok(value) => {
+            sink.count == told.wrapping_add(1) && sink.bit == *bit && sink.value == *value
+        }
+        Err(_) => sink.count == told,
+    }
+}
+
+/// Whether the elements of an RBSP are these, and end at this place.
+fn are_read(rbsp: &Rbsp, rows: &[Row], end: u64) -> bool {
+    let mut bits = Bits::new(rbsp);
+    let mut sink = Heard::nothing();
+    for row in rows {
+        if !is_read(&mut bits, row, &mut sink) {
+            return false;
+        }
+    }
+    bits.stream_bit() == end
 }
 
 /// The sequence parameter set of one macroblock at level 1: its unit begins at byte 4, its RBSP at bit 40.
@@ -192,34 +199,39 @@ const CASES: [Case; 9] = [
 
 #[test]
 fn elements(rt: HostRuntime) -> Result<(), Fail> {
-    for case in &CASES {
-        expect(&rt, case)?;
+    for (i, (stream, rows, end)) in CASES.iter().enumerate() {
+        let rbsp = rbsp_in(rt.alloc(), stream)?;
+        assert!(rt; are_read(&rbsp, rows, *end), "case {i}");
     }
-    words_end(&rt)?;
-    a_set_ends(&rt)
+    Ok(())
+}
+
+#[test]
+fn ends(rt: HostRuntime) -> Result<(), Fail> {
+    let golomb = rbsp_in(rt.alloc(), GOLOMB)?;
+    assert!(rt; words_end(&mut Bits::new(&golomb)));
+    let set = rbsp_in(rt.alloc(), SET)?;
+    assert!(rt; a_set_ends(&mut Bits::new(&set))?);
+    Ok(())
 }
 
 /// No more data follow the words of `GOLOMB`.
-fn words_end(rt: &(impl Abort + AllocGlobal)) -> Result<(), Fail> {
-    let golomb = rbsp_in(rt.alloc(), GOLOMB)?;
-    let mut bits = Bits::new(&golomb);
-    assert_eq!(rt; bits.u::<24>(), Ok(0b1010_0110_0100_0010_1000_1000));
-    assert!(rt; !bits.more());
-    Ok(())
+fn words_end(bits: &mut Bits) -> bool {
+    bits.u::<24>() == Ok(0b1010_0110_0100_0010_1000_1000) && !bits.more()
 }
 
 /// Seven bits of `SET` follow its first 32, and then its trailing bits.
-fn a_set_ends(rt: &(impl Abort + AllocGlobal)) -> Result<(), Fail> {
-    let set = rbsp_in(rt.alloc(), SET)?;
-    let mut bits = Bits::new(&set);
+fn a_set_ends(bits: &mut Bits) -> Result<bool, Stop> {
     let mut sink = Heard::nothing();
     let _first = bits.u::<32>();
-    let rest = read_u::<7, Heard>(&mut bits, ElementName::LevelSuffix, &mut sink)?;
-    assert_eq!(rt; rest, Found { bit: 72, value: 56 });
-    let ahead = look(&bits, &sink);
-    assert_eq!(rt; (ahead.bit, ahead.follows), (79, false));
-    read_trailing(&mut bits, &sink)?;
-    assert_eq!(rt; bits.stream_bit(), 80);
-    assert_eq!(rt; bits.ue(), Err(NoWord));
-    Ok(())
+    let rest = read_u::<7, Heard>(bits, ElementName::LevelSuffix, &mut sink)?;
+    let ahead = look(bits, &sink);
+    read_trailing(bits, &sink)?;
+    Ok(
+        rest == Found { bit: 72, value: 56 }
+            && ahead.bit == 79
+            && !ahead.follows
+            && bits.stream_bit() == 80
+            && bits.ue() == Err(NoWord),
+    )
 }

@@ -3,35 +3,59 @@
 
 ghost use Rattle.std.specs.Prelude.{◌≤◌};
 
+use crate::cases::each;
 use crate::sinks::{Heard, Told};
 use crate::streams::{rbsp_in, rbsp_of_bits};
 use h264_base::{ElementName, Rule, Stop};
 use h264_bits::Bits;
 use h264_cavlc::{Levels, block};
 use std::alloc::Global;
-use std::process::Abort;
 use std::test::Fail;
 
 #[test]
 fn blocks(rt: HostRuntime) -> Result<(), Fail> {
-    blocks_stand(&rt, &PUBLISHED)?;
-    blocks_stand(&rt, &EMPTY)?;
-    blocks_stand(&rt, &LEVELS)?;
-    blocks_stand(&rt, &ZEROS)?;
-    levels_of_suffix_length_0(&rt)?;
-    a_full_block_of_15(&rt)?;
-    blocks_of_chroma_dc(&rt)?;
-    each_element_is_told(&rt)
+    let alloc = rt.alloc();
+    each(&rt, &PUBLISHED, |case| stands(alloc, case));
+    each(&rt, &EMPTY, |case| stands(alloc, case));
+    each(&rt, &OF_SUFFIX_LENGTH_0, |case| is_single(alloc, case));
+    each(&rt, &LEVELS, |case| stands(alloc, case));
+    each(&rt, &ZEROS, |case| stands(alloc, case));
+    Ok(())
+}
+
+#[test]
+fn smaller_blocks(rt: HostRuntime) -> Result<(), Fail> {
+    let alloc = rt.alloc();
+    assert!(rt; a_full_block_of_15(alloc));
+    each(&rt, &CHROMA_DC, |case| is_chroma_dc(alloc, case));
+    Ok(())
+}
+
+#[test]
+fn sinks(rt: HostRuntime) -> Result<(), Fail> {
+    let rbsp = rbsp_of_bits(rt.alloc(), "000010001110010111101101", false)?;
+    assert!(rt; each_element_is_told(&mut Bits::new(&rbsp)));
+    assert!(rt; a_sink_fails(&mut Bits::new(&rbsp)));
+    Ok(())
 }
 
 #[test]
 fn faults(rt: HostRuntime) -> Result<(), Fail> {
-    blocks_refused(&rt);
-    blocks_of_15_refused(&rt);
-    a_prefix_of_16_zeros(&rt)?;
-    a_level_of_17(&rt)?;
-    sixteen_coefficients_of_15(&rt)?;
-    a_sink_that_fails(&rt)
+    let alloc = rt.alloc();
+    each(&rt, &REFUSED, |case| is_refused(alloc, case));
+    each(&rt, &REFUSED_OF_15, |case| is_refused_of_15(alloc, case));
+    Ok(())
+}
+
+#[test]
+fn slice_data(rt: HostRuntime) -> Result<(), Fail> {
+    let prefix = rbsp_in(rt.alloc(), A_PREFIX_OF_16_ZEROS)?;
+    assert!(rt; is_refused_after_its_prefix(&mut Bits::new(&prefix)));
+    let level = rbsp_in(rt.alloc(), A_LEVEL_OF_17)?;
+    assert!(rt; is_level_of_17(&mut Bits::new(&level)));
+    let full = rbsp_in(rt.alloc(), SIXTEEN_COEFFICIENTS_OF_15)?;
+    assert!(rt; has_too_many(&mut Bits::new(&full)));
+    Ok(())
 }
 
 /// The block that these bits begin with, and the stream bit after it.
@@ -74,18 +98,9 @@ struct Case {
     end: u64,
 }
 
-/// Sees that each block has these levels and ends there.
-fn blocks_stand(rt: &(impl Abort + AllocGlobal), cases: &[Case]) -> Result<(), Fail> {
-    for case in cases {
-        let found = block_in::<16>(rt.alloc(), case.nc, case.text)?;
-        assert_eq!(rt;
-            found,
-            (levels_of(case.by_place), case.end),
-            "{}",
-            case.text
-        );
-    }
-    Ok(())
+/// Whether a block has these levels and ends there.
+fn stands(alloc: Global, case: &Case) -> bool {
+    block_in::<16>(alloc, case.nc, case.text) == Ok((levels_of(case.by_place), case.end))
 }
 
 /// The three blocks that are worked in I. Richardson's text on CAVLC.
@@ -149,12 +164,8 @@ const OF_SUFFIX_LENGTH_0: [(&str, i16, u64); 7] = [
     ("000101 0000000000000001 111111111111 1 1", -2064, 67),
 ];
 
-fn levels_of_suffix_length_0(rt: &(impl Abort + AllocGlobal)) -> Result<(), Fail> {
-    for (text, level, end) in &OF_SUFFIX_LENGTH_0 {
-        let found = block_in::<16>(rt.alloc(), 0, text)?;
-        assert_eq!(rt; found, (single(*level), *end), "{text}");
-    }
-    Ok(())
+fn is_single(alloc: Global, (text, level, end): &(&str, i16, u64)) -> bool {
+    block_in::<16>(alloc, 0, text) == Ok((single(*level), *end))
 }
 
 const LEVELS: [Case; 4] = [
@@ -222,34 +233,21 @@ const REFUSED: [(u8, &str, u64, Rule); 7] = [
     (8, "000110 11 000011 00", 46, Rule::ResidualWord),
 ];
 
-fn blocks_refused(rt: &(impl Abort + AllocGlobal)) {
-    for (nc, text, bit, rule) in &REFUSED {
-        assert_eq!(rt;
-            block_in::<16>(rt.alloc(), *nc, text),
-            no(*bit, *rule),
-            "{text}"
-        );
-    }
+fn is_refused(alloc: Global, (nc, text, bit, rule): &(u8, &str, u64, Rule)) -> bool {
+    block_in::<16>(alloc, *nc, text) == no(*bit, *rule)
 }
 
 /// Blocks of 15 that are refused: 16 coefficients, with three ones; one coefficient and 15 zeros.
 const REFUSED_OF_15: [(u8, &str, u64); 2] = [(8, "111111 000 1", 32), (0, "01 0 000000001 1", 35)];
 
-fn blocks_of_15_refused(rt: &(impl Abort + AllocGlobal)) {
-    for (nc, text, bit) in &REFUSED_OF_15 {
-        let found = block_in::<15>(rt.alloc(), *nc, text);
-        assert_eq!(rt; found, no(*bit, Rule::BlockSize), "{text}");
-    }
+fn is_refused_of_15(alloc: Global, (nc, text, bit): &(u8, &str, u64)) -> bool {
+    block_in::<15>(alloc, *nc, text) == no(*bit, Rule::BlockSize)
 }
 
-fn a_full_block_of_15(rt: &(impl Abort + AllocGlobal)) -> Result<(), Fail> {
+fn a_full_block_of_15(alloc: Global) -> bool {
     let text = "111011 010 1 10 10 10 10 10 10 10 10 10 10 10 1";
     let by_place = [1, 1, 1, 1, 1, 1, 1, 1, 1, 1, 1, 1, 1, -1, 1];
-    assert_eq!(rt;
-        block_in::<15>(rt.alloc(), 9, text)?,
-        (levels_of(by_place), 64)
-    );
-    Ok(())
+    block_in::<15>(alloc, 9, text) == Ok((levels_of(by_place), 64))
 }
 
 /// Blocks of chroma DC: bits, levels, the stream bit after them.
@@ -261,12 +259,8 @@ const CHROMA_DC: [(&str, [i16; 4], u64); 5] = [
     ("0000000 110 0001 1", [-2, 1, -1, -1], 46),
 ];
 
-fn blocks_of_chroma_dc(rt: &(impl Abort + AllocGlobal)) -> Result<(), Fail> {
-    for (text, by_place, end) in &CHROMA_DC {
-        let found = block_in::<4>(rt.alloc(), 16, text)?;
-        assert_eq!(rt; found, (levels_of(*by_place), *end), "{text}");
-    }
-    Ok(())
+fn is_chroma_dc(alloc: Global, (text, by_place, end): &(&str, [i16; 4], u64)) -> bool {
+    block_in::<4>(alloc, 16, text) == Ok((levels_of(*by_place), *end))
 }
 
 /// The elements of the first published block: name, bit and value.
@@ -285,56 +279,35 @@ const ELEMENTS: [(ElementName, u64, i64); 12] = [
     (ElementName::RunBefore, 54, 1),
 ];
 
-fn each_element_is_told(rt: &(impl Abort + AllocGlobal)) -> Result<(), Fail> {
-    let rbsp = rbsp_of_bits(rt.alloc(), "000010001110010111101101", false)?;
-    let mut bits = Bits::new(&rbsp);
+fn each_element_is_told(bits: &mut Bits) -> bool {
     let mut sink = Told::taking(16);
-    let _levels = block::<16, Told>(&mut bits, 1, &mut sink)?;
-    assert_eq!(rt; sink.elements(), ELEMENTS.as_slice());
-    Ok(())
+    block::<16, Told>(bits, 1, &mut sink).is_ok() && sink.elements() == ELEMENTS.as_slice()
+}
+
+fn a_sink_fails(bits: &mut Bits) -> bool {
+    let mut sink = Told::taking(0);
+    block::<16, Told>(bits, 0, &mut sink) == Err(Stop::Write) && sink.failed == 1
 }
 
 // The slice data of three pictures of one macroblock, after their headers.
 
-fn a_prefix_of_16_zeros(rt: &(impl Abort + AllocGlobal)) -> Result<(), Fail> {
-    let unit = [0, 0, 1, 0x65, 0x88, 0x84, 0x93, 0x14, 0, 3, 0x80];
-    let rbsp = rbsp_in(rt.alloc(), &unit)?;
-    let mut bits = Bits::new(&rbsp);
+const A_PREFIX_OF_16_ZEROS: &[u8] = &[0, 0, 1, 0x65, 0x88, 0x84, 0x93, 0x14, 0, 3, 0x80];
+
+const A_LEVEL_OF_17: &[u8] = &[0, 0, 1, 0x65, 0x88, 0x84, 0x93, 0x14, 0, 4, 0, 0x30];
+
+const SIXTEEN_COEFFICIENTS_OF_15: &[u8] = &[0, 0, 1, 0x65, 0x88, 0x84, 0x84, 0x38, 0, 0x24];
+
+fn is_refused_after_its_prefix(bits: &mut Bits) -> bool {
     let _header = bits.u::<24>();
-    let found = block::<16, Heard>(&mut bits, 0, &mut Heard::nothing());
-    assert_eq!(rt; found, no(62, Rule::ResidualWord));
-    Ok(())
+    block::<16, Heard>(bits, 0, &mut Heard::nothing()) == no(62, Rule::ResidualWord)
 }
 
-fn a_level_of_17(rt: &(impl Abort + AllocGlobal)) -> Result<(), Fail> {
-    let unit = [0, 0, 1, 0x65, 0x88, 0x84, 0x93, 0x14, 0, 4, 0, 0x30];
-    let rbsp = rbsp_in(rt.alloc(), &unit)?;
-    let mut bits = Bits::new(&rbsp);
+fn is_level_of_17(bits: &mut Bits) -> bool {
     let _header = bits.u::<24>();
-    let found = block::<16, Heard>(&mut bits, 0, &mut Heard::nothing())?;
-    assert_eq!(rt; found, single(17));
-    assert!(rt; !bits.more());
-    Ok(())
+    block::<16, Heard>(bits, 0, &mut Heard::nothing()) == Ok(single(17)) && !bits.more()
 }
 
-fn sixteen_coefficients_of_15(rt: &(impl Abort + AllocGlobal)) -> Result<(), Fail> {
-    let unit = [0, 0, 1, 0x65, 0x88, 0x84, 0x84, 0x38, 0, 0x24];
-    let rbsp = rbsp_in(rt.alloc(), &unit)?;
-    let mut bits = Bits::new(&rbsp);
+fn has_too_many(bits: &mut Bits) -> bool {
     let _header = bits.u::<29>();
-    let found = block::<15, Heard>(&mut bits, 0, &mut Heard::nothing());
-    assert_eq!(rt; found, no(61, Rule::BlockSize));
-    Ok(())
-}
-
-fn a_sink_that_fails(rt: &(impl Abort + AllocGlobal)) -> Result<(), Fail> {
-    let rbsp = rbsp_of_bits(rt.alloc(), "000010001110010111101101", false)?;
-    let mut bits = Bits::new(&rbsp);
-    let mut sink = Told::taking(0);
-    assert_eq!(rt;
-        block::<16, Told>(&mut bits, 0, &mut sink),
-        Err(Stop::Write)
-    );
-    assert_eq!(rt; sink.failed, 1);
-    Ok(())
+    block::<15, Heard>(bits, 0, &mut Heard::nothing()) == no(61, Rule::BlockSize)
 }

@@ -49,6 +49,21 @@ fn filtered(alloc: Global, near: &Near, is_coded: bool) -> Result<Frame, AllocEr
     Ok(frame)
 }
 
+/// Whether a row of luma, and one of Cb, are these, `third` being the sample at column 18.
+fn is_filtered(frame: &Frame, third: u8) -> bool {
+    if frame.y.width() != 32 || frame.y.height() != 16 {
+        return false;
+    }
+    if frame.cb.width() != 16 || frame.cb.height() != 8 {
+        return false;
+    }
+    let row = frame.y.row(15);
+    &row[..14] == [128; 14].as_slice()
+        && &row[14..19] == [129, 129, 130, 130, third].as_slice()
+        && &row[19..] == [131; 13].as_slice()
+        && &frame.cb.row(7)[6..10] == [100, 101, 102, 103].as_slice()
+}
+
 /// The edge at 16 has bS 4, beside an intra macroblock. Of an intra macroblock the edge at 20 has bS 3, and changes what the edge at 16 wrote; of a skipped one
 /// it has bS 0. In Cb p0 is (200 + 100 + 103 + 2) >> 2 and q0 is (206 + 103 + 100 + 2) >> 2.
 #[test]
@@ -57,15 +72,7 @@ fn filters_a_macroblock(rt: HostRuntime) -> Result<(), AllocError> {
     near.push(&INTRA);
     for (is_coded, third) in [(true, 130), (false, 131)] {
         let frame = filtered(rt.alloc(), &near, is_coded)?;
-        assert_eq!(rt; (frame.y.width(), frame.y.height()), (32, 16));
-        let row = frame.y.row(15);
-        assert_eq!(rt; row.len(), 32);
-        assert_eq!(rt; &row[..14], [128; 14].as_slice());
-        assert_eq!(rt; &row[14..19], [129, 129, 130, 130, third].as_slice());
-        assert_eq!(rt; &row[19..], [131; 13].as_slice());
-        assert_eq!(rt; frame.cb.width(), 16);
-        assert_eq!(rt; frame.cb.height(), 8);
-        assert_eq!(rt; &frame.cb.row(7)[6..10], [100, 101, 102, 103].as_slice());
+        assert!(rt; is_filtered(&frame, third));
     }
     Ok(())
 }

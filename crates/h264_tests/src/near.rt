@@ -5,7 +5,6 @@ use crate::macroblocks::{INTRA, parts_of};
 use h264_intra::Intra4x4PredMode;
 use h264_near::block::{column, number, row};
 use h264_near::{Contexts, Motion, Near, Skipped, Vector};
-use std::process::Abort;
 use std::test::Fail;
 
 /// A macroblock whose luma blocks have as many coefficients as their numbers say, and its chroma blocks three each.
@@ -34,25 +33,35 @@ const UP: Intra4x4PredMode = Intra4x4PredMode::HorizontalUp;
 
 #[test]
 fn numbers(rt: HostRuntime) {
-    assert_eq!(rt; (column(6), row(6), number(2, 1)), (2, 1, 6));
-    assert_eq!(rt; (column(13), row(13), number(3, 2)), (3, 2, 13));
+    assert!(rt; column(6) == 2 && row(6) == 1 && number(2, 1) == 6);
+    assert!(rt; column(13) == 3 && row(13) == 2 && number(3, 2) == 13);
 }
 
 #[test]
 fn pictures(rt: HostRuntime) -> Result<(), Fail> {
     let mut near = Near::new(rt.alloc(), 2)?;
-    assert_eq!(rt; near.width(), 2);
-    nothing_is_around(&rt, &near);
+    assert!(rt; near.width() == 2 && nothing_is_around(&near));
     near.push(&macroblock(true, None));
-    the_left_is_there(&rt, &near);
+    assert!(rt; the_left_is_there(&near));
     near.push(&macroblock(false, Some(MOVED)));
-    the_row_above_is_there(&rt, &near);
-    neighbours_above(&rt, &near);
+    assert!(rt; the_row_above_is_there(&near) && neighbours_above(&near));
     near.push(&macroblock(true, None));
-    all_sides_are_there(&rt, &near);
+    assert!(rt; all_sides_are_there(&near));
     near.clear();
-    nothing_is_around(&rt, &near);
+    assert!(rt; nothing_is_around(&near));
     Ok(())
+}
+
+/// Whether the motion to the left of the first block is `MOVED`, with no coefficients.
+fn is_skipped_beside(near: &Near) -> bool {
+    near.nc(0, &[9; 16], 0) == 0
+        && near.mode(0, false, &[UP; 16], 2) == DC
+        && is_moved(near.neighbour(0, &[None; 16], 0, 1))
+}
+
+/// Whether a neighbour is there, and moves as `MOVED` does.
+fn is_moved(neighbour: Option<Option<Motion>>) -> bool {
+    parts_of(neighbour.unwrap_or(None)) == Some((1, 7, 4, -8))
 }
 
 /// The neighbours of a skipped macroblock find its motion in it, and no coefficients.
@@ -64,80 +73,78 @@ fn a_skipped_macroblock_beside(rt: HostRuntime) -> Result<(), Fail> {
         qp: 30,
         motion: MOVED,
     });
-    assert_eq!(rt; near.nc(0, &[9; 16], 0), 0);
-    assert_eq!(rt; near.mode(0, false, &[UP; 16], 2), DC);
-    let beside = near.neighbour(0, &[None; 16], 0, 1);
-    assert_eq!(rt; parts_of(beside.unwrap_or(None)), Some((1, 7, 4, -8)));
+    assert!(rt; is_skipped_beside(&near));
     Ok(())
 }
 
 /// The slice, the coefficients of each block of the macroblock itself, a block, and its nC.
-fn ncs_are(rt: &impl Abort, near: &Near, rows: &[(u32, u8, usize, u8)]) {
+fn have_ncs(near: &Near, rows: &[(u32, u8, usize, u8)]) -> bool {
     for (slice, totals, b, expected) in rows {
-        assert!(rt; *b < 16);
-        assert_eq!(rt; near.nc(*slice, &[*totals; 16], *b), *expected, "block {b}");
+        if *b >= 16 || near.nc(*slice, &[*totals; 16], *b) != *expected {
+            return false;
+        }
     }
+    true
 }
 
 /// constrained_intra_pred_flag, the mode of each block of the macroblock itself, a block, and the mode that is predicted.
-fn modes_are(
-    rt: &impl Abort,
-    near: &Near,
-    rows: &[(bool, Intra4x4PredMode, usize, Intra4x4PredMode)],
-) {
+fn have_modes(near: &Near, rows: &[(bool, Intra4x4PredMode, usize, Intra4x4PredMode)]) -> bool {
     for (constrained, modes, b, expected) in rows {
-        assert!(rt; *b < 16);
-        let found = near.mode(0, *constrained, &[*modes; 16], *b);
-        assert_eq!(rt; found, *expected, "block {b}");
+        if *b >= 16 || near.mode(0, *constrained, &[*modes; 16], *b) != *expected {
+            return false;
+        }
     }
+    true
 }
 
 // Blocks of the macroblock itself are there.
-fn nothing_is_around(rt: &impl Abort, near: &Near) {
+fn nothing_is_around(near: &Near) -> bool {
     let samples = near.samples(0, false, &[VERTICAL; 16], 0);
-    assert!(rt; !samples.above && !samples.left && !samples.corner);
-    assert!(rt; near.left_edge().is_none() && near.above_edge().is_none());
-    ncs_are(rt, near, &[(0, 0, 0, 0), (0, 6, 3, 6)]);
-    modes_are(rt, near, &[(false, VERTICAL, 0, DC), (false, UP, 3, UP)]);
+    let edges = near.left_edge().is_some() || near.above_edge().is_some();
+    !samples.above
+        && !samples.left
+        && !samples.corner
+        && !edges
+        && have_ncs(near, &[(0, 0, 0, 0), (0, 6, 3, 6)])
+        && have_modes(near, &[(false, VERTICAL, 0, DC), (false, UP, 3, UP)])
 }
 
 // Block 5 stands to the left of block 0, block 13 to the left of block 8. Nothing stands above, so the mode is DC; nor is a
 // macroblock of another slice to the left.
-fn the_left_is_there(rt: &impl Abort, near: &Near) {
-    ncs_are(rt, near, &[(0, 0, 0, 5), (0, 9, 8, 11), (1, 0, 0, 0)]);
-    modes_are(rt, near, &[(false, VERTICAL, 0, DC)]);
-    assert_eq!(rt; near.chroma_nc(0, &[0; 8], 0), 3);
-    assert!(rt; matches!(near.neighbour(0, &[None; 16], 0, 1), Some(None)));
+fn the_left_is_there(near: &Near) -> bool {
+    have_ncs(near, &[(0, 0, 0, 5), (0, 9, 8, 11), (1, 0, 0, 0)])
+        && have_modes(near, &[(false, VERTICAL, 0, DC)])
+        && near.chroma_nc(0, &[0; 8], 0) == 3
+        && matches!(near.neighbour(0, &[None; 16], 0, 1), Some(None))
 }
 
 // Above block 0 stands block 10, above block 5 block 15. The inter macroblock above and to the right is no side under
 // constrained_intra_pred_flag.
-fn the_row_above_is_there(rt: &impl Abort, near: &Near) {
-    ncs_are(rt, near, &[(0, 0, 0, 10), (0, 8, 5, 12)]);
-    assert!(rt; near.left_edge().is_none() && near.above_edge().is_some());
-    assert!(rt; near.above_right(0, false));
-    assert!(rt; !near.above_right(0, true));
+fn the_row_above_is_there(near: &Near) -> bool {
+    have_ncs(near, &[(0, 0, 0, 10), (0, 8, 5, 12)])
+        && near.left_edge().is_none()
+        && near.above_edge().is_some()
+        && near.above_right(0, false)
+        && !near.above_right(0, true)
 }
 
-fn neighbours_above(rt: &impl Abort, near: &Near) {
-    assert!(rt; matches!(near.neighbour(0, &[None; 16], 1, 0), Some(None)));
-    assert!(rt; matches!(near.neighbour(0, &[None; 16], 5, 0), Some(Some(_))));
-    assert!(rt; near.neighbour(0, &[None; 16], 0, 0).is_none());
+fn neighbours_above(near: &Near) -> bool {
+    matches!(near.neighbour(0, &[None; 16], 1, 0), Some(None))
+        && matches!(near.neighbour(0, &[None; 16], 5, 0), Some(Some(_)))
+        && near.neighbour(0, &[None; 16], 0, 0).is_none()
 }
 
-fn all_sides_are_there(rt: &impl Abort, near: &Near) {
+fn all_sides_are_there(near: &Near) -> bool {
     let samples = near.samples(0, true, &[VERTICAL; 16], 0);
-    assert!(rt; !samples.above && samples.left && samples.corner);
-    ncs_are(rt, near, &[(0, 0, 0, 8)]);
-    modes_are(
-        rt,
-        near,
-        &[
-            (false, VERTICAL, 0, Intra4x4PredMode::Horizontal),
-            (true, VERTICAL, 0, DC),
-        ],
-    );
-    assert!(rt; !near.above_right(0, false));
-    let above = near.neighbour(0, &[None; 16], 1, 0);
-    assert_eq!(rt; parts_of(above.unwrap_or(None)), Some((1, 7, 4, -8)));
+    let modes = [
+        (false, VERTICAL, 0, Intra4x4PredMode::Horizontal),
+        (true, VERTICAL, 0, DC),
+    ];
+    !samples.above
+        && samples.left
+        && samples.corner
+        && have_ncs(near, &[(0, 0, 0, 8)])
+        && have_modes(near, &modes)
+        && !near.above_right(0, false)
+        && is_moved(near.neighbour(0, &[None; 16], 1, 0))
 }

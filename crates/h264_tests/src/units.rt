@@ -3,10 +3,9 @@
 ghost use Rattle.std.specs.Prelude.{◌<◌};
 
 use h264_base::Stop;
-use h264_units::{Splitter, laws};
+use h264_units::{NalUnit, Splitter, laws};
 use std::alloc::{AllocError, Global};
 use std::fmt::Write;
-use std::process::Abort;
 use std::test::Fail;
 
 /// Takes the unit that waits, if one does, and tells its place and its bytes.
@@ -104,33 +103,41 @@ fn splits_in_every_way(rt: HostRuntime) -> Result<(), Fail> {
         for first in 0..27 {
             for size in 1..28 {
                 let told = split(rt.alloc(), bytes, first, size)?;
-                assert_eq!(rt; told.as_str(), *expected, "first {first}, size {size}");
+                assert!(rt; told.as_str() == *expected, "first {first}, size {size}");
             }
         }
     }
     Ok(())
 }
 
-fn repeats_a_stop(rt: &(impl Abort + AllocGlobal)) {
-    let mut splitter = Splitter::new(rt.alloc());
+fn repeats_a_stop(alloc: Global) -> bool {
+    let mut splitter = Splitter::new(alloc);
     let stop = splitter.push(b"\0\0\x02");
     let again = splitter.push(b"\0\0\x01\x65");
-    assert!(rt; stop.is_err() && again == stop);
-    assert!(rt; !splitter.waiting() && splitter.take_unit().is_none());
-    assert!(rt; splitter.finish().is_err() && splitter.length() == 0);
+    stop.is_err()
+        && again == stop
+        && !splitter.waiting()
+        && splitter.take_unit().is_none()
+        && splitter.finish().is_err()
+        && splitter.length() == 0
+}
+
+/// Whether this is the unit 65 at byte 3.
+fn is_first(unit: Option<NalUnit>) -> bool {
+    match unit {
+        Some(unit) => unit.from() == 3 && unit.body() == b"\x65".as_slice(),
+        None => false,
+    }
 }
 
 /// Where the growth is refused (`--fail-alloc 1`), the same push succeeds once there is memory.
-fn goes_on_after_want_of_memory(rt: &(impl Abort + AllocGlobal)) {
-    let mut splitter = Splitter::new(rt.alloc());
+fn goes_on_after_want_of_memory(alloc: Global) -> bool {
+    let mut splitter = Splitter::new(alloc);
     let mut taken = splitter.push(b"\0\0\x01\x65\0\0\x01");
     if taken == Err(Stop::Memory) {
         taken = splitter.push(b"\0\0\x01\x65\0\0\x01");
     }
-    assert_eq!(rt; taken, Ok(7));
-    let unit = splitter.take_unit();
-    assert!(rt; unit.is_some_and(|unit| unit.from() == 3 && unit.body() == b"\x65".as_slice()));
-    assert_eq!(rt; splitter.length(), 7);
+    taken == Ok(7) && is_first(splitter.take_unit()) && splitter.length() == 7
 }
 
 fn states_its_laws() {
@@ -143,7 +150,7 @@ fn states_its_laws() {
 
 #[test]
 fn stops_memory_and_laws(rt: HostRuntime) {
-    repeats_a_stop(&rt);
-    goes_on_after_want_of_memory(&rt);
+    assert!(rt; repeats_a_stop(rt.alloc()));
+    assert!(rt; goes_on_after_want_of_memory(rt.alloc()));
     states_its_laws();
 }

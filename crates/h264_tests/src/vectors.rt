@@ -8,7 +8,6 @@ use h264_vectors::{
     Direction, Part, PredictedPart, Surroundings, VectorDifference, derive, has_picture, motion_of,
     predicted_vector, skip_vector, vector_fits,
 };
-use std::process::Abort;
 use std::test::Fail;
 
 /// An inter macroblock all of whose blocks have this reference and vector.
@@ -32,60 +31,82 @@ fn whole(near: &Near, direction: Direction, ref_idx: u8) -> (i16, i16) {
 #[test]
 fn vectors(rt: HostRuntime) -> Result<(), Fail> {
     let mut near = Near::new(rt.alloc(), 3)?;
-    parts(&rt, &near);
-    assert_eq!(rt; whole(&near, Direction::Median, 0), (0, 0));
+    assert!(rt; parts(&near) && whole(&near, Direction::Median, 0) == (0, 0));
     near.push(&macroblock(0, 12, 0));
     // Where only the left one is there, its vector is taken, whatever its reference.
-    assert_eq!(rt; whole(&near, Direction::Median, 1), (12, 0));
+    assert!(rt; whole(&near, Direction::Median, 1) == (12, 0));
     near.push(&macroblock(1, 4, -4));
     near.push(&macroblock(0, -8, 8));
     near.push(&macroblock(0, 2, 2));
-    // A is (2, 2) with reference 0, B (4, -4) with 1, C (-8, 8) with 0: the median, or the only one with the reference.
-    assert_eq!(rt; whole(&near, Direction::Median, 0), (2, 2));
-    assert_eq!(rt; whole(&near, Direction::Median, 1), (4, -4));
-    assert_eq!(rt; whole(&near, Direction::FromC, 0), (-8, 8));
-    assert_eq!(rt; whole(&near, Direction::FromA, 1), (4, -4));
-    assert_eq!(rt; whole(&near, Direction::FromB, 1), (4, -4));
-    let skipped = skip_vector(&near, 0);
-    assert_eq!(rt; (skipped.x, skipped.y), (2, 2));
+    assert!(rt; all_sides_move(&near));
     near.push(&macroblock(0, 0, 0));
     // The left one stands still.
-    let skipped = skip_vector(&near, 0);
-    assert_eq!(rt; (skipped.x, skipped.y), (0, 0));
+    assert!(rt; skipped(&near) == (0, 0));
     Ok(())
 }
 
-fn parts(rt: &impl Abort, near: &Near) {
+#[test]
+fn pictures_and_limits(rt: HostRuntime) {
+    assert!(rt; pictures() && limits());
+}
+
+/// The vector of a skipped macroblock.
+fn skipped(near: &Near) -> (i16, i16) {
+    let v = skip_vector(near, 0);
+    (v.x, v.y)
+}
+
+/// A is (2, 2) with reference 0, B (4, -4) with 1, C (-8, 8) with 0: the median, or the only one with the reference.
+fn all_sides_move(near: &Near) -> bool {
+    whole(near, Direction::Median, 0) == (2, 2)
+        && whole(near, Direction::Median, 1) == (4, -4)
+        && whole(near, Direction::FromC, 0) == (-8, 8)
+        && whole(near, Direction::FromA, 1) == (4, -4)
+        && whole(near, Direction::FromB, 1) == (4, -4)
+        && skipped(near) == (2, 2)
+}
+
+/// The lower half of a macroblock, by its left neighbour.
+const LOWER: PredictedPart = PredictedPart {
+    place: Part {
+        x: 0,
+        y: 2,
+        wide: 4,
+        high: 2,
+        direction: Direction::FromA,
+    },
+    ref_idx: 0,
+};
+
+fn parts(near: &Near) -> bool {
     let slice = slice(SliceType::P, 2, [Some(7), None]);
     let around = Surroundings {
         near,
         slice: &slice,
     };
-    let part = PredictedPart {
-        place: Part {
-            x: 0,
-            y: 2,
-            wide: 4,
-            high: 2,
-            direction: Direction::FromA,
-        },
-        ref_idx: 0,
-    };
     let mut motions = [None; 16];
-    let mvd = VectorDifference {
+    let fits = VectorDifference {
         across: 5,
         down: 255,
     };
-    assert!(rt; derive(around, part, mvd, true, &mut motions));
-    assert!(rt; motions[7].is_none());
-    assert_eq!(rt; parts_of(motions[8]), Some((0, 7, 5, 255)));
-    let mvd = VectorDifference {
+    let is_derived = derive(around, LOWER, fits, true, &mut motions)
+        && motions[7].is_none()
+        && parts_of(motions[8]) == Some((0, 7, 5, 255));
+    let too_far = VectorDifference {
         across: 0,
         down: 256,
     };
-    assert!(rt; !derive(around, part, mvd, true, &mut motions));
-    assert!(rt; has_picture(&slice, 0) && !has_picture(&slice, 1) && !has_picture(&slice, 16));
-    assert!(rt; vector_fits(256, Vector { x: -8192, y: -256 }));
-    assert!(rt; !vector_fits(256, Vector { x: 8191, y: 256 }));
-    assert_eq!(rt; motion_of(&slice, 0, Vector { x: 1, y: 2 }).picture, 7);
+    is_derived && !derive(around, LOWER, too_far, true, &mut motions)
+}
+
+fn pictures() -> bool {
+    let slice = slice(SliceType::P, 2, [Some(7), None]);
+    has_picture(&slice, 0)
+        && !has_picture(&slice, 1)
+        && !has_picture(&slice, 16)
+        && motion_of(&slice, 0, Vector { x: 1, y: 2 }).picture == 7
+}
+
+fn limits() -> bool {
+    vector_fits(256, Vector { x: -8192, y: -256 }) && !vector_fits(256, Vector { x: 8191, y: 256 })
 }

@@ -5,12 +5,12 @@ ghost use Rattle.std.specs.Prelude.{◌<◌, ◌≤◌};
 
 use crate::sinks::Heard;
 use crate::streams::{rbsp_of, rbsp_of_bytes};
+use h264_base::Stop;
 use h264_bits::Bits;
 use h264_cavlc::block;
 use h264_tables::Table;
 use h264_write::{WriteError, Writer, unit};
 use std::alloc::{AllocError, Global};
-use std::process::Abort;
 use std::test::Fail;
 
 /// Whether these bytes are written.
@@ -34,47 +34,39 @@ fn write_bits_by_hand(writer: &mut Writer) -> Result<(), AllocError> {
     writer.te(1, 1)
 }
 
-fn words_by_hand(rt: &(impl Abort + AllocGlobal)) -> Result<(), Fail> {
-    let mut writer = Writer::new(rt.alloc());
+fn words_by_hand(alloc: Global) -> Result<bool, AllocError> {
+    let mut writer = Writer::new(alloc);
     write_numbers_by_hand(&mut writer)?;
     write_bits_by_hand(&mut writer)?;
     writer.trailing()?;
-    assert!(rt; are_written(rt.alloc(), &writer, &[0xA6, 0x44, 0xED])?);
+    let written = are_written(alloc, &writer, &[0xA6, 0x44, 0xED])?;
     writer.trailing()?;
-    assert!(rt; are_written(rt.alloc(), &writer, &[0xA6, 0x44, 0xED, 0x80])?);
-    Ok(())
+    Ok(written && are_written(alloc, &writer, &[0xA6, 0x44, 0xED, 0x80])?)
 }
 
 /// 31 zeros and 32 ones, and the trailing 1.
-fn the_longest_unsigned(rt: &(impl Abort + AllocGlobal)) -> Result<(), Fail> {
-    let mut writer = Writer::new(rt.alloc());
+fn the_longest_unsigned(alloc: Global) -> Result<bool, AllocError> {
+    let mut writer = Writer::new(alloc);
     writer.ue(4294967294)?;
     writer.trailing()?;
-    let bytes = [0, 0, 0, 1, 0xFF, 0xFF, 0xFF, 0xFF];
-    assert!(rt; are_written(rt.alloc(), &writer, &bytes)?);
-    Ok(())
+    are_written(alloc, &writer, &[0, 0, 0, 1, 0xFF, 0xFF, 0xFF, 0xFF])
 }
 
 /// 31 zeros, 32 ones, then 1, 30 zeros, 1, and one 0 more.
-fn the_longest_signed(rt: &(impl Abort + AllocGlobal)) -> Result<(), Fail> {
-    let mut writer = Writer::new(rt.alloc());
+fn the_longest_signed(alloc: Global) -> Result<bool, AllocError> {
+    let mut writer = Writer::new(alloc);
     writer.se(-2147483647)?;
     writer.u(32, 2147483649)?;
     let bytes = [0, 0, 0, 1, 0xFF, 0xFF, 0xFF, 0xFF, 0, 0, 0, 2];
-    assert!(rt; are_written(rt.alloc(), &writer, &bytes)?);
-    Ok(())
+    are_written(alloc, &writer, &bytes)
 }
 
-fn a_unit_by_hand(rt: &(impl Abort + AllocGlobal)) -> Result<(), Fail> {
+fn a_unit_by_hand(alloc: Global) -> Result<bool, Fail> {
     let bytes = [0, 0, 0, 1, 0, 0, 3, 0, 0, 4];
-    let body = unit(rt.alloc(), 0x65, &bytes)?;
-    assert_eq!(rt;
-        body.as_slice(),
-        [0x65, 0, 0, 3, 0, 1, 0, 0, 3, 3, 0, 0, 4].as_slice()
-    );
-    let rbsp = rbsp_of(rt.alloc(), &body)?;
-    assert_eq!(rt; rbsp.bytes(), bytes.as_slice());
-    Ok(())
+    let body = unit(alloc, 0x65, &bytes)?;
+    let rbsp = rbsp_of(alloc, &body)?;
+    let escaped = [0x65, 0, 0, 3, 0, 1, 0, 0, 3, 3, 0, 0, 4];
+    Ok(body.as_slice() == escaped.as_slice() && rbsp.bytes() == bytes.as_slice())
 }
 
 /// The first block that is worked in I. Richardson's text on CAVLC: each table, and the value of its word.
@@ -93,23 +85,26 @@ const PUBLISHED: [(Table, u8); 12] = [
     (Table::RunBefore2, 1),
 ];
 
-fn a_published_block_is_written(rt: &(impl Abort + AllocGlobal)) -> Result<(), Fail> {
-    let mut writer = Writer::new(rt.alloc());
-    for (table, value) in &PUBLISHED {
-        assert_eq!(rt; writer.word(*table, *value), Ok(()));
+/// Whether each word is written.
+fn words_are_written(writer: &mut Writer, words: &[(Table, u8)]) -> bool {
+    for (table, value) in words {
+        if writer.word(*table, *value) != Ok(()) {
+            return false;
+        }
     }
-    assert!(rt; are_written(rt.alloc(), &writer, &[0x08, 0xE5, 0xED])?);
-    Ok(())
+    true
 }
 
-fn a_published_block_is_read(rt: &(impl Abort + AllocGlobal)) -> Result<(), Fail> {
-    let rbsp = rbsp_of_bytes(rt.alloc(), &[0x08, 0xE5, 0xED])?;
+fn a_published_block_is_written(alloc: Global) -> Result<bool, AllocError> {
+    let mut writer = Writer::new(alloc);
+    let written = words_are_written(&mut writer, &PUBLISHED);
+    Ok(written && are_written(alloc, &writer, &[0x08, 0xE5, 0xED])?)
+}
+
+fn a_published_block_is_read(alloc: Global) -> Result<bool, Stop> {
+    let rbsp = rbsp_of_bytes(alloc, &[0x08, 0xE5, 0xED])?;
     let levels = block::<16, Heard>(&mut Bits::new(&rbsp), 0, &mut Heard::nothing())?;
-    assert_eq!(rt;
-        levels.by_place,
-        [0, 3, 0, 1, -1, -1, 0, 1, 0, 0, 0, 0, 0, 0, 0, 0]
-    );
-    Ok(())
+    Ok(levels.by_place == [0, 3, 0, 1, -1, -1, 0, 1, 0, 0, 0, 0, 0, 0, 0, 0])
 }
 
 /// Values of which a table has a word, or none.
@@ -120,17 +115,20 @@ const LAST_VALUES: [(Table, u8, Result<(), WriteError>); 4] = [
     (Table::CoeffTokenChromaDc, 19, Ok(())),
 ];
 
-fn values_without_a_word(rt: &(impl Abort + AllocGlobal)) -> Result<(), Fail> {
-    let mut writer = Writer::new(rt.alloc());
+/// Whether each value is written, or refused for want of a word.
+fn are_answered(writer: &mut Writer) -> bool {
     for (table, value, answer) in &LAST_VALUES {
-        assert_eq!(rt;
-            writer.word(*table, *value),
-            *answer,
-            "{value} of {table:?}"
-        );
+        if writer.word(*table, *value) != *answer {
+            return false;
+        }
     }
-    assert!(rt; are_written(rt.alloc(), &writer, &[0x80])?);
-    Ok(())
+    true
+}
+
+fn values_without_a_word(alloc: Global) -> Result<bool, AllocError> {
+    let mut writer = Writer::new(alloc);
+    let answered = are_answered(&mut writer);
+    Ok(answered && are_written(alloc, &writer, &[0x80])?)
 }
 
 /// A number that looks random, from the one before.
@@ -199,12 +197,10 @@ fn elements_stand(bits: &mut Bits) -> bool {
     bits.trailing() == Ok(())
 }
 
-fn elements_read_back(rt: &(impl Abort + AllocGlobal)) -> Result<(), Fail> {
-    let bytes = elements_written(rt.alloc())?;
-    let rbsp = rbsp_of_bytes(rt.alloc(), &bytes)?;
-    assert_eq!(rt; rbsp.bytes(), bytes.as_slice());
-    assert!(rt; elements_stand(&mut Bits::new(&rbsp)));
-    Ok(())
+fn elements_read_back(alloc: Global) -> Result<bool, Fail> {
+    let bytes = elements_written(alloc)?;
+    let rbsp = rbsp_of_bytes(alloc, &bytes)?;
+    Ok(rbsp.bytes() == bytes.as_slice() && elements_stand(&mut Bits::new(&rbsp)))
 }
 
 /// Writes the last `n` bits of a number.
@@ -383,31 +379,42 @@ fn blocks_written(alloc: Global) -> Result<Vec<u8>, Fail> {
     Ok(writer.bytes(alloc)?)
 }
 
-fn blocks_read_back(rt: &(impl Abort + AllocGlobal)) -> Result<(), Fail> {
-    let bytes = blocks_written(rt.alloc())?;
-    let rbsp = rbsp_of_bytes(rt.alloc(), &bytes)?;
-    let mut bits = Bits::new(&rbsp);
+/// Whether those blocks stand there, and nothing else.
+fn blocks_stand(bits: &mut Bits) -> Result<bool, Stop> {
     for i in 0..200u32 {
-        let levels = block::<16, Heard>(&mut bits, (i % 10) as u8, &mut Heard::nothing())?;
-        assert_eq!(rt; levels.by_place, block_of(i), "block {i}");
+        let levels = block::<16, Heard>(bits, (i % 10) as u8, &mut Heard::nothing())?;
+        if levels.by_place != block_of(i) {
+            return Ok(false);
+        }
     }
-    assert_eq!(rt; bits.trailing(), Ok(()));
-    Ok(())
+    Ok(bits.trailing() == Ok(()))
+}
+
+fn blocks_read_back(alloc: Global) -> Result<bool, Fail> {
+    let rbsp = rbsp_of_bytes(alloc, &blocks_written(alloc)?)?;
+    Ok(blocks_stand(&mut Bits::new(&rbsp))?)
 }
 
 #[test]
 fn written_by_hand(rt: HostRuntime) -> Result<(), Fail> {
-    words_by_hand(&rt)?;
-    the_longest_unsigned(&rt)?;
-    the_longest_signed(&rt)?;
-    a_unit_by_hand(&rt)?;
-    a_published_block_is_written(&rt)?;
-    a_published_block_is_read(&rt)?;
-    values_without_a_word(&rt)
+    assert!(rt; words_by_hand(rt.alloc())?);
+    assert!(rt; the_longest_unsigned(rt.alloc())?);
+    assert!(rt; the_longest_signed(rt.alloc())?);
+    assert!(rt; a_unit_by_hand(rt.alloc())?);
+    Ok(())
+}
+
+#[test]
+fn words_of_tables(rt: HostRuntime) -> Result<(), Fail> {
+    assert!(rt; a_published_block_is_written(rt.alloc())?);
+    assert!(rt; a_published_block_is_read(rt.alloc())?);
+    assert!(rt; values_without_a_word(rt.alloc())?);
+    Ok(())
 }
 
 #[test]
 fn read_back(rt: HostRuntime) -> Result<(), Fail> {
-    elements_read_back(&rt)?;
-    blocks_read_back(&rt)
+    assert!(rt; elements_read_back(rt.alloc())?);
+    assert!(rt; blocks_read_back(rt.alloc())?);
+    Ok(())
 }
