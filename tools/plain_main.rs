@@ -105,6 +105,32 @@ impl<W: Write> FrameSink for Sink<W> {
     }
 }
 
+/// Passes over all that it is told, so that a judgement costs nothing beside its answer.
+struct NoSink;
+
+impl Elements for NoSink {
+    #[inline(always)]
+    fn element(&mut self, _name: ElementName, _bit: u64, _value: i64) -> Result<(), Failed> {
+        Ok(())
+    }
+}
+
+impl FrameOut for NoSink {
+    fn frame(&mut self, _count: i32, _frame: &Frame, _r: Rectangle) -> Result<(), Failed> {
+        Ok(())
+    }
+}
+
+impl FrameSink for NoSink {
+    fn unit(&mut self, _byte: u64, _nal_unit_type: NalUnitType, _nal_ref_idc: u8, _length: u64) -> Result<(), Failed> {
+        Ok(())
+    }
+
+    fn slice(&mut self, _byte: u64, _mb: u32, _slice_type: SliceType, _frame_num: u32, _count: i32) -> Result<(), Failed> {
+        Ok(())
+    }
+}
+
 /// The MD5 digest (RFC 1321) as hexadecimal digits.
 fn md5(bytes: &[u8]) -> std::string::String {
     const SHIFTS: [[u32; 4]; 4] = [[7, 12, 17, 22], [5, 9, 14, 20], [4, 11, 16, 23], [6, 10, 15, 21]];
@@ -157,7 +183,7 @@ fn last_line(task: &Task, answer: &Result<Summary, Stop>) -> (std::string::Strin
     }
 }
 
-fn judge<W: Write>(file: &str, mode: Mode, target: Target, sink: &mut Sink<W>) -> Result<Summary, Stop> {
+fn judge<S: FrameSink>(file: &str, mode: Mode, target: Target, sink: &mut S) -> Result<Summary, Stop> {
     let mut input: Box<dyn Read> = match file {
         "-" => Box::new(std::io::stdin()),
         _ => Box::new(std::fs::File::open(file).map_err(|_| Stop::Read)?),
@@ -172,6 +198,23 @@ fn judge<W: Write>(file: &str, mode: Mode, target: Target, sink: &mut Sink<W>) -
             Err(_) => return Err(Stop::Read),
         }
     }
+}
+
+/// Whether a name stands for a regular file, which can be read again from its start.
+fn is_lasting(file: &str) -> bool {
+    let is_of_the_system = file == "-" || file.starts_with("/dev/") || file.starts_with("/proc/");
+    !is_of_the_system && std::fs::metadata(file).is_ok_and(|metadata| metadata.is_file())
+}
+
+/// Judges a file for `check`. Only a no needs the last elements: a file that can be read again is judged without a note of them first.
+fn check<W: Write>(file: &str, mode: Mode, target: Target, sink: &mut Sink<W>) -> Result<Summary, Stop> {
+    if is_lasting(file) {
+        let answer = judge(file, mode, target, &mut NoSink);
+        if !matches!(answer, Err(Stop::No { .. })) {
+            return answer;
+        }
+    }
+    judge(file, mode, target, sink)
 }
 
 fn fault() -> ! {
@@ -214,7 +257,10 @@ fn main() {
     let _ = put_line(&mut std::io::stderr(), NOT_PROVED.into());
     let out = std::io::BufWriter::with_capacity(PIECE, std::io::stdout());
     let mut sink = Sink { task, out, frames: 0, last: [(ElementName::ProfileIdc, 0, 0); KEPT], told: 0 };
-    let mut answer = judge(file, mode, target, &mut sink);
+    let mut answer = match sink.task {
+        Task::Check => check(file, mode, target, &mut sink),
+        _ => judge(file, mode, target, &mut sink),
+    };
     if sink.task == Task::Decode && sink.out.flush().is_err() {
         answer = Err(Stop::Write);
     }
