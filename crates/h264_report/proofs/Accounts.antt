@@ -297,6 +297,17 @@ checked {s' = s'} {answer = answer} {ending = ending} trail old new j none holds
     let is : trail s' ≡ keep_last 16 (elements_of (calls_in b.0)) = holds (calls_in a.0) a.1 ∙ ap (λ calls. keep_last 16 (elements_of calls)) (sym b.1) in
     record { account = b.0; text = subst (λ es. Takes ending.written old new (trail_text es ending.answer ++ last_line modes.Full ending.answer)) is t }
 
+-- the last line alone, of an answer that is no no
+pub checked-bare : {S : Type 0} {target : Target} {took : S → List Call → Type 0} {failures : S → ℕ} {bytes : List ℕ} {frames : Family} {s s' : S}
+    {answer : Result Summary Stop} {ending : Ending} (old new : Option (List ℕ)) →
+    Judged (terms_of modes.Verdict target) (span took failures s s') bytes frames [] answer → took s [] → is_no answer ≡ false →
+    (ending.answer ≡ answer) ⊎ (ending.answer ≡ Err Memory) → Takes ending.written old new (last_line modes.Full ending.answer) →
+    Checks target bytes ending (wrote old new)
+checked-bare {answer = answer} {ending = ending} old new j none bare e t =
+    let b = told-account answer ending.answer e (accounts j none).0 in
+    let es = keep_last 16 (elements_of (calls_in b.0)) in
+    record { account = b.0; text = takes-bare es answer ending.answer ending.written old new bare e t }
+
 -- there was no memory for a sink
 pub none-checked : (target : Target) (bytes : List ℕ) (ending : Ending) (old new : Option (List ℕ)) → ending.answer ≡ Err Memory →
     Takes ending.written old new (last_line modes.Full (Err Memory)) → Checks target bytes ending (wrote old new)
