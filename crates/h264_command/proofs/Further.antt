@@ -101,6 +101,15 @@ told-as false (Err Memory) said is = inl is
 told-as false (Err Read) said is = inl is
 told-as false (Err Write) said is = inr (inl is)
 
+-- an answer that no write failed is told as it is
+pub told-plainly : (answer : Result Summary Stop) → (answer ≡ Err Write → ⊥) → answer ≡ told_of false answer
+told-plainly (Ok summary) never = refl
+told-plainly (Err (No bit rule)) never = refl
+told-plainly (Err (Outside bit feature)) never = refl
+told-plainly (Err Memory) never = refl
+told-plainly (Err Read) never = refl
+told-plainly (Err Write) never = absurd (never refl)
+
 -- what is told in the end, where there may have been no memory for it
 pub told-answer : (failed : Bool) (raw said told : Result Summary Stop) → said ≡ told_of failed raw → (told ≡ said) ⊎ (told ≡ Err Memory) → IsToldOf raw told
 told-answer failed raw said told is answer = ⊎_elim (λ e. subst (IsToldOf raw) (sym e) (told-as failed raw said is)) (λ short. inr (inl short)) answer

@@ -6,6 +6,7 @@ mod Explained
 pub mod Told
 mod Writing
 mod ToldReads
+mod Reopened
 mod Answered
 mod Given
 mod Further

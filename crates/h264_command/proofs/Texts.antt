@@ -300,6 +300,15 @@ module _ {task : Task} {o : Options} {opening : Opening} {old : Option (List ℕ
   unjudged-text source {told} mid new is kept end =
       record { text = end.text; is_text = Unjudged is end.is_text; sends = λ none. keeps-sends kept (end.sends none) }
 
+  -- and of one beside whose judgement nothing was written
+  pub text-alone : (source : Option (List ℕ)) (answer : Result Summary Stop) {told : Result Summary Stop} (new : Output) →
+      ((bytes : List ℕ) → IsTextOf task o opening bytes answer []) → IsToldOf answer told → TakesText (IsEnd task o opening told) old new →
+      TakesText (IsFileText task o opening source told) old new
+  text-alone source answer {told} new none is end =
+      let both : (bytes : List ℕ) → AreBoth (IsTextOf task o opening bytes answer) (IsEnd task o opening told) end.text = λ bytes.
+      record { first = []; is_first = none bytes; last = end.text; is_last = end.is_text; whole = refl } in
+      record { text = end.text; is_text = Judged answer is (of-bytes source _ (λ bytes h. both bytes) ([], both [])); sends = end.sends }
+
   -- what is told of an open file is told of what the file of its name holds
   pub text-kept : (held left : Option (List ℕ)) {told : Result Summary Stop} (new : Output) → Keeps held left →
       TakesText (IsFileText task o opening left told) old new → TakesText (IsFileText task o opening held told) old new

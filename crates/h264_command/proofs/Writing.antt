@@ -100,6 +100,16 @@ writes-told raw {y4m} {failed} {broke_off} {said} {ending} {before} {out} {out'}
       (λ f. absurd (true≢false (sym f ∙ q.0 ∙ none)), inl (kept-over out out' (rest none) q.1));
 }
 
+-- and of a judgement beside which nothing was written
+pub writes-untold : {y4m : Bool} {answer : Result Summary Stop} {ending : Ending} {out out' err' : Output} → (answer ≡ Err Write → ⊥) →
+    (ending.answer ≡ answer) ⊎ (ending.answer ≡ Err Memory) → IsPutAside ending.written (from_to out out') err' →
+    TellsWrites y4m ending (from_to out out') err'
+writes-untold never answer put = record {
+  write = λ e. absurd (⊎_elim (λ same. never (sym same ∙ e)) (λ short. let d = sym short ∙ e in cc) answer);
+  unwritten = put.unwritten;
+  told = λ other whole. let q = put.quiet whole in (λ f. sym q.0 ∙ f, q.1);
+}
+
 -- what is told of a file that was not judged, where no write failed
 pub unjudged-told : (y4m : Bool) (ending : Ending) (out out' err' : Output) → (ending.answer ≡ Err Write → ⊥) →
     IsPutAside ending.written (from_to out out') err' → TellsWrites y4m ending (from_to out out') err'

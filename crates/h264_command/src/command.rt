@@ -9,20 +9,21 @@ ghost use Rattle.h264_base.specs.declared.mode.Mode.TheVariants as modes;
 ghost use Rattle.h264_lines.specs.Sent.{Sends, Takes, wrote};
 ghost use Rattle.h264_report.specs.Written.{OfBytes, last_line};
 ghost use Rattle.h264_command.specs.Commands.{Performs, SaysAlone, TellsFailures, IsExcused, Faults, Comes, ComesTo, failed_read, files_read, span_of};
-ghost use Rattle.h264_command.specs.Files.{HasFailedToRead, HasReadAll};
+ghost use Rattle.h264_command.specs.Files.{HasFailedToRead, HasReadAll, IsUnread};
+ghost use Rattle.h264_command.specs.declared.command_line.Task.TheVariants as tasks;
 ghost use Rattle.h264_command.specs.declared.command_line.Wanted.{Wanted as WantedView};
 ghost use Rattle.h264_command.specs.declared.outcome.Outcome.TheVariants as outcomes;
 ghost use Rattle.h264_command.specs.Words.{program, asks, name_of, value_in, is_judging, IsTarget};
 ghost use Rattle.h264_command.specs.Options.{IsPlain};
 
 use crate::command_line::{Request, Task, asked, listed};
-use crate::files::Files;
+use crate::files::{OpenedFiles, Opener};
 use crate::outcome::Outcome;
 use clap::Error;
 use clap::error::ErrorKind;
-use h264_base::{Mode, Stop, Target};
+use h264_base::{Failed, Mode, Stop, Target};
 use h264_lines::{Device, Listing, put_text, shown};
-use h264_report::{Ending, check, decode, list, put_answer, put_memory};
+use h264_report::{Ending, check, check_unless_no, decode, list, put_answer, put_memory};
 use h264_verify::Source;
 use std::alloc::{AllocError, Global};
 
@@ -146,44 +147,62 @@ fn fault<W: Device, E: Device>(
     }
 }
 
-/// Does what is asked of a file that stands for itself, for this target.
-fn serve<F: Files, W: Device, E: Device>(
+/// Whether a file of this name is judged first without a note of its elements: by `check`, where the file can be read again.
+fn is_glanced_at<O: Opener + Drop>(task: Task, name: &str, files: &OpenedFiles<O>) -> bool
+    ensures { result ≡ true → task ≡ tasks.Check }
+{
+    task == Task::Check && files.is_lasting(name)
+}
+
+/// Does what is asked of a file that stands for itself, for this target. Only a no of `check` needs its last elements: a file that can be read again is judged
+/// without a note of them first.
+fn serve<O: Opener + Drop, W: Device, E: Device>(
     alloc: Global,
     request: Request<'_>,
     target: Target,
-    files: &mut F,
+    files: &mut OpenedFiles<O>,
     out: &mut W,
     err: &mut E,
 ) -> u8
-    requires room { HasRoom F.failures files.old }
+    requires room { files.old.file.failures < 2 ^ 64 - 1 }
     requires judging { is_judging request.task ≡ true }
     ensures { (words : List Text) → asks program words ≡ Some (name_of request.entry.task, Some request.entry.file.now) →
         IsPlain (subcommand_of program words) request.entry.file.now →
-        IsTarget (value_in (subcommand_of program words) (codes "target")) target → Comes words (files_read (λ name. F.holds files.old name)
-        (HasFailedToRead (F.failures files.old) (F.failures files.new) (F.was_read files.old) (F.was_read files.new))
-        (HasReadAll (F.failures files.old) (F.failures files.new))) result (span_of W.contents W.has_failed W.holds_back out.old out.new)
+        IsTarget (value_in (subcommand_of program words) (codes "target")) target → Comes words (files_read (λ name. O.holds files.old.opener name)
+        (IsUnread files.old.file.failures files.old.file.reads files.new.file.failures files.new.file.reads)
+        (HasReadAll files.old.file.failures files.new.file.failures)) result (span_of W.contents W.has_failed W.holds_back out.old out.new)
         (span_of E.contents E.has_failed E.holds_back err.old err.new) }
 {
-    match files.open(request.file) {
-        Ok(()) => perform(alloc, request.task, target, files, out, err).status(),
-        Err(_) => no_file(alloc, request.task, out, err).status(),
+    let Request { task, file } = request;
+    if let Err(Failed) = files.open(file) {
+        return no_file(alloc, task, out, err).status();
+    }
+    if !is_glanced_at(task, file, files) {
+        return perform(alloc, task, target, &mut files.file, out, err).status();
+    }
+    if let Some(ending) = check_unless_no(alloc, target, &mut files.file, out) {
+        return ending.status();
+    }
+    match files.open(file) {
+        Ok(()) => perform(alloc, task, target, &mut files.file, out, err).status(),
+        Err(Failed) => no_file(alloc, task, out, err).status(),
     }
 }
 
 /// Does what the words ask, the program's name first among them, where they ask for a judgement of one FILE and have no option but `--target`, and gives
 /// the exit status: 0 yes, 1 no, 2 outside, 3 memory, 4 a device failed, 64 a fault of the words, whose text goes to `err`. Else nothing is written, and
 /// what they ask is handed on.
-pub fn command<'a, F: Files, W: Device, E: Device>(
+pub fn command<'a, O: Opener + Drop, W: Device, E: Device>(
     alloc: Global,
     words: &'a [String],
-    files: &mut F,
+    files: &mut OpenedFiles<O>,
     out: &mut W,
     err: &mut E,
 ) -> Outcome<'a>
-    requires { HasRoom F.failures files.old }
-    ensures comes { ComesTo (map (λ w. string_bytes w) words.now) (files_read (λ name. F.holds files.old name)
-        (HasFailedToRead (F.failures files.old) (F.failures files.new) (F.was_read files.old) (F.was_read files.new))
-        (HasReadAll (F.failures files.old) (F.failures files.new))) result
+    requires { files.old.file.failures < 2 ^ 64 - 1 }
+    ensures comes { ComesTo (map (λ w. string_bytes w) words.now) (files_read (λ name. O.holds files.old.opener name)
+        (IsUnread files.old.file.failures files.old.file.reads files.new.file.failures files.new.file.reads)
+        (HasReadAll files.old.file.failures files.new.file.failures)) result
         (span_of W.contents W.has_failed W.holds_back out.old out.new) (span_of E.contents E.has_failed E.holds_back err.old err.new) }
     // No file is opened where what they ask is handed on.
     ensures kept { (wanted : WantedView) → result ≡ outcomes.More wanted → files.new ≡ files.old }

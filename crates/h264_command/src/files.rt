@@ -26,6 +26,10 @@ pub trait Opener {
         ensures opened { IfOk result (λ file. Keeps (holds self.old name.now) (Self.File.Read.remaining file)) }
         // What is known of the others stays so.
         ensures others { (other : List ℕ) → holds self.new other ≡ holds self.old other };
+
+    /// Whether a name stands for a regular file, which can be opened and read again from its start. What comes of a second reading is told for itself, and may
+    /// be another answer where the file was changed meanwhile.
+    fn is_lasting(&self, name: &str) -> bool;
 }
 
 /// Makes files to write to.
@@ -52,22 +56,6 @@ pub trait Maker {
 
     /// Whether two names stand for one file.
     fn is_same(&self, name: &str, other: &str) -> bool;
-}
-
-/// Files, of which the one that was opened last is read.
-pub trait Files: Source {
-    /// What a file of this name holds, where it is known.
-    ghost holds: { Self → List ℕ → Option (List ℕ) };
-
-    /// Opens the file of this name, to be read from its start.
-    ///
-    /// Failed: it can't be opened.
-    fn open(&mut self, name: &str) -> Result<(), Failed>
-        requires { HasRoom Self.failures self.old }
-        ensures opened { OnOk result (Keeps (holds self.old name.now) (Self.left self.new)) }
-        ensures reads { OnOk result ((n : ℕ) → Self.was_read self.old n → Self.was_read self.new n) }
-        ensures kept { OnOk result (IsQuiet Self.failures self.old self.new) }
-        ensures failed { OnErr result (Self.failures self.new ≡ Self.failures self.old + 1) };
 }
 
 /// What was seen of the file that was opened last.
@@ -170,6 +158,11 @@ impl<O: Opener + Drop> OpenedFiles<O> {
     /// What opens files.
     pub fn opener(&self) -> &O {
         &self.opener
+    }
+
+    /// Whether a name stands for a regular file, which can be opened and read again from its start.
+    pub fn is_lasting(&self, name: &str) -> bool {
+        self.opener.is_lasting(name)
     }
 
     /// Closes the open file, and counts it where it could not be opened or read.
@@ -284,22 +277,11 @@ impl<F: Read + Drop> Source for OpenFile<F> {
     }
 }
 
-impl<O: Opener + Drop> Source for OpenedFiles<O> {
-    ghost left = { λ s. left_of O.File.Read.remaining s.file.reader };
-
-    ghost was_read = { λ s n. was_read_by s.file.reads s.file.failures n };
-
-    ghost failures = { λ s. s.file.failures };
-
-    fn read(&mut self, piece: &mut [u8]) -> Result<Option<usize>, Failed> {
-        self.file.read(piece)
-    }
-}
-
-impl<O: Opener + Drop> Files for OpenedFiles<O> {
-    ghost holds = { λ s name. O.holds s.opener name };
-
-    fn open(&mut self, name: &str) -> Result<(), Failed>
+impl<O: Opener + Drop> OpenedFiles<O> {
+    /// Opens the file of this name, to be read from its start.
+    ///
+    /// Failed: it can't be opened.
+    pub fn open(&mut self, name: &str) -> Result<(), Failed>
         requires { self.old.file.failures < 2 ^ 64 - 1 }
         ensures opened { OnOk result (Keeps (O.holds self.old.opener name.now) (left_of O.File.Read.remaining self.new.file.reader)) }
         ensures reads { OnOk result ((n : ℕ) → was_read_by self.old.file.reads self.old.file.failures n →

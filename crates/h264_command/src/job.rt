@@ -1,12 +1,12 @@
 //! One file, judged as the options say.
 #![tactic(auto)]
 
-ghost use Rattle.std.specs.Prelude.{◌≡◌, ◌-◌, ◌<◌, ◌^◌, List, [], true, false, None, IsErrOf, IsSome, IfSome, IfNone, string_bytes};
+ghost use Rattle.std.specs.Prelude.{◌≡◌, ◌-◌, ◌<◌, ◌^◌, List, [], true, false, None, Err, IsErrOf, IsSome, IfSome, IfNone, string_bytes};
 ghost use Rattle.h264_base.specs.Call.{Call, HasRoom};
-ghost use Rattle.h264_base.specs.declared.stop.Stop.TheVariants.{Read};
+ghost use Rattle.h264_base.specs.declared.stop.Stop.TheVariants.{Read, Write};
 ghost use Rattle.h264_lines.specs.Chosen.{TookChosen, pending_call};
 ghost use Rattle.h264_pages.specs.Surveyed.{IsTold, nothing_told};
-ghost use Rattle.h264_report.specs.Written.{OfBytes, trail_text};
+ghost use Rattle.h264_report.specs.Written.{OfBytes, is_no, trail_text};
 ghost use Rattle.h264_verify.specs.Account.{Account, calls_in};
 ghost use Rattle.h264_verify.specs.Units.{terms_of};
 ghost use Rattle.h264_command.specs.Files.{left_of, HasReadAll, IsUnread, TellsUnread};
@@ -23,8 +23,8 @@ use h264_base::{Mode, Stop};
 use h264_lines::head::Head;
 use h264_lines::{Sheet, TrailSink};
 use h264_pages::pages::{Answer, Finding, Page, put_info, put_info_object};
-use h264_pages::survey::{Meter, Narrowed, Survey, Surveyed};
-use h264_report::{Ending, StrictJudgement, judge_strictly};
+use h264_pages::survey::{Meter, Narrowed, NoMeter, Survey, Surveyed};
+use h264_report::{Ending, NoSink, StrictJudgement, judge_strictly};
 use h264_strict::StrictSink;
 use h264_verify::{FrameSink, run};
 use std::alloc::Global;
@@ -40,6 +40,13 @@ pub struct Job<'a> {
     pub file: &'a str,
     /// What stands before each line of the answer: the file's name, where there are several.
     pub prefix: &'a str,
+}
+
+impl Job<'_> {
+    /// Whether `check` tells the last elements before a no: in lines, unless an option leaves them out.
+    pub fn tells_elements(&self) -> bool {
+        !(self.options.brief || self.options.quiet || self.options.json)
+    }
 }
 
 /// How the judgement of a file ended.
@@ -247,16 +254,6 @@ fn judge_plainly<S: FrameSink + Drop, F: io::Read + Drop, M: Meter + Drop>(
     })
 }
 
-/// The lines of the last elements, before a no, unless `--brief` leaves them out; no text before another answer. None where there is no memory for them.
-fn last_elements(job: &Job<'_>, answer: Answer, sink: &TrailSink) -> Option<String>
-    ensures read { IfNone result (IsErrOf answer Read → ⊥) }
-{
-    if job.options.brief {
-        return Some(String::new(job.alloc));
-    }
-    trail_lines(job.alloc, answer, sink)
-}
-
 /// The lines of the last elements, before a no; no text before another answer. None where there is no memory for them.
 fn trail_lines(alloc: Global, answer: Answer, sink: &TrailSink) -> Option<String>
     ensures text { IfSome result (λ text. string_bytes text ≡ trail_text sink.now.trail answer) }
@@ -344,8 +341,95 @@ fn judged_further<S: FrameSink + Drop, M: Meter + Drop>(
     }
 }
 
-/// Judges the open file for its last elements, and by the further rules. Its calls are surveyed where an option asks for that.
-fn check_strictly<F: io::Read + Drop, M: Meter + Drop>(
+/// A file that was judged, and the sink that was told of it. What the sink has to say of it is not in `found`.
+#[derive(Drop)]
+struct Checked<S: FrameSink + Drop> {
+    sink: S,
+    found: Found,
+}
+
+/// Judges the open file with a sink, and by the further rules. Its calls are surveyed where an option asks for that.
+fn check_strictly<S: FrameSink + Drop, F: io::Read + Drop, M: Meter + Drop>(
+    job: &Job<'_>,
+    file: &mut OpenFile<F>,
+    sink: S,
+    meter: M,
+) -> Option<Checked<S>>
+    requires none { S.took sink [] }
+    requires sink { HasRoom S.failures sink }
+    requires source { file.old.failures < 2 ^ 64 - 1 }
+    ensures answer { IfSome result (λ checked. IsAnswerOf job.now.task job.now.options.target (left_of F.remaining file.old.reader) checked.found.answer) }
+    ensures read { IfSome result (λ checked. IsErrOf checked.found.answer Read → IsUnread file.old.failures file.old.reads file.new.failures file.new.reads) }
+    ensures read_told { IfSome result (λ checked. TellsUnread file.old.failures file.new.failures checked.found.answer) }
+    ensures unread { IfNone result (HasReadAll file.old.failures file.new.failures) }
+    ensures further { IfSome result (λ checked. IsFound true (terms_of (mode_of job.now.task) job.now.options.target)
+        (left_of F.remaining file.old.reader) checked.found.answer checked.found.strict) }
+    ensures surveyed { IfSome result (λ checked. asks_for_survey job.now.options ≡ true →
+        IsSurveyed job.now (left_of F.remaining file.old.reader) checked.found.answer checked.found.survey) }
+{
+    let Ok(survey) = Survey::new(job.alloc) else {
+        return None;
+    };
+    let watch = Watch { survey, meter };
+    let judged = judge_further(job, file, sink, watch, job.options.asks_for_survey());
+    let JudgedFurther {
+        sink,
+        survey,
+        answer,
+        further,
+        ..
+    } = judged;
+    let found = Found {
+        answer,
+        strict: Some(further),
+        survey,
+        seen: file.seen,
+        before: String::new(job.alloc),
+        change: None,
+    };
+    Some(Checked { sink, found })
+}
+
+/// Judges the open file with a sink, by the further rules too where they are asked for. Its calls are surveyed where an option asks for that. None where memory
+/// is wanting for the survey.
+fn check_with<S: FrameSink + Drop, F: io::Read + Drop, M: Meter + Drop>(
+    job: &Job<'_>,
+    file: &mut OpenFile<F>,
+    sink: S,
+    meter: M,
+) -> Option<Checked<S>>
+    requires none { S.took sink [] }
+    requires sink { HasRoom S.failures sink }
+    requires source { file.old.failures < 2 ^ 64 - 1 }
+    ensures answer { IfSome result (λ checked. IsAnswerOf job.now.task job.now.options.target (left_of F.remaining file.old.reader) checked.found.answer) }
+    ensures read { IfSome result (λ checked. IsErrOf checked.found.answer Read → IsUnread file.old.failures file.old.reads file.new.failures file.new.reads) }
+    ensures read_told { IfSome result (λ checked. TellsUnread file.old.failures file.new.failures checked.found.answer) }
+    ensures unread { IfNone result (HasReadAll file.old.failures file.new.failures) }
+    ensures further { IfSome result (λ checked. IsFound job.now.options.strict (terms_of (mode_of job.now.task) job.now.options.target)
+        (left_of F.remaining file.old.reader) checked.found.answer checked.found.strict) }
+    ensures surveyed { IfSome result (λ checked. asks_for_survey job.now.options ≡ true →
+        IsSurveyed job.now (left_of F.remaining file.old.reader) checked.found.answer checked.found.survey) }
+{
+    if job.options.strict {
+        return check_strictly(job, file, sink, meter);
+    }
+    let judged = judge_plainly(job, file, sink, meter)?;
+    let found = Found {
+        answer: judged.answer,
+        strict: None,
+        survey: judged.survey,
+        seen: file.seen,
+        before: String::new(job.alloc),
+        change: None,
+    };
+    Some(Checked {
+        sink: judged.sink,
+        found,
+    })
+}
+
+/// Judges the open file for its last elements, which are told before a no.
+fn check_noted<F: io::Read + Drop, M: Meter + Drop>(
     job: &Job<'_>,
     file: &mut OpenFile<F>,
     meter: M,
@@ -355,7 +439,7 @@ fn check_strictly<F: io::Read + Drop, M: Meter + Drop>(
     ensures read { IfSome result (λ found. IsErrOf found.answer Read → IsUnread file.old.failures file.old.reads file.new.failures file.new.reads) }
     ensures read_told { IfSome result (λ found. TellsUnread file.old.failures file.new.failures found.answer) }
     ensures unread { IfNone result (HasReadAll file.old.failures file.new.failures) }
-    ensures further { IfSome result (λ found. IsFound true (terms_of (mode_of job.now.task) job.now.options.target)
+    ensures further { IfSome result (λ found. IsFound job.now.options.strict (terms_of (mode_of job.now.task) job.now.options.target)
         (left_of F.remaining file.old.reader) found.answer found.strict) }
     ensures surveyed { IfSome result (λ found. asks_for_survey job.now.options ≡ true →
         IsSurveyed job.now (left_of F.remaining file.old.reader) found.answer found.survey) }
@@ -363,30 +447,69 @@ fn check_strictly<F: io::Read + Drop, M: Meter + Drop>(
     let Ok(trail) = TrailSink::new(job.alloc) else {
         return None;
     };
-    let Ok(survey) = Survey::new(job.alloc) else {
-        return None;
-    };
-    let watch = Watch { survey, meter };
-    let judged = judge_further(job, file, trail, watch, job.options.asks_for_survey());
-    let JudgedFurther {
-        sink,
-        survey,
-        answer,
-        further,
-        ..
-    } = judged;
-    let before = last_elements(job, answer, &sink)?;
-    Some(Found {
-        answer,
-        strict: Some(further),
-        survey,
-        seen: file.seen,
-        before,
-        change: None,
-    })
+    let Checked { sink, mut found } = check_with(job, file, trail, meter)?;
+    found.before = trail_lines(job.alloc, found.answer, &sink)?;
+    Some(found)
 }
 
-/// Judges the open file for its last elements.
+/// Judges the open file without a note of its elements, which takes less time.
+fn check_unnoted<F: io::Read + Drop, M: Meter + Drop>(
+    job: &Job<'_>,
+    file: &mut OpenFile<F>,
+    meter: M,
+) -> Option<Found>
+    requires { file.old.failures < 2 ^ 64 - 1 }
+    ensures answer { IfSome result (λ found. IsAnswerOf job.now.task job.now.options.target (left_of F.remaining file.old.reader) found.answer) }
+    ensures read { IfSome result (λ found. IsErrOf found.answer Read → IsUnread file.old.failures file.old.reads file.new.failures file.new.reads) }
+    ensures read_told { IfSome result (λ found. TellsUnread file.old.failures file.new.failures found.answer) }
+    ensures unread { IfNone result (HasReadAll file.old.failures file.new.failures) }
+    ensures further { IfSome result (λ found. IsFound job.now.options.strict (terms_of (mode_of job.now.task) job.now.options.target)
+        (left_of F.remaining file.old.reader) found.answer found.strict) }
+    ensures surveyed { IfSome result (λ found. asks_for_survey job.now.options ≡ true →
+        IsSurveyed job.now (left_of F.remaining file.old.reader) found.answer found.survey) }
+{
+    let Checked { found, .. } = check_with(job, file, NoSink, meter)?;
+    Some(found)
+}
+
+/// Whether an answer is told by a second reading alone: a no, with its last elements. Write is never told by the first, which writes nothing.
+fn is_told_again(answer: Answer) -> bool
+    ensures no { result ≡ false → is_no answer ≡ false }
+    ensures write { result ≡ false → answer ≡ Err Write → ⊥ }
+    ensures read { result ≡ true → answer ≡ Err Read → ⊥ }
+{
+    match answer {
+        Ok(_) => false,
+        Err(Stop::No { .. }) => true,
+        Err(Stop::Outside { .. }) => false,
+        Err(Stop::Memory) => false,
+        Err(Stop::Read) => false,
+        Err(Stop::Write) => true,
+    }
+}
+
+/// Judges the open file without a note of its elements: what is told of it. None where a second reading tells it, with its last elements, and where memory is
+/// wanting.
+pub fn glance_at<F: io::Read + Drop>(job: &Job<'_>, file: &mut OpenFile<F>) -> Option<Found>
+    requires { file.old.failures < 2 ^ 64 - 1 }
+    ensures answer { IfSome result (λ found. IsAnswerOf job.now.task job.now.options.target (left_of F.remaining file.old.reader) found.answer) }
+    ensures read { IfSome result (λ found. IsErrOf found.answer Read → IsUnread file.old.failures file.old.reads file.new.failures file.new.reads) }
+    ensures read_told { IfSome result (λ found. TellsUnread file.old.failures file.new.failures found.answer) }
+    ensures unread { IfNone result (HasReadAll file.old.failures file.new.failures) }
+    ensures further { IfSome result (λ found. IsFound job.now.options.strict (terms_of (mode_of job.now.task) job.now.options.target)
+        (left_of F.remaining file.old.reader) found.answer found.strict) }
+    // A no is never told without its last elements.
+    ensures no { IfSome result (λ found. is_no found.answer ≡ false) }
+    ensures write { IfSome result (λ found. IsErrOf found.answer Write → ⊥) }
+{
+    let found = check_unnoted(job, file, NoMeter)?;
+    if is_told_again(found.answer) {
+        return None;
+    }
+    Some(found)
+}
+
+/// Judges the open file, for its last elements where they are told before a no.
 pub fn check_file<F: io::Read + Drop, M: Meter + Drop>(
     job: &Job<'_>,
     file: &mut OpenFile<F>,
@@ -402,22 +525,10 @@ pub fn check_file<F: io::Read + Drop, M: Meter + Drop>(
     ensures surveyed { IfSome result (λ found. asks_for_survey job.now.options ≡ true →
         IsSurveyed job.now (left_of F.remaining file.old.reader) found.answer found.survey) }
 {
-    if job.options.strict {
-        return check_strictly(job, file, meter);
+    if job.tells_elements() {
+        return check_noted(job, file, meter);
     }
-    let Ok(sink) = TrailSink::new(job.alloc) else {
-        return None;
-    };
-    let judged = judge_plainly(job, file, sink, meter)?;
-    let before = last_elements(job, judged.answer, &judged.sink)?;
-    Some(Found {
-        answer: judged.answer,
-        strict: None,
-        survey: judged.survey,
-        seen: file.seen,
-        before,
-        change: None,
-    })
+    check_unnoted(job, file, meter)
 }
 
 /// Judges the open file with a sink that is told what is chosen alone, and surveys its calls.
@@ -476,13 +587,10 @@ pub fn info_file<F: io::Read + Drop, M: Meter + Drop>(
     ensures further { IfSome result (λ found. found.strict ≡ None) }
     ensures surveyed { IfSome result (λ found. IsSurveyed job.now (left_of F.remaining file.old.reader) found.answer found.survey) }
 {
-    let Ok(sink) = TrailSink::new(job.alloc) else {
-        return None;
-    };
     let Ok(survey) = Survey::new(job.alloc) else {
         return None;
     };
-    let (surveyed, answer) = judge(job, file, sink, Watch { survey, meter });
+    let (surveyed, answer) = judge(job, file, NoSink, Watch { survey, meter });
     let Surveyed { survey, .. } = surveyed;
     let mut found = Found {
         answer,

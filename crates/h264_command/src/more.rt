@@ -15,6 +15,7 @@ ghost use Rattle.h264_verify.specs.Units.{terms_of};
 ghost use Rattle.h264_command.specs.Files.{counts, left_of, one_more, HasReadAll, IsUnread, TellsFailure, TellsUnread};
 ghost use Rattle.h264_command.specs.Further.{asks_further, BreakOne, IsFound, TellsBroken, IsNoVerdict};
 ghost use Rattle.h264_command.specs.Commands.{output_of, span_of};
+ghost use Rattle.h264_command.specs.declared.command_line.Task.TheVariants.{Check};
 ghost use Rattle.h264_command.specs.More.{AreDone, HasTaken, IsAnswerOf, IsPutAside, IsStatus, IsToldAside, IsToldStatus, NoneTook, TellsCause, TellsWrites};
 ghost use Rattle.h264_command.specs.More.{files_span, is_whole, work};
 ghost use Rattle.h264_command.specs.Options.{refusal_text};
@@ -26,15 +27,15 @@ use crate::command::FAULT;
 use crate::command_line::{Task, Wanted};
 use crate::decoding::decode_file;
 use crate::explaining::{entry_labelled, put_entry};
-use crate::files::{Files, Maker, OpenFile, OpenedFiles, Opener};
-use crate::job::{Done, Found, Job, check_file, info_file};
+use crate::files::{Maker, OpenFile, OpenedFiles, Opener};
+use crate::job::{Done, Found, Job, check_file, glance_at, info_file};
 use crate::labels::nearest_label;
 use crate::listing::list_file;
 use crate::options::options_of;
 use crate::refusal::{Clash, Refusal};
 use crate::reporting::report_file;
 use crate::telling::{put_found, put_unjudged};
-use h264_base::Stop;
+use h264_base::{Failed, Stop};
 use h264_lines::{Device, Head, WriteDevice, put_text, shown, told_answer};
 use h264_pages::pages::Page;
 use h264_pages::survey::Meter;
@@ -271,6 +272,17 @@ fn answers_aside(task: Task) -> bool
     }
 }
 
+/// Whether a file is judged first without a note of its elements, which only a no needs: where `check` would tell them, the file can be read again, and it is
+/// not told how far the judgement has come, which is told once.
+fn is_glanced_at<O: Opener + Drop>(job: &Job<'_>, files: &OpenedFiles<O>) -> bool
+    ensures { result ≡ true → job.now.task ≡ Check }
+{
+    job.task == Task::Check
+        && job.tells_elements()
+        && !job.options.progress
+        && files.is_lasting(system_name(job.file))
+}
+
 /// Opens a file and judges it, and writes its answer to `out`, or to `err` where the task writes something else to `out`.
 fn do_file<O: Opener + Drop, W: Device, E: Device, M: Meter + Drop>(
     job: &Job<'_>,
@@ -293,10 +305,20 @@ fn do_file<O: Opener + Drop, W: Device, E: Device, M: Meter + Drop>(
         (O.holds files.old.opener (system_name job.now.file.now)) result.ending.answer) (W.contents out.old)
         (output_of W.contents W.has_failed W.holds_back out.new) }
 {
-    if files.open(system_name(job.file)).is_err() {
+    let name = system_name(job.file);
+    if let Err(Failed) = files.open(name) {
         return put_no_verdict(job, Stop::Read, out, err);
     }
-    judge_opened(job, &mut files.file, out, err, meter)
+    if !is_glanced_at(job, files) {
+        return judge_opened(job, &mut files.file, out, err, meter);
+    }
+    if let Some(found) = glance_at(job, &mut files.file) {
+        return put_answer(job, &found, out, err);
+    }
+    match files.open(name) {
+        Ok(()) => judge_opened(job, &mut files.file, out, err, meter),
+        Err(Failed) => put_no_verdict(job, Stop::Read, out, err),
+    }
 }
 
 /// Whether a judgement was broken off for its output: that failed, or is YUV4MPEG2, which ends where the size changes.

@@ -64,7 +64,7 @@ impl SystemOutput<'_> {
 }
 
 /// Whether a name is a link of the system's to an open file, as /dev/stderr and /proc/self/fd/3 are.
-fn is_link_of_the_system(rt: &HostRuntime, name: &str) -> bool {
+pub fn is_link_of_the_system(rt: &HostRuntime, name: &str) -> bool {
     let is_theirs = name.starts_with("/dev/") && !name.starts_with("/dev/shm/");
     if !is_theirs && !name.starts_with("/proc/") {
         return false;

@@ -2,7 +2,7 @@
 #![tactic(auto)]
 
 use crate::folders::{below, names_of};
-use crate::output::{SystemOutput, make_output};
+use crate::output::{SystemOutput, is_link_of_the_system, make_output};
 use h264_command::files::{Maker, Opener};
 use h264_command::handing::{HandingReader, SharedWriter};
 use h264_command::lists::{Below, Lister};
@@ -85,6 +85,17 @@ fn open_input(rt: &HostRuntime, name: &str) -> io::Result<File> {
     }
 }
 
+/// Whether a name stands for a regular file, and is none of the system's for an open file, of which a part may have been read.
+fn is_lasting_file(rt: &HostRuntime, name: &str) -> bool {
+    if name == STANDARD_INPUT || is_link_of_the_system(rt, name) {
+        return false;
+    }
+    match fs::metadata(rt, name) {
+        Ok(metadata) => metadata.is_file(),
+        Err(_) => false,
+    }
+}
+
 impl<'a, W: Write + Drop> Opener for SystemFiles<'a, W> {
     type File = HandingReader<'a, File, W>;
 
@@ -98,6 +109,10 @@ impl<'a, W: Write + Drop> Opener for SystemFiles<'a, W> {
             reader: open_input(self.rt, name)?,
             out: SharedWriter { writer: self.out },
         })
+    }
+
+    fn is_lasting(&self, name: &str) -> bool {
+        !self.names_input(name) && is_lasting_file(self.rt, name)
     }
 }
 

@@ -83,6 +83,10 @@ impl<'a> Opener for Watched<'a> {
             out: SharedWriter { writer: self.out },
         })
     }
+
+    fn is_lasting(&self, _name: &str) -> bool {
+        false
+    }
 }
 
 impl Lister for Watched<'_> {

@@ -25,7 +25,11 @@ use std::test::Fail;
 /// How many bytes a read and a write take at most, and the numbers of the read, of the write on standard output and of that on standard error that fail.
 #[derive(Clone, Copy)]
 pub struct Devices {
+    /// How often the stream can be opened, where it can be read again.
+    pub openings: Option<usize>,
     pub read_size: usize,
+    /// The number of the opening in which a read fails.
+    pub failing_opening: usize,
     pub failing_read: usize,
     pub write_size: usize,
     pub failing_write: usize,
@@ -34,7 +38,9 @@ pub struct Devices {
 
 /// Devices that take all, and never fail.
 pub const WELL: Devices = Devices {
+    openings: None,
     read_size: usize::MAX,
+    failing_opening: 0,
     failing_read: usize::MAX,
     write_size: usize::MAX,
     failing_write: usize::MAX,
@@ -72,6 +78,8 @@ struct OneStream<'a> {
     alloc: Global,
     bytes: &'a [u8],
     devices: Devices,
+    /// How often it was opened.
+    opened: usize,
     /// The output that was finished.
     finished: &'a RefCell<Option<Vec<u8>>>,
 }
@@ -80,15 +88,27 @@ impl<'a> Opener for OneStream<'a> {
     type File = Pieces<'a>;
 
     fn open(&mut self, name: &str) -> io::Result<Pieces<'a>> {
-        if !name.starts_with("stream") {
+        let opening = self.opened;
+        self.opened = self.opened.saturating_add(1);
+        let can_open = self.devices.openings.is_none_or(|most| opening < most);
+        if !name.starts_with("stream") || !can_open {
             return Err(io::Error::from(ErrorKind::NotFound));
         }
+        let fails = opening == self.devices.failing_opening;
         Ok(Pieces {
             rest: self.bytes,
             reads: 0,
             size: self.devices.read_size,
-            failing: self.devices.failing_read,
+            failing: if fails {
+                self.devices.failing_read
+            } else {
+                usize::MAX
+            },
         })
+    }
+
+    fn is_lasting(&self, _name: &str) -> bool {
+        self.devices.openings.is_some()
     }
 }
 
@@ -237,6 +257,7 @@ fn run_over(alloc: Global, words: &[String], bytes: &[u8], devices: Devices) -> 
         alloc,
         bytes,
         devices,
+        opened: 0,
         finished: &finished,
     });
     let mut out = WriteDevice::new(writer(alloc, devices.write_size, devices.failing_write));

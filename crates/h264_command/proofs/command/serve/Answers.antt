@@ -1,30 +1,69 @@
-use Rattle.std.proofs.Common.{◌≡◌, ℕ, ◌⊎◌, ap, ◌∙◌, inl, inr, ⊎_elim}
+use Rattle.std.proofs.Common.{◌≡◌, ℕ, ◌+◌, List, Option, None, Some, refl, ap, ◌∙◌, inl, inr, ⊎_elim}
 use Rattle.h264_report.proofs.Accounts.{of-kept}
 use Rattle.h264_lines.specs.Sent.{wrote}
-use Rattle.h264_report.specs.Written.{status_of}
+use Rattle.h264_report.specs.Written.{OfBytes, Checks, status_of}
 use Rattle.h264_command.specs.Commands.{Performs, Unopened, Done}
-use Rattle.h264_command.proofs.Failing.{read-since}
+use Rattle.h264_command.proofs.Reopened.{excused-since, opened-again, read-after}
 use Rattle.h264_command.proofs.command.serve.Goals as goal
 
--- and a read that failed since then is told
-told-since : {f f' f'' : ℕ} {Told : Type 0} → f' ≡ f → (f'' ≡ f') ⊎ Told → (f'' ≡ f) ⊎ Told
-told-since kept t = ⊎_elim (λ e. inl (e ∙ kept)) (λ told. inr told) t
+-- and the other writer holds what it held
+beside : (known : Option (List ℕ)) (Is : List ℕ → Type 0) (held : Option (List ℕ)) → OfBytes known Is → OfBytes known (λ bytes. Is bytes × (held ≡ held))
+beside None Is held p = (p.0, (p.1, refl))
+beside (Some bytes) Is held p = (p, refl)
 
 pub returns-in-Err : goal.returns-in-Err
 returns-in-Err g c words asks plain target = Unopened c.args.request.task c.args.request.file.now c.no_file.result.written asks plain
-    (c.status-in-Err.ensures ∙ ap (λ answer. status_of c.no_file.result.written answer) c.no_file.ensures.answer) (inl c.in-Err.ensures.failed)
+    (c.status.ensures ∙ ap (λ answer. status_of c.no_file.result.written answer) c.no_file.ensures.answer) (inl c.in-Err.ensures.failed)
     c.no_file.ensures.failures c.no_file.ensures.says
 
-pub returns-in-Ok : goal.returns-in-Ok
-returns-in-Ok g c words asks plain target =
-    Done c.args.request.task c.args.request.file.now c.args.target c.perform.result asks plain target c.status.ensures
-    (record {
-      failures = c.perform.ensures.excused.failures;
-      read = λ e. read-since (g.F.Source.was_read c.perform.new.source) c.in-Ok.ensures.kept c.in-Ok.ensures.reads (c.perform.ensures.excused.read e);
-      read_told = told-since c.in-Ok.ensures.kept c.perform.ensures.excused.read_told;
-    })
-    (of-kept (g.F.Files.holds c.args.files.now c.args.request.file.now) _
+pub returns-then-not-is_glanced_at : goal.returns-then-not-is_glanced_at
+returns-then-not-is_glanced_at g c words asks plain target =
+    Done c.args.request.task c.args.request.file.now c.args.target c.perform.result asks plain target c.status-then-not-is_glanced_at.ensures
+    (excused-since _ c.in_default.ensures.kept c.perform.ensures.excused)
+    (of-kept (g.O.Opener.holds c.args.files.now.opener c.args.request.file.now) _
     (λ bytes. Performs c.args.request.task c.args.target bytes c.perform.result
     (wrote (g.W.Device.contents c.args.out.now) (g.W.Device.contents c.perform.new.out))
     (wrote (g.E.Device.contents c.args.err.now) (g.E.Device.contents c.perform.new.err)))
-    c.in-Ok.ensures.opened c.perform.ensures.performs)
+    c.in_default.ensures.opened c.perform.ensures.performs)
+
+pub returns-in-Some : goal.returns-in-Some
+returns-in-Some g c words asks plain target =
+    Done c.args.request.task c.args.request.file.now c.args.target c.in-Some.ending asks plain target c.status-in-Some.ensures
+    (record {
+      failures = record {
+        unwritten = λ e. inl (c.in-Some.ensures.failed e);
+        write = λ e. absurd (c.in-Some.ensures.write e);
+        quiet = λ never e. (c.in-Some.ensures.quiet e, refl);
+        handed_over = λ never e. (inl (c.in-Some.ensures.handed_over e), inr refl);
+      };
+      read = λ e. read-after _ c.in_default.ensures.kept (c.in-Some.ensures.read e);
+      read_told = ⊎_elim (λ q. inl (q ∙ c.in_default.ensures.kept)) (λ r. inr (inl r)) c.in-Some.ensures.read_told;
+    })
+    (rw (c.if-not-is_glanced_at.ensures refl)
+    (beside (g.O.Opener.holds c.args.files.now.opener c.args.request.file.now)
+    (λ bytes. Checks c.args.target bytes c.in-Some.ending (wrote (g.W.Device.contents c.args.out.now) (g.W.Device.contents c.check_unless_no.new.out)))
+    (g.E.Device.contents c.args.err.now)
+    (of-kept (g.O.Opener.holds c.args.files.now.opener c.args.request.file.now) _
+    (λ bytes. Checks c.args.target bytes c.in-Some.ending (wrote (g.W.Device.contents c.args.out.now) (g.W.Device.contents c.check_unless_no.new.out)))
+    c.in_default.ensures.opened c.in-Some.ensures.checks)))
+
+pub returns-in-Ok : goal.returns-in-Ok
+returns-in-Ok g c words asks plain target =
+    let kept = c.in-Ok.ensures.kept ∙ c.in_default-check_unless_no.ensures.unfailed ∙ c.in_default.ensures.kept in
+    let untold = c.in_default-check_unless_no.ensures.untold in
+    let k = opened-again g.O.Opener.holds _ _ c.in_default.ensures.holds refl c.in-Ok.ensures.opened in
+    Done c.args.request.task c.args.request.file.now c.args.target c.perform-in-Ok.result asks plain target c.status-in-Ok.ensures
+    (excused-since _ kept (rw untold at c.perform-in-Ok.ensures.excused))
+    (of-kept (g.O.Opener.holds c.args.files.now.opener c.args.request.file.now) _
+    (λ bytes. Performs c.args.request.task c.args.target bytes c.perform-in-Ok.result
+    (wrote (g.W.Device.contents c.args.out.now) (g.W.Device.contents c.perform-in-Ok.new.out))
+    (wrote (g.E.Device.contents c.args.err.now) (g.E.Device.contents c.perform-in-Ok.new.err)))
+    k (rw untold at c.perform-in-Ok.ensures.performs))
+
+pub returns-in-Err-open : goal.returns-in-Err-open
+returns-in-Err-open g c words asks plain target =
+    let untold = c.in_default-check_unless_no.ensures.untold in
+    Unopened c.args.request.task c.args.request.file.now c.no_file-in-Err-open.result.written asks plain
+    (c.status-in-Err-open.ensures ∙ ap (λ answer. status_of c.no_file-in-Err-open.result.written answer) c.no_file-in-Err-open.ensures.answer)
+    (inl (c.in-Err-open.ensures.failed ∙ ap (λ n. n + 1) (c.in_default-check_unless_no.ensures.unfailed ∙ c.in_default.ensures.kept)))
+    (rw untold at c.no_file-in-Err-open.ensures.failures) (rw untold at c.no_file-in-Err-open.ensures.says)

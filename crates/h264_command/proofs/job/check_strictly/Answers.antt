@@ -1,9 +1,5 @@
 use Rattle.std.proofs.Common.{refl, ◌∙◌}
-use Rattle.h264_report.proofs.Accounts.{none-elements}
 use Rattle.h264_command.proofs.job.check_strictly.Goals as goal
-
-pub judge_further-judged-requires-clause-none : goal.judge_further-judged-requires-clause-none
-judge_further-judged-requires-clause-none g c = none-elements _ c.in-Ok.ensures
 
 pub returns-clause-further : goal.returns-clause-further
 returns-clause-further g c = (c.judge_further-judged.result.further, refl, c.judge_further-judged.ensures.further)
