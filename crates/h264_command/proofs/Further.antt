@@ -1,6 +1,6 @@
 -- The further rules of a file, and what is told of them.
 use Rattle.std.proofs.Common.{◌≡◌, ℕ, ◌+◌, ◌<◌, Bool, true, false, ◌⊎◌, inl, inr, ⊎_elim, List, [], length, take, get_or, Option, Some, None, Result, Ok, Err}
-use Rattle.std.proofs.Common.{OnOk, sym, ap, ◌∙◌, subst, arith}
+use Rattle.std.proofs.Common.{OnOk, refl, sym, ap, ◌∙◌, subst, arith}
 use Rattle.std.specs.List.{All}
 use Rattle.std.proofs.lemmas.List.{take_more}
 use Rattle.std.proofs.lemmas.List.Elements.{All-push}

@@ -5,7 +5,7 @@ use Rattle.h264_report.proofs.judging.check_unless_no.Goals as goal
 pub returns-clause-checks : goal.returns-clause-checks
 returns-clause-checks g c = of-bytes _ _
     (λ bytes h. checked-bare _ _ (c.run-answer.ensures.verdict bytes h None tt) tt (sym c.is_no.ensures ∙ c.if-is_no.false)
-        c.put_answer.ensures.answer c.put_answer.ensures.text)
+    c.put_answer.ensures.answer c.put_answer.ensures.text)
     (let j = c.run-answer.ensures.some in
     (j.0, checked-bare _ _ (j.4 None tt) tt (sym c.is_no.ensures ∙ c.if-is_no.false) c.put_answer.ensures.answer c.put_answer.ensures.text))
 
