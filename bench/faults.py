@@ -2,7 +2,8 @@
 """faults.py PROGRAM [--plain] [STREAM..]: runs each command of PROGRAM on small streams while one thing after another goes wrong, by a library that stands in
 front of the C library (faults.c).
 
-The Nth allocation is refused, for each N: `memory` and status 3. The Nth read fails: `read failed` and status 4. The Nth write fails: status 4. What was
+The Nth allocation is refused, for each N: `memory` and status 3, or nothing changes, where the program could do without it. The Nth read fails: `read failed` and status 4. The Nth write fails: status 4, or nothing
+changes, where what was held back before a read is written after it. What was
 written before is the front of what the stream gives without the fault, whole lines and whole frames; after a failed write it may break off anywhere. Each
 read gives one byte, each write takes one, each is interrupted first: nothing changes. With no STREAM some are made. It prints a line for each command and
 stream, and ends with 1 at the first answer that is otherwise.
@@ -68,7 +69,7 @@ class Trial:
 
     def __init__(self, program, library, command, path, plain):
         self.program, self.library, self.command, self.path, self.plain = program, library, command, path, plain
-        self.whole, self.early = Answer(program, command, path), 0
+        self.whole, self.early, self.made_good = Answer(program, command, path), 0, 0
 
     def answer(self, **fault):
         return Answer(self.program, self.command, self.path, self.library, **fault)
@@ -107,12 +108,21 @@ class Trial:
                 raise ValueError(f"{name}={number}: status {answer.status}\n{answer.out!r}\n{answer.err!r}")
 
     def is_memory(self, answer):
-        """Whether the answer is `memory`. Before the words are known, `decode` too says so on standard output (docs/RELIABILITY.md)."""
+        """Whether the answer is `memory`, or the allocation was not needed, as those of a first reading of the words or of the file that a second one
+        makes good. Before the words are known, `decode` too says so on standard output (docs/RELIABILITY.md)."""
         if self.lacks_words(answer):
             self.early += 1
             return True
+        if self.is_made_good(answer):
+            return True
         before_main = self.plain and answer.status < 0 and not answer.out and not answer.last()[0]
         return before_main or self.is_told(answer, MEMORY, b"memory")
+
+    def is_made_good(self, answer):
+        """Whether nothing changed: what went wrong was not needed, or was done again later."""
+        same = answer.is_same(self.whole)
+        self.made_good += same
+        return same
 
     def lacks_words(self, answer):
         return self.command == "decode" and (answer.status, answer.out, answer.last()[0]) == (MEMORY, b"memory\n", b"")
@@ -122,13 +132,13 @@ class Trial:
         found = {
             "allocations": self.each("REFUSE", self.is_memory),
             "reads": self.each("FAIL_READ", lambda answer: self.is_told(answer, DEVICE, b"read failed")),
-            "writes": self.each("FAIL_WRITE", self.is_cut),
+            "writes": self.each("FAIL_WRITE", lambda answer: self.is_cut(answer) or self.is_made_good(answer)),
         }
         for fault in ("SHORT_READ", "SHORT_WRITE", "INTERRUPT_READ", "INTERRUPT_WRITE"):
             if not self.answer(**{fault: 1}).is_same(self.whole):
                 raise ValueError(f"{fault} changes what is written")
-        early = {"told on standard output": self.early} if self.early else {}
-        return ", ".join(f"{name} {count}" for name, count in {**found, **early}.items())
+        others = {"told on standard output": self.early, "changed nothing": self.made_good}
+        return ", ".join(f"{name} {count}" for name, count in {**found, **{name: count for name, count in others.items() if count}}.items())
 
 
 def made(folder):
