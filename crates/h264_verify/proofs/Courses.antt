@@ -1,49 +1,32 @@
--- The course of a unit, and the same step by step.
-use Rattle.std.proofs.Common.{◌≡◌, ℕ, ◌*◌, Bool, true, false, List, [], ◌∷◌, ◌++◌, map, length, Result, Ok, Err, refl, ap, sym, ◌∙◌, subst, append_assoc}
-use Rattle.std.proofs.Common.{◌==◌, ◌≤◌, arith, if◌then◌else◌}
+-- The course of a unit, part by part.
+use Rattle.std.proofs.Common.{◌≡◌, ℕ, Bool, true, false, List, [], ◌∷◌, ◌++◌, map, length, Result, Ok, Err, refl, ap, sym, ◌∙◌, subst, append_assoc}
+use Rattle.std.proofs.Common.{◌≤◌, arith, if◌then◌else◌}
 use Rattle.std.proofs.lemmas.List.{append-nil}
 use Rattle.h264_base.specs.Call.{span}
 use Rattle.h264_verify.specs.declared.state.Depth.{Depth}
 use Rattle.h264_verify.specs.declared.state.Depth.TheVariants as depths
 use Rattle.h264_base.specs.declared.stop.Stop.{Stop}
 use Rattle.h264_base.specs.declared.stop.Stop.TheVariants.{No}
-use Rattle.h264_verify.specs.Telling.{Told, Said, said_of, AreOf}
+use Rattle.h264_verify.specs.Telling.{Told, said_of, AreOf}
 use Rattle.h264_base.specs.Body.{Body}
 use Rattle.h264_base.specs.Grammar.{Grammar, ◌>>=◌ as ◌bind◌, Done, Element}
 use Rattle.h264_base.specs.Run.{Run, run}
 use Rattle.h264_base.proofs.Steps.{then_run, run-bind}
-use Rattle.h264_units.specs.Stream.{NalUnit}
-use Rattle.h264_rbsp.specs.Emulation.{emulation_checked}
-use Rattle.h264_rbsp.specs.Rbsp.{body_of}
-use Rattle.h264_sps.specs.declared.sps.Sps.{Sps}
-use Rattle.h264_pps.specs.declared.Pps.{Pps}
-use Rattle.h264_header.specs.declared.header.Header.{Header}
-use Rattle.h264_sps.specs.Sps.{sps}
-use Rattle.h264_pps.specs.Pps.{pps}
-use Rattle.h264_header.specs.Layout.{sets_of}
-use Rattle.h264_header.specs.Header.{header}
 use Rattle.h264_verify.specs.Content.{Content}
-use Rattle.h264_verify.specs.Content as contents
-use Rattle.h264_verify.specs.Outcome.{Outcome, ◌>>=◌, with_calls, continued, answers, gives, tells, value_of, structure_outcome, Plays}
-use Rattle.h264_verify.specs.Steps.{Step, needs}
-use Rattle.h264_units.specs.UnitHeader.{header_of, nal_unit_type}
-use Rattle.h264_verify.specs.Order.{header_demands}
-use Rattle.h264_verify.specs.History.{History, maps_of}
+use Rattle.h264_verify.specs.Outcome.{Outcome, ◌>>=◌, with_calls, continued, answers, gives, Plays}
+use Rattle.h264_verify.specs.Steps.{Step, needs, Course, Takes, Reads, Ends}
+use Rattle.h264_verify.specs.History.{History}
 use Rattle.h264_verify.specs.Pictures.{CodedPicture, goes_on as may_go_on, runs_of}
-use Rattle.h264_verify.specs.Order.{closing_at, closing_demands}
+use Rattle.h264_verify.specs.Order.{closing_demands}
 use Rattle.h264_verify.specs.Buffering.{closing_frames, last_frames}
 use Rattle.h264_verify.specs.Keeping.{ended_pictures, close_steps}
-use Rattle.h264_verify.specs.Order.{whole_at, whole_picture, whole_steps}
+use Rattle.h264_verify.specs.Order.{whole_picture, whole_steps, end_steps}
 use Rattle.h264_verify.specs.Demands.{Demand}
 use Rattle.h264_base.specs.declared.summary.Summary.{Summary}
-use Rattle.h264_verify.specs.declared.state.Extent.{Extent}
-use Rattle.h264_verify.specs.Units.{unit_call, slice_unit, other_content, picture_demand, summary_of}
-use Rattle.h264_units.specs.UnitHeader.{is_slice}
-use Rattle.h264_verify.specs.Order.{content, content_steps, data_course, content_course, frames_at, end_steps}
+use Rattle.h264_verify.specs.Units.{picture_demand, summary_of}
 use Rattle.h264_verify.specs.StepOutcome.{steps_outcome, structure_from, course_outcome}
-use Rattle.h264_verify.specs.UnitOutcome.{sps_outcome, pps_outcome, slice_outcome, header_content, whole_slice, joined, joined_on, joined_other, joined_by}
-use Rattle.h264_verify.specs.UnitOutcome.{unit_by_steps, unit_outcome, end_outcome}
-use Rattle.h264_verify.proofs.Stepping.{outcome, needs-judged, steps-append}
+use Rattle.h264_verify.specs.UnitOutcome.{end_outcome}
+use Rattle.h264_verify.proofs.Stepping.{outcome, steps-append}
 use Rattle.h264_verify.proofs.Playing.{plays-on, plays-stops, gives-plays, plays-as}
 use Rattle.h264_verify.proofs.Growing.{closing-of}
 
@@ -64,15 +47,6 @@ bind-assoc {A} {B} {C} o f g = by o.answer
     by (Ok x) = bind-calls o.calls (f x) g
     by (Err e) = refl
 
--- the same after each value
-pub bind-same : {A B : Type 0} (o : Outcome A) (f g : A → Outcome B) → ((x : A) → f x ≡ g x) → (o >>= f) ≡ (o >>= g)
-unfolding ◌>>=◌
-bind-same {A} {B} o f g h = by o.answer
-  where
-    by : (a : Result A Stop) → continued o.calls f a ≡ continued o.calls g a
-    by (Ok x) = ap (with_calls o.calls) (h x)
-    by (Err e) = refl
-
 -- a structure whose value is seen otherwise
 abbrev pub seen : {A B : Type 0} → (A → B) → Result (A × ℕ) Stop → Result (B × ℕ) Stop
 seen f (Ok x) = Ok (f x.0, x.1)
@@ -91,132 +65,59 @@ module _ {A B : Type 0} (body : Body) (f : A → B) where
   structure-seen g i = ap (λ (r : Run B). outcome (map (said_of body) r.elements) r.answer) (run-bind g (λ x. Done (f x)) body i) ∙
       as-seen (run g body i).elements (run g body i).answer
 
--- what was read is judged, and nothing is read after it
-module _ {A : Type 0} (depth : Depth) (before : History) (unit : NalUnit) (f : A → Content)
-    (none : (x : A) (bit : ℕ) → course_outcome (body_of unit) (data_course depth before unit (f x) bit) ≡ gives (f x)) where
-  abbrev one_more : Content → History
-  one_more found = record { unit = unit; content = found } ∷ before
+-- A course is played part by part, and then what comes after it.
+module _ {S B : Type 0} (took : S → List Told → Type 0) (failures : S → ℕ) (body : Body) (next : Content → Outcome B) where
+  abbrev and_then : Course → Outcome B
+  and_then course = course_outcome body course >>= next
 
-  plain-by : (told : List Told) (a : Result (A × ℕ) Stop) →
-      joined_on depth before unit (outcome told (seen f a)) ≡ joined depth before unit (outcome told (value_of a) >>= λ x. gives (f x))
-  unfolding ◌>>=◌
-  plain-by told (Ok x) =
-      ap (λ (o : Outcome Content). with_calls told (steps_outcome (content_steps depth before unit (f x.0)) >>= λ _. o >>= λ found. gives (one_more found)))
-      (none x.0 x.1)
-      ∙ ap (λ (l : List Told). with_calls l (steps_outcome (content_steps depth before unit (f x.0)) >>= λ _. gives (one_more (f x.0)))) (sym (append-nil told))
-  plain-by told (Err e) = refl
+  module _ (steps : List Step) (course : Course) where
+    takes-is : and_then (Takes steps course) ≡ (steps_outcome steps >>= λ _. and_then course)
+    unfolding course_outcome
+    takes-is = bind-assoc (steps_outcome steps) (λ _. course_outcome body course) next
 
-  plain : (g : Grammar A) → joined_on depth before unit (structure_from (◌bind◌ g (λ x. Done (f x))) (body_of unit) 0) ≡
-      joined depth before unit (structure_outcome g (body_of unit) >>= λ x. gives (f x))
-  plain g = ap (λ (o : Outcome (Content × ℕ)). joined_on depth before unit o) (structure-seen (body_of unit) f g 0) ∙
-      plain-by (structure_from g (body_of unit) 0).calls (structure_from g (body_of unit) 0).answer
+    pub takes-on : {X : Type 0} (view : X → B) (s0 s1 s2 : S) (z : Unit {0}) (r : Result X Stop) →
+        Plays (span took failures s0 s1) (λ (u : Unit {0}). u) (steps_outcome steps) (Ok z) → Plays (span took failures s1 s2) view (and_then course) r →
+        Plays (span took failures s0 s2) view (and_then (Takes steps course)) r
+    takes-on view s0 s1 s2 z r p q = plays-as took failures view _ _ s0 s2 r takes-is
+        (plays-on took failures (λ (u : Unit {0}). u) view (steps_outcome steps) (λ _. and_then course) s0 s1 s2 z r p q)
 
-module _ (before : History) (unit : NalUnit) where
-  abbrev on : Depth → Grammar Content → Outcome History
-  on depth g = joined_on depth before unit (structure_from g (body_of unit) 0)
+    pub takes-stops : {X : Type 0} (view : X → B) (s s' : S) (e : Stop) →
+        Plays {X = Unit {0}} (span took failures s s') (λ u. u) (steps_outcome steps) (Err e) →
+        Plays {X = X} (span took failures s s') view (and_then (Takes steps course)) (Err e)
+    takes-stops view s s' e p = plays-as took failures view _ _ s s' (Err e) takes-is
+        (plays-stops took failures (λ (u : Unit {0}). u) view (steps_outcome steps) (λ _. and_then course) s s' e p)
 
-  passed-is : (depth : Depth) → on depth (Done contents.Passed) ≡ joined depth before unit (gives contents.Passed)
-  unfolding ◌>>=◌ run course_outcome
-  passed-is depth = refl
+  module _ {Y : Type 0} (g : Grammar Content) (bit : ℕ) (rest : Content → ℕ → Course) (found : Y → Content × ℕ) where
+    reads-is : and_then (Reads g bit rest) ≡ (structure_from g body bit >>= λ x. and_then (rest x.0 x.1))
+    unfolding course_outcome
+    reads-is = bind-assoc (structure_from g body bit) (λ x. course_outcome body (rest x.0 x.1)) next
 
-  none-sps : (depth : Depth) (set : Sps) (bit : ℕ) → course_outcome (body_of unit) (data_course depth before unit (contents.OfSps set) bit) ≡
-      gives (contents.OfSps set)
-  unfolding course_outcome
-  none-sps depth set bit = refl
+    pub reads-on : {X : Type 0} (view : X → B) (s0 s1 s2 : S) (y : Y) (r : Result X Stop) →
+        Plays (span took failures s0 s1) found (structure_from g body bit) (Ok y) →
+        Plays (span took failures s1 s2) view (and_then (rest (found y).0 (found y).1)) r →
+        Plays (span took failures s0 s2) view (and_then (Reads g bit rest)) r
+    reads-on view s0 s1 s2 y r p q = plays-as took failures view _ _ s0 s2 r reads-is
+        (plays-on took failures found view (structure_from g body bit) (λ x. and_then (rest x.0 x.1)) s0 s1 s2 y r p q)
 
-  none-pps : (depth : Depth) (set : Pps) (bit : ℕ) → course_outcome (body_of unit) (data_course depth before unit (contents.OfPps set) bit) ≡
-      gives (contents.OfPps set)
-  unfolding course_outcome
-  none-pps depth set bit = refl
+    pub reads-stops : {X : Type 0} (view : X → B) (s s' : S) (e : Stop) →
+        Plays {X = Y} (span took failures s s') found (structure_from g body bit) (Err e) →
+        Plays {X = X} (span took failures s s') view (and_then (Reads g bit rest)) (Err e)
+    reads-stops view s s' e p = plays-as took failures view _ _ s s' (Err e) reads-is
+        (plays-stops took failures found view (structure_from g body bit) (λ x. and_then (rest x.0 x.1)) s s' e p)
 
-  none-header : (h : Header) (bit : ℕ) → course_outcome (body_of unit) (data_course depths.Headers before unit (contents.OfSlice h []) bit) ≡
-      gives (contents.OfSlice h [])
-  unfolding course_outcome
-  none-header h bit = refl
+  pub ends-on : {X : Type 0} (view : X → B) (found : Content) (s s' : S) (r : Result X Stop) → Plays (span took failures s s') view (next found) r →
+      Plays (span took failures s s') view (and_then (Ends found)) r
+  unfolding course_outcome ◌>>=◌
+  ends-on view found s s' r p = p
 
-  sps-is : (extent : Extent) → on extent.depth (◌bind◌ (sps extent.target) (λ set. Done (contents.OfSps set))) ≡
-      joined extent.depth before unit (sps_outcome extent.target unit)
-  unfolding sps_outcome
-  sps-is extent = plain extent.depth before unit contents.OfSps (none-sps extent.depth) (sps extent.target)
-
-  pps-is : (extent : Extent) → on extent.depth (◌bind◌ (pps extent.target) (λ set. Done (contents.OfPps set))) ≡
-      joined extent.depth before unit (pps_outcome extent.target unit)
-  unfolding pps_outcome
-  pps-is extent = plain extent.depth before unit contents.OfPps (none-pps extent.depth) (pps extent.target)
-
-  header-is : on depths.Headers (header_content before unit) ≡ joined depths.Headers before unit (slice_outcome before unit)
-  unfolding slice_outcome
-  header-is = plain depths.Headers before unit (λ h. contents.OfSlice h []) none-header (header (sets_of (maps_of before)) (slice_unit unit))
-
-  whole-is : on depths.Full (header_content before unit) ≡ whole_slice before unit
-  unfolding whole_slice
-  whole-is = refl
-
-  other-by : (b : Bool) (depth : Depth) (slice : Outcome History) → on depth (header_content before unit) ≡ slice →
-      on depth (if b then header_content before unit else Done contents.Passed) ≡ (if b then slice else joined depth before unit (gives contents.Passed))
-  other-by true depth slice e = e
-  other-by false depth slice e = passed-is depth
-
-  other-is : (depth : Depth) (kind : ℕ) → on depth (other_content depth kind before unit) ≡ joined_other depth kind before unit
-  unfolding joined_other
-  other-is depths.Units kind = passed-is depths.Units
-  other-is depths.Headers kind = other-by (is_slice kind) depths.Headers (joined depths.Headers before unit (slice_outcome before unit)) header-is
-  other-is depths.Full kind = other-by (is_slice kind) depths.Full (whole_slice before unit) whole-is
-
-  content-by : (a b : Bool) (extent : Extent) (kind : ℕ) →
-      on extent.depth (if a then ◌bind◌ (sps extent.target)
-      (λ set. Done (contents.OfSps set)) else (if b then ◌bind◌ (pps extent.target) (λ set. Done (contents.OfPps set)) else other_content extent.depth kind
-      before unit)) ≡ (if a then joined extent.depth before unit
-      (sps_outcome extent.target unit) else (if b then joined extent.depth before unit (pps_outcome extent.target unit) else joined_other extent.depth kind
-      before
-      unit))
-  content-by true b extent kind = sps-is extent
-  content-by false true extent kind = pps-is extent
-  content-by false false extent kind = other-is extent.depth kind
-
-  content-is : (extent : Extent) (kind : ℕ) → on extent.depth (content extent kind before unit) ≡ joined_by extent kind before unit
-  unfolding content joined_by
-  content-is extent kind = content-by (kind == 7) (kind == 8) extent kind
-
-  -- what is in a unit, by its course and by its parts
-  content-joined : (extent : Extent) → (course_outcome (body_of unit) (content_course extent before unit) >>= λ found. gives
-      (record { unit = unit; content = found } ∷ before)) ≡ joined_by extent (nal_unit_type (header_of unit)) before unit
-  unfolding course_outcome
-  content-joined extent =
-      let join : Content → Outcome History = λ found. gives (record { unit = unit; content = found } ∷ before) in
-      let read = structure_from (content extent (nal_unit_type (header_of unit)) before unit) (body_of unit) 0 in
-      bind-assoc read (λ x. steps_outcome (content_steps extent.depth before unit x.0) >>= λ _. course_outcome (body_of unit)
-      (data_course extent.depth before unit x.0 x.1)) join
-      ∙ bind-same read (λ x. (steps_outcome (content_steps extent.depth before unit x.0) >>= λ _. course_outcome (body_of unit)
-      (data_course extent.depth before unit x.0 x.1)) >>= join)
-      (λ x. steps_outcome (content_steps extent.depth before unit x.0) >>= λ _. course_outcome (body_of unit) (data_course extent.depth before unit x.0 x.1)
-      >>= join) (λ x. bind-assoc (steps_outcome (content_steps extent.depth before unit x.0))
-      (λ _. course_outcome (body_of unit) (data_course extent.depth before unit x.0 x.1)) join)
-      ∙ content-is extent (nal_unit_type (header_of unit))
-
--- What comes of a unit, step by step.
-pub by-steps : (extent : Extent) (before : History) (unit : NalUnit) → unit_outcome extent before unit ≡ unit_by_steps extent before unit
-unfolding unit_outcome unit_by_steps course_outcome
-by-steps extent before unit =
-    let call = Said (unit_call unit.from (header_of unit) (length unit.body)) in
-    let hs = header_demands (8 * unit.from) (header_of unit) in
-    let cs = whole_at extent.depth (nal_unit_type (header_of unit)) before ++
-    (needs (closing_at (nal_unit_type (header_of unit)) before) ++ frames_at extent.depth (nal_unit_type (header_of unit)) before) in
-    let o = course_outcome (body_of unit) (content_course extent before unit) in
-    let join : Content → Outcome History = λ found. gives (record { unit = unit; content = found } ∷ before) in
-    ap (λ (q : Outcome History). answers (emulation_checked unit.from unit.body) >>= λ _. q)
-    (bind-assoc (steps_outcome (needs hs)) (λ _. tells call >>= λ _. steps_outcome cs >>= λ _. o) join
-    ∙ ap (λ (q : Outcome History). steps_outcome (needs hs) >>= λ _. q)
-    (bind-assoc (tells call) (λ _. steps_outcome cs >>= λ _. o) join ∙
-    ap (λ (q : Outcome History). tells call >>= λ _. q)
-    (bind-assoc (steps_outcome cs) (λ _. o) join ∙ ap (λ (q : Outcome History). steps_outcome cs >>= λ _. q) (content-joined before unit extent)))
-    ∙ ap (λ (q : Outcome (Unit {0})). q >>= λ _. tells call >>= λ _. steps_outcome cs >>= λ _. joined_by extent (nal_unit_type (header_of unit)) before unit)
-    (needs-judged hs))
-
-pub plays-course : {S X : Type 0} (took : S → List Told → Type 0) (failures : S → ℕ) (view : X → History) (extent : Extent) (before : History) (unit : NalUnit)
-    (s s' : S) (r : Result X Stop) → Plays (span took failures s s') view (unit_by_steps extent before unit) r →
-    Plays (span took failures s s') view (unit_outcome extent before unit) r
-plays-course took failures view extent before unit s s' r p = subst (λ o. Plays (span took failures s s') view o r) (sym (by-steps extent before unit)) p
+  -- a structure after which nothing stands
+  pub reads-then : {X : Type 0} (g : Grammar Content) (bit : ℕ) (found : X → Content × ℕ) (view : X → B) (s s' : S) (r : Result X Stop) →
+      Plays (span took failures s s') found (structure_from g body bit) r →
+      ((x : X) → r ≡ Ok x → Plays (span took failures s' s') view (next (found x).0) (Ok x)) →
+      Plays (span took failures s s') view (and_then (Reads g bit (λ whole end. Ends whole))) r
+  reads-then g bit found view s s' (Ok x) p q = reads-on g bit (λ whole end. Ends whole) found view s s' s' x (Ok x) p
+      (ends-on view (found x).0 s' s' (Ok x) (q x refl))
+  reads-then g bit found view s s' (Err e) p q = reads-stops g bit (λ whole end. Ends whole) found view s s' e p
 
 -- no fewer pictures have ended once the newest has
 pub ended-grows : (on ends : Bool) (pictures : List CodedPicture) → length (ended_pictures on false pictures) ≤ length (ended_pictures on ends pictures)

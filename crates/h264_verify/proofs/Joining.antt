@@ -1,5 +1,5 @@
 -- How a unit joins those before it.
-use Rattle.std.proofs.Common.{◌≡◌, ℕ, ◌+◌, ◌==◌, ◌||◌, ◌&&◌, not, true, false, Bool, ◌∷◌, [], List, Option, Some, None, Result, Ok, Err, OnOk, refl, ap, sym}
+use Rattle.std.proofs.Common.{◌≡◌, ℕ, ◌+◌, ◌==◌, ◌||◌, ◌&&◌, not, true, false, Bool, ◌∷◌, [], List, Option, Some, Result, Ok, Err, OnOk, refl, ap, sym}
 use Rattle.std.proofs.Common.{subst, ◌∙◌, length}
 use native.Mathlib.Numerals.{unary_clauses}
 use Rattle.h264_verify.specs.declared.state.Depth.{Depth}
@@ -10,7 +10,7 @@ use Rattle.h264_verify.specs.Telling.{took_with, Agree, frame_span, Family}
 use Rattle.h264_verify.specs.declared.decoder.Decoder.{Decoder}
 use Rattle.h264_units.specs.Stream.{NalUnit}
 use Rattle.h264_verify.specs.declared.state.State.{State}
-use Rattle.h264_verify.specs.Outcome.{Outcome, gives, Plays}
+use Rattle.h264_verify.specs.Outcome.{Outcome, ◌>>=◌, gives, Plays}
 use Rattle.h264_verify.specs.Content.{Content}
 use Rattle.h264_verify.specs.Content as contents
 use Rattle.h264_verify.specs.History.{History, ReadUnit, maps_of, maps_with}
@@ -24,56 +24,99 @@ use Rattle.h264_sps.specs.declared.sps.Sps.{Sps}
 use Rattle.h264_pps.specs.declared.Pps.{Pps}
 use Rattle.h264_header.specs.Layout.{sets_of}
 use Rattle.h264_verify.specs.KeepingUnits.{Keeps, KeepsWithin, KeepsSome}
-use Rattle.h264_verify.specs.Keeping.{KeepsSomeSlice, KeepsFrames, WhereMade, IsLeft, KeepsSlices}
+use Rattle.h264_verify.specs.Keeping.{KeepsSomeSlice, KeepsFrames, WhereMade, IsLeft, KeepsSlices, ended_in, ended_pictures}
 use Rattle.h264_header.specs.declared.header.Header.{Header}
-use Rattle.h264_units.specs.UnitHeader.{is_slice}
-use Rattle.h264_verify.specs.Order.{content_steps}
-use Rattle.h264_verify.specs.StepOutcome.{steps_outcome}
-use Rattle.h264_verify.specs.UnitOutcome.{slice_outcome, whole_slice, joined, joined_other}
-use Rattle.h264_verify.specs.Turning.{Joins}
-use Rattle.h264_verify.proofs.AgreeingUnits.{agree-none}
-use Rattle.h264_verify.proofs.Playing.{plays-stops, plays-on, plays-then}
+use Rattle.h264_base.specs.Grammar.{Grammar}
+use Rattle.h264_rbsp.specs.Rbsp.{body_of}
+use Rattle.h264_verify.specs.declared.state.Extent.{Extent}
+use Rattle.h264_verify.specs.Order.{content, content_steps, data_course}
+use Rattle.h264_verify.specs.Steps.{Course, Takes, Ends}
+use Rattle.h264_verify.specs.StepOutcome.{steps_outcome, structure_from, course_outcome}
+use Rattle.h264_verify.specs.Turning.{Joins, is_ending, ended_before}
+use Rattle.h264_verify.proofs.Courses.{takes-on, takes-stops, reads-on, reads-stops, ends-on}
+use Rattle.h264_verify.proofs.Playing.{gives-plays}
 use Rattle.h264_verify.proofs.Entering.{IsNoSlice, EndsBefore, passed-keeps}
 use Rattle.h264_verify.specs.declared.slices.Slices.{Slices}
-use Rattle.h264_verify.proofs.Made.{made-then, some-made, none-made}
-use Rattle.h264_base.proofs.Plain.{choose-true, choose-false}
+use Rattle.h264_verify.proofs.Made.{MakesNone, made-then}
 
-module _ {S : Type 0} (depth : Depth) (frames : Family) (took : S → List Call → Type 0) (failures : S → ℕ) (ended : ℕ) (before : History) (unit : NalUnit)
-    (content : Outcome Content) (new : State) where
-  -- what was read is judged, and frames were made
-  pub joins-made : {X : Type 0} (made : Family) → Agree ended frames made → (view : X → Content) (s s1 s2 : S) (x : X) (r : Result (Unit {0}) Stop) →
-      Plays (span (took_with made took) failures s s1) view content (Ok x) →
-      Plays (span (took_with made took) failures s1 s2) (λ (u : Unit {0}). u) (steps_outcome (content_steps depth before unit (view x))) r →
-      OnOk r (Keeps depth made (record { unit = unit; content = view x } ∷ before) new) →
-      Joins depth (frame_span took failures frames s s2) ended (joined depth before unit content) new r
-  joins-made made a view s s1 s2 x r p q k = record {
-    made = made;
-    same = a;
-    after = record { unit = unit; content = view x } ∷ before;
-    plays = plays-on (took_with made took) failures view (λ (u : Unit {0}). record { unit = unit; content = view x } ∷ before) content _ s s1 s2 x r p
-        (plays-then (took_with made took) failures _ _ s1 s2 r q);
-    keeps = k;
-  }
+module _ {S : Type 0} (extent : Extent) (frames : Family) (took : S → List Call → Type 0) (failures : S → ℕ) (before : History) (unit : NalUnit)
+    (new : State) (made : Family) (same : Agree (ended_before before unit) frames made) where
+  abbrev one_more : Content → History
+  one_more found = record { unit = unit; content = found } ∷ before
 
-  -- what was read is judged
-  pub joins-on : {X : Type 0} (view : X → Content) (s s1 s2 : S) (x : X) (r : Result (Unit {0}) Stop) →
-      Plays (span (took_with frames took) failures s s1) view content (Ok x) →
-      Plays (span (took_with frames took) failures s1 s2) (λ (u : Unit {0}). u) (steps_outcome (content_steps depth before unit (view x))) r →
-      OnOk r (Keeps depth frames (record { unit = unit; content = view x } ∷ before) new) →
-      Joins depth (frame_span took failures frames s s2) ended (joined depth before unit content) new r
-  joins-on view s s1 s2 x r p q k = joins-made frames (agree-none ended frames) view s s1 s2 x r p q k
+  abbrev what_is_in : Grammar Content
+  what_is_in = content extent (nal_unit_type (header_of unit)) before unit
 
-  -- it could not be read
-  pub joins-stops : {X : Type 0} (view : X → Content) (s s' : S) (e : Stop) →
-      Plays {X = X} (span (took_with frames took) failures s s') view content (Err e) →
-      Joins {X = Unit {0}} depth (frame_span took failures frames s s') ended (joined depth before unit content) new (Err e)
-  joins-stops view s s' e p = record {
-    made = frames;
-    same = agree-none ended frames;
-    after = [];
-    plays = plays-stops (took_with frames took) failures view (λ (u : Unit {0}). []) content _ s s' e p;
-    keeps = tt;
-  }
+  abbrev what_follows : Content → ℕ → Course
+  what_follows found bit = Takes (content_steps extent.depth before unit found) (data_course extent.depth before unit found bit)
+
+  abbrev join : Content → Outcome History
+  join found = gives (one_more found)
+
+  abbrev Joined : S → S → Result (Unit {0}) Stop → Type 0
+  Joined s s' r = Joins {X = Unit {0}} extent (frame_span took failures frames s s') before unit new r
+
+  module _ {X : Type 0} (view : X → Content × ℕ) where
+    -- what is in a unit cannot be read
+    pub joins-stops : (s s' : S) (e : Stop) →
+        Plays {X = X} (span (took_with made took) failures s s') view (structure_from what_is_in (body_of unit) 0) (Err e) → Joined s s' (Err e)
+    joins-stops s s' e p = record {
+      made = made;
+      same = same;
+      after = [];
+      plays = reads-stops (took_with made took) failures (body_of unit) join what_is_in 0 what_follows view (λ (u : Unit {0}). []) s s' e p;
+      keeps = tt;
+    }
+
+    module _ (s s1 : S) (x : X) (read : Plays (span (took_with made took) failures s s1) view (structure_from what_is_in (body_of unit) 0) (Ok x)) where
+      -- a rule on it is broken
+      pub joins-broken : (s2 : S) (e : Stop) →
+          Plays {X = Unit {0}} (span (took_with made took) failures s1 s2) (λ u. u) (steps_outcome (content_steps extent.depth before unit (view x).0)) (Err e) →
+          Joined s s2 (Err e)
+      joins-broken s2 e p = record {
+        made = made;
+        same = same;
+        after = [];
+        plays = reads-on (took_with made took) failures (body_of unit) join what_is_in 0 what_follows view (λ (u : Unit {0}). []) s s1 s2 x (Err e) read
+            (takes-stops (took_with made took) failures (body_of unit) join (content_steps extent.depth before unit (view x).0)
+            (data_course extent.depth before unit (view x).0 (view x).1) (λ (u : Unit {0}). []) s1 s2 e p);
+        keeps = tt;
+      }
+
+      -- its rules are met, and this comes of what stands after it
+      pub joins-after : (s2 : S) (y : Unit {0}) →
+          Plays (span (took_with made took) failures s1 s2) (λ (u : Unit {0}). u) (steps_outcome (content_steps extent.depth before unit (view x).0)) (Ok y) →
+          (s3 : S) (found : Content) (r : Result (Unit {0}) Stop) →
+          Plays (span (took_with made took) failures s2 s3) (λ (u : Unit {0}). one_more found)
+          (course_outcome (body_of unit) (data_course extent.depth before unit (view x).0 (view x).1) >>= join) r →
+          OnOk r (Keeps extent.depth made (one_more found) new) → Joined s s3 r
+      joins-after s2 y met s3 found r p k = record {
+        made = made;
+        same = same;
+        after = one_more found;
+        plays = reads-on (took_with made took) failures (body_of unit) join what_is_in 0 what_follows view (λ (u : Unit {0}). one_more found) s s1 s3 x r read
+            (takes-on (took_with made took) failures (body_of unit) join (content_steps extent.depth before unit (view x).0)
+            (data_course extent.depth before unit (view x).0 (view x).1) (λ (u : Unit {0}). one_more found) s1 s2 s3 y r met p);
+        keeps = k;
+      }
+
+      -- its rules are met, and nothing stands after it
+      pub joins-on : (s2 : S) (y : Unit {0}) →
+          Plays (span (took_with made took) failures s1 s2) (λ (u : Unit {0}). u) (steps_outcome (content_steps extent.depth before unit (view x).0)) (Ok y) →
+          data_course extent.depth before unit (view x).0 (view x).1 ≡ Ends (view x).0 → Keeps extent.depth made (one_more (view x).0) new →
+          Joined s s2 (Ok tt)
+      joins-on s2 y met none k = joins-after s2 y met s2 (view x).0 (Ok tt)
+          (subst (λ (q : Course). Plays (span (took_with made took) failures s2 s2) (λ (u : Unit {0}). one_more (view x).0)
+          (course_outcome (body_of unit) q >>= join) (Ok tt)) (sym none)
+          (ends-on (took_with made took) failures (body_of unit) join (λ (u : Unit {0}). one_more (view x).0) (view x).0 s2 s2 (Ok tt)
+          (gives-plays (took_with made took) failures (λ (u : Unit {0}). one_more (view x).0) tt s2))) k
+
+-- nothing follows a slice's header where no frames are made
+pub headers-end : (depth : Depth) (before : History) (unit : NalUnit) (h : Header) (ms : List CodedMacroblock) (bit : ℕ) → MakesNone depth →
+    data_course depth before unit (contents.OfSlice h ms) bit ≡ Ends (contents.OfSlice h ms)
+headers-end depths.Units before unit h ms bit none = refl
+headers-end depths.Headers before unit h ms bit none = refl
+headers-end depths.Full before unit h ms bit none = absurd none
 
 -- one more unit
 pub units-with : (before : History) (r : ReadUnit) (old new : ℕ) → new ≡ old + 1 → old ≡ length before → new ≡ length (r ∷ before)
@@ -118,28 +161,6 @@ passed-joins depth frames before unit c kind old new n b k keeps units sets left
       (subst (λ (x : ℕ). WhereMade depth (KeepsFrames frames (goes_on before) (ends_picture x) (runs_of before)) old.decoder) k keeps.decoder) c n);
 }
 
-pub units-other : (kind : ℕ) (before : History) (unit : NalUnit) → joined_other depths.Units kind before unit ≡
-    joined depths.Units before unit (gives contents.Passed)
-unfolding joined_other
-units-other kind before unit = λ i. joined depths.Units before unit (gives contents.Passed)
-
--- a unit that is no slice is passed over in every mode
-pub passed-other : (depth : Depth) (kind : ℕ) (before : History) (unit : NalUnit) → is_slice kind ≡ false →
-    joined_other depth kind before unit ≡ joined depth before unit (gives contents.Passed)
-unfolding joined_other
-passed-other depths.Units kind before unit e = units-other kind before unit
-passed-other depths.Headers kind before unit e = choose-false (is_slice kind) _ _ e
-passed-other depths.Full kind before unit e = choose-false (is_slice kind) _ _ e
-
-pub slice-other : (kind : ℕ) (before : History) (unit : NalUnit) → is_slice kind ≡ true →
-    joined_other depths.Headers kind before unit ≡ joined depths.Headers before unit (slice_outcome before unit)
-unfolding joined_other
-slice-other kind before unit e = choose-true (is_slice kind) _ _ e
-
-pub whole-other : (kind : ℕ) (before : History) (unit : NalUnit) → is_slice kind ≡ true → joined_other depths.Full kind before unit ≡ whole_slice before unit
-unfolding joined_other
-whole-other kind before unit e = choose-true (is_slice kind) _ _ e
-
 -- a slice that begins no picture goes on with the newest
 pub goes-newest : (on : Bool) (pictures : List CodedPicture) (h : Header) (begins : Bool) → begins ≡ begins_after (open_of on pictures) h → begins ≡ false →
     on ≡ true
@@ -147,23 +168,23 @@ goes-newest true pictures h begins e f = refl
 goes-newest false [] h begins e f = cc
 goes-newest false (p ∷ ps) h begins e f = cc
 
--- frames by the mode
-pub full-decoder : (P : Decoder → Type 0) (o : Option Decoder) (d : Decoder) → o ≡ Some d → WhereMade depths.Full P o → P d
-full-decoder P o d e h = (some-made P depths.Full o d e h).1
-
-pub no-decoder : (P : Decoder → Type 0) (o : Option Decoder) → o ≡ None → WhereMade depths.Full P o → ⊥
-no-decoder P o e h = none-made P depths.Full o e h
-
 -- there are units of which this is kept, before a slice
-pub some-slice : (depth : Depth) (state : State) → KeepsSome depth false state → KeepsSomeSlice state.slices state.sets state.decoder
-some-slice depth state k = record {
-  depth = depth;
-  frames = k.frames;
-  before = k.before;
-  sets_are = k.keeps.sets;
-  slices_are = k.keeps.slices;
-  keeps = k.keeps.decoder;
-}
+pub some-slice : (depth : Depth) (ended : Bool) (state : State) → ended ≡ false → KeepsSome depth ended state →
+    KeepsSomeSlice state.slices state.sets state.decoder
+some-slice depth ended state e k =
+    let s = subst (λ (b : Bool). KeepsSome depth b state) e k in record {
+      depth = depth;
+      frames = s.frames;
+      before = s.before;
+      sets_are = s.keeps.sets;
+      slices_are = s.keeps.slices;
+      keeps = s.keeps.decoder;
+    }
+
+-- no picture ends before it
+pub none-ends : (frames made : Family) (before : History) (unit : NalUnit) → is_ending unit ≡ false → Agree (ended_in before) frames made →
+    Agree (ended_before before unit) frames made
+none-ends frames made before unit e a = subst (λ (b : Bool). Agree (length (ended_pictures (goes_on before) b (runs_of before))) frames made) (sym e) a
 
 -- the pictures with one more slice
 pub runs-with : (before : History) (unit : NalUnit) (h : Header) (ms : List CodedMacroblock) (maps : Maps) (begins : Bool) (sets : Pps × Sps) → begins ≡

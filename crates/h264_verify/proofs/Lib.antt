@@ -2,6 +2,7 @@ pub mod AgreeingUnits
 pub mod Growing
 pub mod Marked
 pub mod Joining
+pub mod Turning
 pub mod Courses
 pub mod ReadingUnits
 pub mod Memory

@@ -1,6 +1,7 @@
 -- Where want of memory comes from.
 use Rattle.std.proofs.Common.{◌≡◌, ℕ, ◌==◌, ◌&&◌, ◌||◌, Bool, true, false, Option, Some, None, List, [], ◌∷◌, Result, Ok, Err, refl, ap, sym, ◌∙◌, subst}
-use Rattle.std.proofs.Common.{if◌then◌else◌}
+use Rattle.std.proofs.Common.{if◌then◌else◌, arith}
+use Rattle.std.proofs.lemmas.Bool.Decides.{nat_tests}
 use Rattle.std.proofs.lemmas.Bool.{and_parts}
 use Rattle.std.specs.Prelude.{IsErrOf}
 use Rattle.h264_verify.specs.declared.state.Depth.{Depth}
@@ -9,7 +10,7 @@ use Rattle.h264_base.specs.declared.stop.Stop.{Stop}
 use Rattle.h264_base.specs.declared.stop.Stop.TheVariants.{No, Outside, Memory, Read, Write}
 use Rattle.h264_base.specs.Call.{Call, span}
 use Rattle.h264_base.specs.Body.{Body}
-use Rattle.h264_base.specs.Grammar.{Grammar}
+use Rattle.h264_base.specs.Grammar.{Grammar, Done, ◌>>=◌ as ◌bind◌}
 use Rattle.h264_base.specs.Meets.{Reader, Meets, Answers, Is}
 use Rattle.h264_units.specs.Stream.{NalUnit}
 use Rattle.h264_rbsp.specs.Rbsp.{body_of}
@@ -21,7 +22,7 @@ use Rattle.h264_header.specs.Layout.{sets_of}
 use Rattle.h264_header.specs.Header.{header as header_syntax}
 use Rattle.h264_sets.specs.Sets.{Maps}
 use Rattle.h264_verify.specs.Content as contents
-use Rattle.h264_verify.specs.Outcome.{IsNamed, gives}
+use Rattle.h264_verify.specs.Outcome.{IsNamed}
 use Rattle.h264_units.specs.UnitHeader.{header_of, nal_unit_type}
 use Rattle.h264_verify.specs.History.{History, maps_of}
 use Rattle.h264_verify.specs.Pictures.{CodedPicture, runs_of, begins_at}
@@ -30,10 +31,12 @@ use Rattle.h264_verify.specs.declared.decoder.Format.{Format}
 use Rattle.h264_verify.specs.Keeping.{KeepsFrames, WhereMade, format_of, format_in}
 use Rattle.h264_verify.specs.declared.state.Extent.{Extent}
 use Rattle.h264_units.specs.UnitHeader.{is_slice}
-use Rattle.h264_verify.specs.Units.{slice_unit, slice_unit_of}
-use Rattle.h264_verify.specs.UnitOutcome.{joined, joined_by, joined_other}
+use Rattle.h264_sps.specs.Sps.{sps}
+use Rattle.h264_pps.specs.Pps.{pps}
+use Rattle.h264_verify.specs.Order.{content}
+use Rattle.h264_verify.specs.Units.{slice_unit, slice_unit_of, other_content, header_content}
 use Rattle.h264_verify.specs.Memory.{reads_slices, is_kind_read, bytes_of, HasAnotherFormat, BeginsAnotherFormat}
-use Rattle.h264_verify.proofs.Joining.{units-other, passed-other}
+use Rattle.h264_base.proofs.Plain.{choose-true}
 use Rattle.h264_verify.specs.Telling.{Family}
 
 -- a reader wants no memory
@@ -71,15 +74,16 @@ pub bytes-by : (depth : Depth) (unit : NalUnit) (byte : ℕ) (o : Option Body) �
     o ≡ (if is_kind_read depth (nal_unit_type byte) then Some (body_of unit) else None)
 bytes-by depth unit byte o e b = subst (λ (x : ℕ). o ≡ (if is_kind_read depth (nal_unit_type x) then Some (body_of unit) else None)) (sym e) b
 
-no-and : (b : Bool) → (b && true) ≡ false → b ≡ false
-no-and true e = e
-no-and false e = refl
+-- a unit that is not read is passed over
+if-read : {A : Type 0} (slice reads : Bool) (a p : A) → (slice && reads) ≡ false → reads ≡ true → (if slice then a else p) ≡ p
+if-read true reads a p e r = cc
+if-read false reads a p e r = refl
 
 other-passed : (depth : Depth) (kind : ℕ) (before : History) (unit : NalUnit) → (is_slice kind && reads_slices depth) ≡ false →
-    joined_other depth kind before unit ≡ joined depth before unit (gives contents.Passed)
-other-passed depths.Units kind before unit e = units-other kind before unit
-other-passed depths.Headers kind before unit e = passed-other depths.Headers kind before unit (no-and (is_slice kind) e)
-other-passed depths.Full kind before unit e = passed-other depths.Full kind before unit (no-and (is_slice kind) e)
+    other_content depth kind before unit ≡ Done contents.Passed
+other-passed depths.Units kind before unit e = refl
+other-passed depths.Headers kind before unit e = if-read (is_slice kind) true _ _ e refl
+other-passed depths.Full kind before unit e = if-read (is_slice kind) true _ _ e refl
 
 third : {A : Type 0} (one two three : Bool) (a b c p : A) → (one || two || three) ≡ false → (three ≡ false → c ≡ p) →
     (if one then a else (if two then b else c)) ≡ p
@@ -87,13 +91,51 @@ third true two three a b c p e f = cc
 third false true three a b c p e f = cc
 third false false three a b c p e f = f e
 
--- a unit that is not read is passed over
-pub passed-by : (extent : Extent) (kind : ℕ) (before : History) (unit : NalUnit) → is_kind_read extent.depth kind ≡ false →
-    joined_by extent kind before unit ≡ joined extent.depth before unit (gives contents.Passed)
-unfolding joined_by
-passed-by extent kind before unit e = third (kind == 7) (kind == 8) (is_slice kind && reads_slices extent.depth) _ _
-    (joined_other extent.depth kind before unit) _
-    e (other-passed extent.depth kind before unit)
+pub passed-content : (extent : Extent) (kind : ℕ) (before : History) (unit : NalUnit) → is_kind_read extent.depth kind ≡ false →
+    content extent kind before unit ≡ Done contents.Passed
+unfolding content
+passed-content extent kind before unit e = third (kind == 7) (kind == 8) (is_slice kind && reads_slices extent.depth) _ _
+    (other_content extent.depth kind before unit) _ e (other-passed extent.depth kind before unit)
+
+-- what is in a set's unit
+pub sps-content : (extent : Extent) (kind : ℕ) (before : History) (unit : NalUnit) → kind ≡ 7 →
+    content extent kind before unit ≡ ◌bind◌ (sps extent.target) (λ set. Done (contents.OfSps set))
+unfolding content
+sps-content extent kind before unit e =
+    subst (λ (k : ℕ). content extent k before unit ≡ ◌bind◌ (sps extent.target) (λ set. Done (contents.OfSps set))) (sym e) refl
+
+pub pps-content : (extent : Extent) (kind : ℕ) (before : History) (unit : NalUnit) → kind ≡ 8 →
+    content extent kind before unit ≡ ◌bind◌ (pps extent.target) (λ set. Done (contents.OfPps set))
+unfolding content
+pps-content extent kind before unit e =
+    subst (λ (k : ℕ). content extent k before unit ≡ ◌bind◌ (pps extent.target) (λ set. Done (contents.OfPps set))) (sym e) refl
+
+-- what is in a slice's
+no-set : {A : Type 0} (one two : Bool) (a b c : A) → one ≡ false → two ≡ false → (if one then a else (if two then b else c)) ≡ c
+no-set true two a b c e f = cc
+no-set false true a b c e f = cc
+no-set false false a b c e f = refl
+
+slice-is-no-set : (kind : ℕ) → is_slice kind ≡ true → ((kind == 7) ≡ false) × ((kind == 8) ≡ false)
+slice-is-no-set kind h = by (kind == 1) refl (kind == 5) refl h
+  where
+    by : (a : Bool) → (kind == 1) ≡ a → (b : Bool) → (kind == 5) ≡ b → (a || b) ≡ true → ((kind == 7) ≡ false) × ((kind == 8) ≡ false)
+    by true e b f t = let one : kind ≡ 1 = grind (arith, nat_tests) in rw one (refl, refl)
+    by false e true f t = let five : kind ≡ 5 = grind (arith, nat_tests) in rw five (refl, refl)
+    by false e false f t = absurd cc
+
+other-slice : (depth : Depth) (kind : ℕ) (before : History) (unit : NalUnit) → reads_slices depth ≡ true → is_slice kind ≡ true →
+    other_content depth kind before unit ≡ header_content before unit
+other-slice depths.Units kind before unit r s = cc
+other-slice depths.Headers kind before unit r s = choose-true (is_slice kind) _ _ s
+other-slice depths.Full kind before unit r s = choose-true (is_slice kind) _ _ s
+
+pub slice-content : (extent : Extent) (kind : ℕ) (before : History) (unit : NalUnit) → reads_slices extent.depth ≡ true → is_slice kind ≡ true →
+    content extent kind before unit ≡ header_content before unit
+unfolding content
+slice-content extent kind before unit r s =
+    let no = slice-is-no-set kind s in
+    no-set (kind == 7) (kind == 8) _ _ (other_content extent.depth kind before unit) no.0 no.1 ∙ other-slice extent.depth kind before unit r s
 
 last-of : (one two three : Bool) → (one || two || three) ≡ true → one ≡ false → two ≡ false → three ≡ true
 last-of true two three e f g = cc

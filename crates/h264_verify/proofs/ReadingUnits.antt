@@ -1,5 +1,6 @@
 -- Structures that are read from a bit on, and a slice with its slice data.
 use Rattle.std.proofs.Common.{◌≡◌, ℕ, Bool, true, false, List, [], ◌∷◌, Some, Result, Ok, Err, refl, ap, sym, ◌∙◌, subst, length, ◌==◌, eqb-true}
+use Rattle.h264_verify.specs.declared.state.Depth.{Depth}
 use Rattle.h264_verify.specs.declared.state.Depth.TheVariants as depths
 use Rattle.h264_base.specs.declared.stop.Stop.{Stop}
 use Rattle.h264_base.specs.declared.stop.Stop.TheVariants.{No, Outside, Memory, Read, Write}
@@ -13,6 +14,8 @@ use Rattle.h264_base.specs.Meets.{Reader, Meets, MeetsBy, Answers, AnswersBy, Is
 use Rattle.h264_units.specs.Stream.{NalUnit}
 use Rattle.h264_rbsp.specs.Rbsp.{body_of}
 use Rattle.h264_sps.specs.declared.sps.Sps.{Sps}
+use Rattle.h264_sps.specs.Sps.{sps}
+use Rattle.h264_pps.specs.Pps.{pps}
 use Rattle.h264_pps.specs.declared.Pps.{Pps}
 use Rattle.h264_header.specs.declared.header.Header.{Header}
 use Rattle.h264_near.specs.Coded.{CodedMacroblock}
@@ -23,25 +26,27 @@ use Rattle.h264_picture.specs.Context.{slice_context}
 use Rattle.h264_vectors.specs.declared.slice.SliceContext.{SliceContext}
 use Rattle.h264_verify.specs.Content.{Content}
 use Rattle.h264_verify.specs.Content as contents
-use Rattle.h264_verify.specs.Outcome.{Outcome, answers, Plays, PlaysBy}
+use Rattle.h264_verify.specs.Outcome.{Outcome, ◌>>=◌, gives, Plays, PlaysBy}
 use Rattle.h264_verify.specs.History.{History, maps_of}
 use Rattle.h264_verify.specs.Pictures.{CodedSlice, CodedPicture, with_sets, sets_at, begins_at, runs_of}
 use Rattle.h264_verify.specs.Slices.{first_mb_demands}
-use Rattle.h264_verify.specs.Order.{slice_steps}
+use Rattle.h264_verify.specs.declared.state.Extent.{Extent}
+use Rattle.h264_verify.specs.Order.{content, data_course}
 use Rattle.h264_verify.specs.Data.{coded_so_far, data_in, data_by, slice_data_at}
 use Rattle.h264_header.specs.declared.header.SliceUnit.{SliceUnit}
 use Rattle.h264_header.specs.Header.{header}
 use Rattle.h264_base.specs.declared.rule.Rule.TheVariants.{FirstMb}
 use Rattle.h264_verify.specs.Demands.{judged}
-use Rattle.h264_units.specs.UnitHeader.{header_of}
+use Rattle.h264_units.specs.UnitHeader.{header_of, nal_unit_type, is_slice}
 use Rattle.h264_verify.specs.Keeping.{coded_before}
 use Rattle.h264_verify.specs.Units.{slice_unit, slice_unit_of}
 use Rattle.h264_verify.proofs.Slicing.{ok-true}
-use Rattle.h264_verify.specs.StepOutcome.{steps_outcome, structure_from, course_outcome}
-use Rattle.h264_verify.specs.UnitOutcome.{header_content, whole_slice}
-use Rattle.h264_verify.proofs.Playing.{plays-on, plays-stops, plays-gives}
+use Rattle.h264_verify.specs.StepOutcome.{structure_from, course_outcome}
+use Rattle.h264_verify.specs.Memory.{reads_slices, is_kind_read}
+use Rattle.h264_verify.proofs.Memory.{passed-content, slice-content, sps-content, pps-content}
+use Rattle.h264_verify.proofs.Playing.{gives-plays}
 use Rattle.h264_verify.proofs.Stepping.{outcome}
-use Rattle.h264_verify.proofs.Courses.{seen, structure-seen}
+use Rattle.h264_verify.proofs.Courses.{seen, structure-seen, reads-then}
 
 -- What meets a grammar from a bit on plays its outcome, with the bit after it.
 module _ {A S X : Type 0} (frames : Family) (took : S → List Call → Type 0) (failures : S → ℕ) (view : X → A) (g : Grammar A) (body : Body) (i j : ℕ)
@@ -108,23 +113,60 @@ pub placed : (begins : Bool) (pictures : List CodedPicture) (h : Header) →
     h.first_mb_in_slice.value ≡ length (coded_so_far begins pictures)
 placed begins pictures h p = place-by h.first_mb_in_slice.value (coded_before begins pictures) h.first_mb_in_slice.bit p ∙ coded-same begins pictures
 
--- the header of a slice was read
-pub header-read : {S X : Type 0} (frames : Family) (took : S → List Call → Type 0) (failures : S → ℕ) (before : History) (unit : NalUnit) (byte : ℕ)
-    (sets : Maps) (u : SliceUnit) (h : Header) (old new : Reader) (s s' : S) (r : Result X Stop) → sets ≡ maps_of before → byte ≡ header_of unit →
-    u ≡ slice_unit_of byte → old ≡ record { body = body_of unit; at = 0 } →
-    Meets (span took failures s s') (Is (λ (x : X). h)) (header (sets_of sets) u) old new r →
+-- a unit that is passed over
+pub passed-read : {S : Type 0} (extent : Extent) (took : S → List Told → Type 0) (failures : S → ℕ) (before : History) (unit : NalUnit) (s : S) →
+    is_kind_read extent.depth (nal_unit_type (header_of unit)) ≡ false →
+    Plays (span took failures s s) (λ (u : Unit {0}). (contents.Passed, 0))
+    (structure_from (content extent (nal_unit_type (header_of unit)) before unit) (body_of unit) 0) (Ok tt)
+unfolding run
+passed-read extent took failures before unit s e =
+    subst (λ (g : Grammar Content). Plays (span took failures s s) (λ (u : Unit {0}). (contents.Passed, 0)) (structure_from g (body_of unit) 0) (Ok tt))
+    (sym (passed-content extent (nal_unit_type (header_of unit)) before unit e)) (gives-plays took failures (λ (u : Unit {0}). (contents.Passed, 0)) tt s)
+
+-- a parameter set was read
+pub sps-read : {S : Type 0} (extent : Extent) (frames : Family) (took : S → List Call → Type 0) (failures : S → ℕ) (before : History) (unit : NalUnit)
+    (old new : Reader) (s s' : S) (r : Result Sps Stop) → nal_unit_type (header_of unit) ≡ 7 → old ≡ record { body = body_of unit; at = 0 } →
+    Meets (span took failures s s') (Is (λ (x : Sps). x)) (sps extent.target) old new r →
+    Answers (span took failures s s') (Is (λ (x : Sps). x)) (sps extent.target) old new r →
+    Plays (span (took_with frames took) failures s s') (λ (x : Sps). (contents.OfSps x, new.at))
+    (structure_from (content extent (nal_unit_type (header_of unit)) before unit) (body_of unit) 0) r
+sps-read extent frames took failures before unit old new s s' r kind o meets answers =
+    subst (λ (g : Grammar Content). Plays (span (took_with frames took) failures s s') (λ (x : Sps). (contents.OfSps x, new.at))
+    (structure_from g (body_of unit) 0) r) (sym (sps-content extent (nal_unit_type (header_of unit)) before unit kind))
+    (plays-seen (took_with frames took) failures (λ (x : Sps). (x, new.at)) contents.OfSps (sps extent.target) (body_of unit) 0 s s' r
+    (meets-from frames took failures (λ (x : Sps). x) (sps extent.target) (body_of unit) 0 old new s s' r o meets answers))
+
+pub pps-read : {S : Type 0} (extent : Extent) (frames : Family) (took : S → List Call → Type 0) (failures : S → ℕ) (before : History) (unit : NalUnit)
+    (old new : Reader) (s s' : S) (r : Result Pps Stop) → nal_unit_type (header_of unit) ≡ 8 → old ≡ record { body = body_of unit; at = 0 } →
+    Meets (span took failures s s') (Is (λ (x : Pps). x)) (pps extent.target) old new r →
+    Answers (span took failures s s') (Is (λ (x : Pps). x)) (pps extent.target) old new r →
+    Plays (span (took_with frames took) failures s s') (λ (x : Pps). (contents.OfPps x, new.at))
+    (structure_from (content extent (nal_unit_type (header_of unit)) before unit) (body_of unit) 0) r
+pps-read extent frames took failures before unit old new s s' r kind o meets answers =
+    subst (λ (g : Grammar Content). Plays (span (took_with frames took) failures s s') (λ (x : Pps). (contents.OfPps x, new.at))
+    (structure_from g (body_of unit) 0) r) (sym (pps-content extent (nal_unit_type (header_of unit)) before unit kind))
+    (plays-seen (took_with frames took) failures (λ (x : Pps). (x, new.at)) contents.OfPps (pps extent.target) (body_of unit) 0 s s' r
+    (meets-from frames took failures (λ (x : Pps). x) (pps extent.target) (body_of unit) 0 old new s s' r o meets answers))
+
+-- the header of a slice was read, where slices are read
+pub header-read : {S X : Type 0} (extent : Extent) (frames : Family) (took : S → List Call → Type 0) (failures : S → ℕ) (before : History) (unit : NalUnit)
+    (byte : ℕ) (sets : Maps) (u : SliceUnit) (h : Header) (old new : Reader) (s s' : S) (r : Result X Stop) → reads_slices extent.depth ≡ true →
+    is_slice (nal_unit_type (header_of unit)) ≡ true → sets ≡ maps_of before → byte ≡ header_of unit → u ≡ slice_unit_of byte →
+    old ≡ record { body = body_of unit; at = 0 } → Meets (span took failures s s') (Is (λ (x : X). h)) (header (sets_of sets) u) old new r →
     Answers (span took failures s s') (Is (λ (x : X). h)) (header (sets_of sets) u) old new r →
     Plays (span (took_with frames took) failures s s') (λ (x : X). (contents.OfSlice h [], new.at))
-    (structure_from (header_content before unit) (body_of unit) 0) r
-header-read {X} frames took failures before unit byte sets u h old new s s' r m b e o meets answers =
+    (structure_from (content extent (nal_unit_type (header_of unit)) before unit) (body_of unit) 0) r
+header-read {X} extent frames took failures before unit byte sets u h old new s s' r reads slice m b e o meets answers =
     let unit-is : u ≡ slice_unit unit = e ∙ ap slice_unit_of b in
     let p = meets-from frames took failures (λ (x : X). h) (header (sets_of sets) u) (body_of unit) 0 old new s s' r o meets answers in
     let q = subst (λ (w : Maps). Plays (span (took_with frames took) failures s s') (λ (x : X). (h, new.at))
     (structure_from (header (sets_of w) u) (body_of unit) 0) r) m p in
     let w = subst (λ (v : SliceUnit). Plays (span (took_with frames took) failures s s') (λ (x : X). (h, new.at))
     (structure_from (header (sets_of (maps_of before)) v) (body_of unit) 0) r) unit-is q in
-    plays-seen (took_with frames took) failures (λ (x : X). (h, new.at)) (λ k. contents.OfSlice k []) (header (sets_of (maps_of before)) (slice_unit unit))
-    (body_of unit) 0 s s' r w
+    subst (λ (g : Grammar Content). Plays (span (took_with frames took) failures s s') (λ (x : X). (contents.OfSlice h [], new.at))
+    (structure_from g (body_of unit) 0) r) (sym (slice-content extent (nal_unit_type (header_of unit)) before unit reads slice))
+    (plays-seen (took_with frames took) failures (λ (x : X). (h, new.at)) (λ k. contents.OfSlice k []) (header (sets_of (maps_of before)) (slice_unit unit))
+    (body_of unit) 0 s s' r w)
 
 -- the same structure at the same bit
 pub data-there : {S X : Type 0} (took : S → List Told → Type 0) (failures : S → ℕ) (view : X → List CodedMacroblock × ℕ) (pictures : List CodedPicture)
@@ -135,47 +177,30 @@ data-there took failures view pictures s begins there body at_body bit s1 s2 r e
     subst (λ (x : Bool). Plays (span took failures s1 s2) view (structure_from (data_in x pictures s) at_body bit) r) e
     (subst (λ (w : Body). Plays (span took failures s1 s2) view (structure_from (data_in begins pictures s) w bit) r) b p)
 
--- A slice with its slice data, part by part.
-module _ {S : Type 0} (took : S → List Told → Type 0) (failures : S → ℕ) (before : History) (unit : NalUnit) (h : Header) (bit : ℕ) where
-  abbrev header_view : Unit {0} → Content × ℕ
-  header_view x = (contents.OfSlice h [], bit)
+-- Slice data were read, or stop, and the slice joins the units before it.
+module _ {S : Type 0} (took : S → List Told → Type 0) (failures : S → ℕ) (before : History) (unit : NalUnit) (h : Header) (sets : Pps × Sps)
+    (named : sets_at before h ≡ Some sets) (ms : List CodedMacroblock) (bit end : ℕ) (s s' : S) where
+  abbrev body_data : Grammar (List CodedMacroblock)
+  body_data = data_in (begins_at before h) (runs_of before) (with_sets unit h [] sets)
 
-  -- its header is no header
-  pub slice-stops : (s s' : S) (e : Stop) →
-      Plays {X = Unit {0}} (span took failures s s') header_view (structure_from (header_content before unit) (body_of unit) 0) (Err e) →
-      Plays {X = Unit {0}} (span took failures s s') (λ x. []) (whole_slice before unit) (Err e)
-  unfolding whole_slice
-  slice-stops s s' e p = plays-stops took failures header_view (λ x. []) _ _ s s' e p
+  data-is : slice_data_at before unit h ≡ body_data
+  unfolding slice_data_at
+  data-is = ap (λ o. data_by o before unit h) named
 
-  module _ (s s1 : S) (x : Unit {0}) (read : Plays (span took failures s s1) header_view (structure_from (header_content before unit) (body_of unit) 0)
-      (Ok x)) where
-    -- a rule on it is broken
-    pub slice-broken : (s2 : S) (e : Stop) →
-        Plays {X = Unit {0}} (span took failures s1 s2) (λ x. x) (steps_outcome (slice_steps depths.Full before unit h)) (Err e) →
-        Plays {X = Unit {0}} (span took failures s s2) (λ x. []) (whole_slice before unit) (Err e)
-    unfolding whole_slice
-    slice-broken s2 e p = plays-on took failures header_view (λ x. []) _ _ s s1 s2 x (Err e) read
-        (plays-stops took failures (λ (x : Unit {0}). x) (λ x. []) _ _ s1 s2 e p)
+  abbrev one_more : Content → History
+  one_more found = record { unit = unit; content = found } ∷ before
 
-    module _ (s2 : S) (y : Unit {0}) (met : Plays (span took failures s1 s2) (λ (x : Unit {0}). x) (steps_outcome (slice_steps depths.Full before unit h))
-        (Ok y)) (sets : Pps × Sps) (named : sets_at before h ≡ Some sets) (ms : List CodedMacroblock) (end : ℕ) (s3 : S) where
-      abbrev body_data : Grammar (List CodedMacroblock)
-      body_data = data_in (begins_at before h) (runs_of before) (with_sets unit h [] sets)
+  abbrev Joined : Depth → Result (Unit {0}) Stop → Type 0
+  Joined depth r = Plays (span took failures s s') (λ (x : Unit {0}). one_more (contents.OfSlice h ms))
+      (course_outcome (body_of unit) (data_course depth before unit (contents.OfSlice h []) bit) >>= λ found. gives (one_more found)) r
 
-      data-is : slice_data_at before unit h ≡ body_data
-      unfolding slice_data_at
-      data-is = ap (λ o. data_by o before unit h) named
-
-      -- slice data were read, or stop
-      pub slice-reads : (r : Result (Unit {0}) Stop) → Plays (span took failures s2 s3) (λ x. (ms, end)) (structure_from body_data (body_of unit) bit) r →
-          Plays (span took failures s s3) (λ x. record { unit = unit; content = contents.OfSlice h ms } ∷ before) (whole_slice before unit) r
-      unfolding whole_slice course_outcome
-      slice-reads r p =
-          let d = subst (λ (g : Grammar (List CodedMacroblock)). Plays (span took failures s2 s3) (λ (x : Unit {0}). (ms, end))
-          (structure_from g (body_of unit) bit) r) (sym data-is) p in
-          let content = plays-seen took failures (λ (x : Unit {0}). (ms, end)) (contents.OfSlice h) (slice_data_at before unit h) (body_of unit) bit s2 s3 r
-          d in
-          plays-on took failures header_view (λ x. record { unit = unit; content = contents.OfSlice h ms } ∷ before) _ _ s s1 s3 x r read
-          (plays-on took failures (λ (x : Unit {0}). x) (λ x. record { unit = unit; content = contents.OfSlice h ms } ∷ before) _ _ s1 s2 s3 y r met
-          (plays-gives took failures (λ (x : Unit {0}). contents.OfSlice h ms) (λ c. record { unit = unit; content = c } ∷ before) _ s2 s3 r
-          (plays-gives took failures (λ (x : Unit {0}). (contents.OfSlice h ms, end)) (λ (w : Content × ℕ). w.0) _ s2 s3 r content)))
+  pub data-joins : (depth : Depth) → depth ≡ depths.Full → (r : Result (Unit {0}) Stop) →
+      Plays (span took failures s s') (λ x. (ms, end)) (structure_from body_data (body_of unit) bit) r → Joined depth r
+  data-joins depth full r p =
+      let d = subst (λ (g : Grammar (List CodedMacroblock)). Plays (span took failures s s') (λ (x : Unit {0}). (ms, end))
+      (structure_from g (body_of unit) bit) r) (sym data-is) p in
+      subst (λ (m : Depth). Joined m r) (sym full) (reads-then took failures (body_of unit) (λ found. gives (one_more found))
+      (◌bind◌ (slice_data_at before unit h) (λ k. Done (contents.OfSlice h k))) bit (λ (x : Unit {0}). (contents.OfSlice h ms, end))
+      (λ (x : Unit {0}). one_more (contents.OfSlice h ms)) s s' r
+      (plays-seen took failures (λ (x : Unit {0}). (ms, end)) (contents.OfSlice h) (slice_data_at before unit h) (body_of unit) bit s s' r d)
+      (λ x is. gives-plays took failures (λ (x : Unit {0}). one_more (contents.OfSlice h ms)) x s'))

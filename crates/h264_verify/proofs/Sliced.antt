@@ -1,5 +1,5 @@
 -- A slice has taken its place, and its rules are judged.
-use Rattle.std.proofs.Common.{◌≡◌, ℕ, Bool, true, false, List, [], ◌∷◌, Option, Some, Result, OnOk, sym, subst}
+use Rattle.std.proofs.Common.{◌≡◌, ℕ, ◌+◌, Bool, true, false, List, [], ◌∷◌, length, Some, Result, ap, sym, ◌∙◌, subst}
 use Rattle.h264_verify.specs.declared.state.Depth.{Depth}
 use Rattle.h264_base.specs.declared.stop.Stop.{Stop}
 use Rattle.h264_base.specs.Call.{Call, span}
@@ -14,19 +14,21 @@ use Rattle.h264_header.specs.Layout.{sets_of}
 use Rattle.h264_header.specs.Picture.{is_idr}
 use Rattle.h264_marking.specs.Ended.{numbering_of}
 use Rattle.h264_marking.specs.Gaps.{all_filled, unused_short_term_frame_nums}
-use Rattle.h264_verify.specs.declared.decoder.Decoder.{Decoder}
 use Rattle.h264_verify.specs.declared.slices.Slices.{Slices}
 use Rattle.h264_verify.specs.declared.state.State.{State}
 use Rattle.h264_verify.specs.Telling.{took_with, frame_span, Family}
 use Rattle.h264_verify.specs.Outcome.{Plays}
 use Rattle.h264_verify.specs.StepOutcome.{steps_outcome}
 use Rattle.h264_verify.specs.Content as contents
-use Rattle.h264_verify.specs.History.{History, maps_of}
-use Rattle.h264_verify.specs.Pictures.{CodedSlice, with_sets, begins_at, joined_to, goes_on, runs_of}
-use Rattle.h264_verify.specs.Keeping.{KeepsSlices, KeepsPictures, WhereMade, EntersBy, GoesWith, KeepsSomeRules, told_rules}
-use Rattle.h264_verify.specs.Framing.{JudgesSlice, PlacesSlice, slice_after}
+use Rattle.h264_verify.specs.History.{History, maps_of, maps_with}
+use Rattle.h264_verify.specs.Pictures.{CodedSlice, CodedPicture, with_sets, begins_at, joined_to, goes_on, runs_of}
+use Rattle.h264_verify.specs.KeepingUnits.{Keeps}
+use Rattle.h264_verify.specs.Keeping.{KeepsSlices, KeepsPictures, KeepsFrames, WhereMade, GoesWith, KeepsSomeRules, told_rules}
+use Rattle.h264_verify.specs.Framing.{PlacesSlice, slice_after}
+use Rattle.h264_verify.specs.Order.{slice_steps}
 use Rattle.h264_verify.specs.Sound.{IsMarked, NamesSet, AreSound}
 use Rattle.h264_verify.proofs.Entering.{slice-keeps}
+use Rattle.h264_verify.proofs.Joining.{units-with, runs-with}
 use Rattle.h264_verify.proofs.Ruling.{goes-with}
 use Rattle.h264_verify.proofs.Standing.{stands-if, before-active, joined-sound, gap-filled, joined-active, joined-named}
 use Rattle.h264_verify.proofs.Judged.{closed-on, own-then}
@@ -51,19 +53,13 @@ module _ {S : Type 0} (depth : Depth) (took : S → List Call → Type 0) (failu
 
       module _ (b : begins ≡ begins_at before h) where
         -- what comes to pass of it
-        pub judges-rules : (new : Option Decoder) (s2 : S) (r : Result (Unit {0}) Stop) →
+        pub slice-plays : (s2 : S) (r : Result (Unit {0}) Stop) →
             Plays (span (took_with placed.closes.made took) failures s1 s2) (λ (x : Unit {0}). x)
             (steps_outcome (told_rules depth begins (runs_of before) (slice []))) r →
-            OnOk r (WhereMade depth (EntersBy placed.closes.made begins (slice []) (goes_on before) (runs_of before)) new) →
-            JudgesSlice depth (frame_span took failures frames s s2) (slice_after before unit h begins) (pps, sps) new r
-        judges-rules new s2 r plays enters = record {
-          made = placed.closes.made;
-          same = placed.closes.same;
-          plays = closed-on (took_with placed.closes.made took) failures depth before unit h begins b s s1 s2 tt r placed.closes.plays
-              (own-then (took_with placed.closes.made took) failures depth before unit h begins b mid.slices.due old.sets placed.ended.due m (pps, sps) sets tt
-              (placed.stands (pps, sps) sets) tt placed.first s1 s2 r plays);
-          enters = enters;
-        }
+            Plays (span (took_with placed.closes.made took) failures s s2) (λ (x : Unit {0}). x) (steps_outcome (slice_steps depth before unit h)) r
+        slice-plays s2 r plays = closed-on (took_with placed.closes.made took) failures depth before unit h begins b s s1 s2 tt r placed.closes.plays
+            (own-then (took_with placed.closes.made took) failures depth before unit h begins b mid.slices.due old.sets placed.ended.due m (pps, sps) sets tt
+            (placed.stands (pps, sps) sets) tt placed.first s1 s2 r plays)
 
         -- it is sound with the pictures before it
         pub sound-slice : (ms : List CodedMacroblock) (new : Slices) → IsMarked h → is_usable sps ≡ true →
@@ -88,3 +84,19 @@ module _ {S : Type 0} (depth : Depth) (took : S → List Call → Type 0) (failu
             (joined-active old.sets (slice ms) sets begins (goes_on before) (runs_of before) _ _ b active stands)
             (joined-named old.sets (slice ms) sets begins (goes_on before) (runs_of before) b
             (subst (λ (x : Maps). NamesSet (goes_on before) (runs_of before) x) (sym m) placed.ended.named))
+
+        -- and of all units with it
+        pub keeps-with : (ms : List CodedMacroblock) (new : State) → IsMarked h → is_usable sps ≡ true →
+            KeepsPictures true false (joined_to begins (slice ms) (runs_of before)) new.slices → new.slices.due ≡ false →
+            (begins ≡ true → all_filled (numbering_of sps h) (unused_short_term_frame_nums (is_idr h) mid.slices.prev_ref_frame_num (numbering_of sps h))
+            mid.slices.held ≡ Some new.slices.held) → new.sets ≡ maps_with old.sets (contents.OfSlice h []) → new.units ≡ old.units + 1 →
+            old.units ≡ length before →
+            WhereMade depth (KeepsFrames placed.closes.made true false (joined_to begins (slice ms) (runs_of before))) new.decoder →
+            Keeps depth placed.closes.made (record { unit = unit; content = contents.OfSlice h ms } ∷ before) new
+        keeps-with ms new marked usable kept due filled sets-are counted units frames-are = record {
+          units = units-with before (record { unit = unit; content = contents.OfSlice h ms }) old.units new.units counted units;
+          sets = sets-are ∙ ap (λ x. maps_with x (contents.OfSlice h ms)) m;
+          slices = keeps-slice ms new.slices marked usable kept due filled;
+          decoder = subst (λ (ps : List CodedPicture). WhereMade depth (KeepsFrames placed.closes.made true false ps) new.decoder)
+              (runs-with before unit h ms old.sets begins (pps, sps) b m sets) frames-are;
+        }

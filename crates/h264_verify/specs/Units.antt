@@ -34,11 +34,13 @@ slice_unit_of header = record { idr_pic_flag = nal_unit_type header == 5; nal_re
 abbrev pub slice_unit : NalUnit → SliceUnit
 slice_unit unit = slice_unit_of (header_of unit)
 
--- the header of a slice, and what is passed over in another unit
+-- the header of a slice, by the sets so far
+abbrev pub header_content : History → NalUnit → Grammar Content
+header_content before unit = header (sets_of (maps_of before)) (slice_unit unit) >>= (λ h. Done (contents.OfSlice h []))
+
+-- it stands in a slice's unit; what is in another one is passed over
 abbrev pub header_or_passed : ℕ → History → NalUnit → Grammar Content
-header_or_passed kind before unit =
-    if is_slice kind then header (sets_of (maps_of before)) (slice_unit unit) >>= (λ h. Done (contents.OfSlice h []))
-    else Done contents.Passed
+header_or_passed kind before unit = if is_slice kind then header_content before unit else Done contents.Passed
 
 -- the syntax structure in a unit that is no parameter set
 abbrev pub other_content : Depth → ℕ → History → NalUnit → Grammar Content

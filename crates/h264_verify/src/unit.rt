@@ -4,34 +4,27 @@
 ghost use Rattle.std.specs.Prelude.{◌≡◌, true, false, IsTrue, ℕ, ◌+◌, ◌-◌, ◌*◌, ◌<◌, ◌≤◌, ◌^◌, List, [], ◌∷◌, length, ◌==◌, ◌||◌, OnOk, IfOk, IfErr};
 ghost use Rattle.h264_base.specs.Call.{HasRoom, IsQuiet, span};
 ghost use Rattle.std.specs.Prelude.{IsErrOf, Ok, Err, if◌then◌else◌};
-ghost use Rattle.std.specs.Option.{is_some};
 ghost use Rattle.h264_rbsp.specs.Rbsp.{body_of};
-ghost use Rattle.h264_header.specs.Layout.{sets_of};
-ghost use Rattle.h264_units.specs.Stream.{NalUnit as UnitView};
 ghost use Rattle.h264_verify.specs.Outcome.{Plays, tells};
 ghost use Rattle.h264_verify.specs.Demands.{judged};
-ghost use Rattle.h264_units.specs.UnitHeader.{header_of, nal_unit_type, nal_ref_idc};
+ghost use Rattle.h264_units.specs.UnitHeader.{header_of, nal_unit_type, nal_ref_idc, is_slice};
 ghost use Rattle.h264_units.specs.UnitTypes.{type_number};
 ghost use Rattle.h264_units.specs.UnitHeader.{fits_kind};
 ghost use Rattle.h264_verify.specs.Order.{header_demands};
 ghost use Rattle.h264_verify.specs.History.{History, maps_of};
-ghost use Rattle.h264_verify.specs.Content as contents;
 ghost use Rattle.h264_plane.specs.declared.frame.Frame.{Frame};
 ghost use Rattle.h264_dpb.specs.Turns.{Turn, last_turn};
 ghost use Rattle.h264_verify.specs.Telling.{Said, with_frames, frame_span, Family};
 ghost use Rattle.h264_verify.specs.Buffering.{told_frames, after_all, frames_written};
-ghost use Rattle.h264_verify.specs.Sound.{IsMarked};
 ghost use Rattle.h264_verify.specs.KeepingUnits.{Keeps, KeepsWithin, KeepsSome};
-ghost use Rattle.h264_verify.specs.Keeping.{WhereMade, FillsFrames, HasWritten, KeepsSomeGap, IsLeft, ended_pictures, ended_in};
-ghost use Rattle.h264_verify.specs.Pictures.{CodedPicture, goes_on, runs_of};
+ghost use Rattle.h264_verify.specs.Keeping.{WhereMade, FillsFrames, HasWritten, KeepsSomeGap, KeepsSomeSlice, IsLeft};
+ghost use Rattle.h264_verify.specs.Pictures.{CodedPicture};
 ghost use Rattle.h264_units.specs.UnitHeader.{ends_picture};
-ghost use Rattle.h264_verify.specs.Turning.{Turns, Joins, EndsAll};
+ghost use Rattle.h264_verify.specs.Turning.{Turns, Joins, EndsAll, is_ending};
 ghost use Rattle.h264_verify.specs.Units.{unit_call, slice_unit_of, has_pictures};
-ghost use Rattle.h264_verify.specs.Memory.{bytes_of, BeginsAnotherFormat, ChangesFormat};
+ghost use Rattle.h264_verify.specs.Memory.{bytes_of, reads_slices, ChangesFormat};
 ghost use Rattle.h264_verify.specs.StepOutcome.{steps_outcome};
-ghost use Rattle.h264_verify.specs.UnitOutcome.{sps_outcome, pps_outcome, slice_outcome, whole_slice, joined, joined_by};
 ghost use Rattle.h264_verify.specs.declared.state.Depth.{Depth};
-ghost use Rattle.h264_verify.specs.declared.state.Depth.TheVariants as depths;
 
 use crate::close::close_if;
 use crate::data::read_data;
@@ -88,29 +81,6 @@ fn slice_unit(header: u8) -> SliceUnit
     }
 }
 
-/// Reads the header of a slice into a place of the caller.
-fn read_slice_unit<S: FrameSink>(
-    header: u8,
-    sets: &Sets,
-    rbsp: &Rbsp,
-    found: &mut Header,
-    sink: &mut S,
-) -> Result<(), Stop>
-    requires { HasRoom S.failures sink.old }
-    ensures plays { (frames : Family) (before : History) (unit : UnitView) → sets.now ≡ maps_of before → header ≡ header_of unit →
-        rbsp.now ≡ body_of unit →
-        Plays (with_frames frames (span S.took S.failures sink.old sink.new)) (λ _. contents.OfSlice found.new []) (slice_outcome before unit) result }
-    ensures id { OnOk result (found.new.pic_parameter_set_id.value ≤ 255) }
-    ensures named { OnOk result (is_some (sets_of sets.now found.new.pic_parameter_set_id.value) ≡ true) }
-    ensures marked { fits_kind (nal_unit_type header) (nal_ref_idc header) ≡ true → OnOk result (IsMarked found.new) }
-    ensures no_memory { IsErrOf result Stop.Memory → ⊥ }
-    ensures kept { OnOk result (IsQuiet S.failures sink.old sink.new) }
-{
-    let mut bits = Bits::new(rbsp);
-    let slice_unit = slice_unit(header);
-    read_header(&mut bits, sets, slice_unit, found, sink)
-}
-
 /// Adds a unit that is no slice to those before it.
 fn pass(state: &mut State, kind: NalUnitType)
     requires { state.old.units ≤ 2 ^ 40 }
@@ -130,7 +100,6 @@ fn pass(state: &mut State, kind: NalUnitType)
 fn join_sps<S: FrameSink>(
     extent: Extent,
     state: &mut State,
-    kind: NalUnitType,
     unit: &NalUnit,
     rbsp: &Rbsp,
     sink: &mut S,
@@ -138,12 +107,10 @@ fn join_sps<S: FrameSink>(
     requires room { HasRoom S.failures sink.old }
     requires units { state.old.units ≤ 2 ^ 40 }
     requires pictures { state.old.slices.pictures ≤ state.old.units }
-    requires kind { type_number kind ≡ nal_unit_type (header_of unit.now) }
+    requires kind { nal_unit_type (header_of unit.now) ≡ 7 }
     requires rbsp { rbsp.now ≡ body_of unit.now }
-    ensures joins { (frames : Family) (before : History) → KeepsWithin extent.depth frames before (ends_picture (type_number kind)) state.old →
-        Joins extent.depth (frame_span S.took S.failures frames sink.old sink.new)
-        (length (ended_pictures (goes_on before) (ends_picture (type_number kind)) (runs_of before)))
-        (joined extent.depth before unit.now (sps_outcome extent.target unit.now)) state.new result }
+    ensures joins { (frames : Family) (before : History) → KeepsWithin extent.depth frames before (is_ending unit.now) state.old →
+        Joins extent (frame_span S.took S.failures frames sink.old sink.new) before unit.now state.new result }
     ensures counts { OnOk result (state.new.units ≡ state.old.units + 1) }
     ensures pictures { OnOk result (state.new.slices.pictures ≤ state.new.units) }
     ensures no_memory { IsErrOf result Stop.Memory → ⊥ }
@@ -152,7 +119,7 @@ fn join_sps<S: FrameSink>(
     let mut bits = Bits::new(rbsp);
     let set = read_sps(extent.target, &mut bits, sink)?;
     state.sets.put_sps(set);
-    pass(state, kind);
+    pass(state, NalUnitType::SequenceSet);
     Ok(())
 }
 
@@ -160,7 +127,6 @@ fn join_sps<S: FrameSink>(
 fn join_pps<S: FrameSink>(
     extent: Extent,
     state: &mut State,
-    kind: NalUnitType,
     unit: &NalUnit,
     rbsp: &Rbsp,
     sink: &mut S,
@@ -168,13 +134,10 @@ fn join_pps<S: FrameSink>(
     requires room { HasRoom S.failures sink.old }
     requires units { state.old.units ≤ 2 ^ 40 }
     requires pictures { state.old.slices.pictures ≤ state.old.units }
-    requires ends { ends_picture (type_number kind) ≡ true }
-    requires kind { type_number kind ≡ nal_unit_type (header_of unit.now) }
+    requires kind { nal_unit_type (header_of unit.now) ≡ 8 }
     requires rbsp { rbsp.now ≡ body_of unit.now }
-    ensures joins { (frames : Family) (before : History) → KeepsWithin extent.depth frames before (ends_picture (type_number kind)) state.old →
-        Joins extent.depth (frame_span S.took S.failures frames sink.old sink.new)
-        (length (ended_pictures (goes_on before) (ends_picture (type_number kind)) (runs_of before)))
-        (joined extent.depth before unit.now (pps_outcome extent.target unit.now)) state.new result }
+    ensures joins { (frames : Family) (before : History) → KeepsWithin extent.depth frames before (is_ending unit.now) state.old →
+        Joins extent (frame_span S.took S.failures frames sink.old sink.new) before unit.now state.new result }
     ensures counts { OnOk result (state.new.units ≡ state.old.units + 1) }
     ensures pictures { OnOk result (state.new.slices.pictures ≤ state.new.units) }
     ensures no_memory { IsErrOf result Stop.Memory → ⊥ }
@@ -183,57 +146,12 @@ fn join_pps<S: FrameSink>(
     let mut bits = Bits::new(rbsp);
     let set = read_pps(extent.target, &mut bits, sink)?;
     state.sets.put_pps(set);
-    pass(state, kind);
+    pass(state, NalUnitType::PictureSet);
     Ok(())
 }
 
-/// Reads and judges the header of a slice, and adds the slice to the units before it.
+/// Reads and judges a slice from the first bit of its unit on, with its slice data where pictures are decoded, and adds it to the units before it.
 fn join_slice<S: FrameSink>(
-    state: &mut State,
-    header: u8,
-    unit: &NalUnit,
-    rbsp: &Rbsp,
-    sink: &mut S,
-) -> Result<(), Stop>
-    requires room { HasRoom S.failures sink.old }
-    requires units { state.old.units ≤ 2 ^ 40 }
-    requires pictures { state.old.slices.pictures ≤ state.old.units }
-    requires goes_on { ends_picture (nal_unit_type header) ≡ false }
-    requires header { header ≡ header_of unit.now }
-    requires rbsp { rbsp.now ≡ body_of unit.now }
-    requires fits { fits_kind (nal_unit_type header) (nal_ref_idc header) ≡ true }
-    requires kept { KeepsSome depths.Headers false state.old }
-    ensures joins { (frames : Family) (before : History) → KeepsWithin depths.Headers frames before (ends_picture (nal_unit_type header)) state.old →
-        Joins depths.Headers (frame_span S.took S.failures frames sink.old sink.new) (ended_in before)
-        (joined depths.Headers before unit.now (slice_outcome before unit.now)) state.new result }
-    ensures counts { OnOk result (state.new.units ≡ state.old.units + 1) }
-    ensures pictures { OnOk result (state.new.slices.pictures ≤ state.new.units) }
-    ensures no_memory { IsErrOf result Stop.Memory → ⊥ }
-    ensures kept { OnOk result (IsQuiet S.failures sink.old sink.new) }
-{
-    read_slice_unit(header, &state.sets, rbsp, &mut state.slice.header, sink)?;
-    let begins = begins(&state.slices.picture, &state.slice.header);
-    place_slice(begins, state, unit, sink)?;
-    let (pps, sps) = sets_named(&state.sets, &state.slice.header);
-    let place = SlicePlace {
-        unit,
-        pps,
-        sps,
-        begins,
-    };
-    judge_rules(
-        &place,
-        &mut state.slices,
-        &mut state.slice,
-        &mut state.decoder,
-        sink,
-    )?;
-    state.units += 1;
-    Ok(())
-}
-
-/// Reads and judges a slice with its slice data from the first bit of its unit on, and adds it to the units before it.
-fn join_read<S: FrameSink>(
     alloc: Global,
     state: &mut State,
     header: u8,
@@ -245,16 +163,17 @@ fn join_read<S: FrameSink>(
     requires room { HasRoom S.failures sink.old }
     requires units { state.old.units ≤ 2 ^ 40 }
     requires pictures { state.old.slices.pictures ≤ state.old.units }
-    requires goes_on { ends_picture (nal_unit_type header) ≡ false }
     requires header { header ≡ header_of unit.now }
+    requires slice { is_slice (nal_unit_type (header_of unit.now)) ≡ true }
     requires fits { fits_kind (nal_unit_type header) (nal_ref_idc header) ≡ true }
-    requires kept { KeepsSome depths.Full false state.old }
-    ensures joins { (frames : Family) (before : History) → KeepsWithin depths.Full frames before (ends_picture (nal_unit_type header)) state.old →
-        Joins depths.Full (frame_span S.took S.failures frames sink.old sink.new) (ended_in before) (whole_slice before unit.now) state.new result }
+    requires kept { KeepsSomeSlice state.old.slices state.old.sets state.old.decoder }
+    ensures joins { (extent : Extent) (frames : Family) (before : History) → reads_slices extent.depth ≡ true →
+        KeepsWithin extent.depth frames before (is_ending unit.now) state.old →
+        Joins extent (frame_span S.took S.failures frames sink.old sink.new) before unit.now state.new result }
     ensures counts { OnOk result (state.new.units ≡ state.old.units + 1) }
     ensures pictures { OnOk result (state.new.slices.pictures ≤ state.new.units) }
-    ensures no_memory { (frames : Family) (before : History) → KeepsWithin depths.Full frames before (ends_picture (nal_unit_type header)) state.old →
-        IsErrOf result Stop.Memory → BeginsAnotherFormat before unit.now }
+    ensures no_memory { (depth : Depth) (frames : Family) (before : History) → KeepsWithin depth frames before (is_ending unit.now) state.old →
+        IsErrOf result Stop.Memory → ChangesFormat depth before unit.now }
     ensures kept { OnOk result (IsQuiet S.failures sink.old sink.new) }
 {
     let slice_unit = slice_unit(header);
@@ -276,39 +195,10 @@ fn join_read<S: FrameSink>(
         sink,
     )?;
     state.units += 1;
-    let Some(decoder) = &mut state.decoder else {
-        unreachable!()
-    };
-    read_data(alloc, &place, &state.slice, decoder, bits, sink)
-}
-
-/// Reads and judges a slice with its slice data, and adds it to the units before it.
-fn join_whole_slice<S: FrameSink>(
-    alloc: Global,
-    state: &mut State,
-    header: u8,
-    unit: &NalUnit,
-    rbsp: &Rbsp,
-    sink: &mut S,
-) -> Result<(), Stop>
-    requires room { HasRoom S.failures sink.old }
-    requires units { state.old.units ≤ 2 ^ 40 }
-    requires pictures { state.old.slices.pictures ≤ state.old.units }
-    requires goes_on { ends_picture (nal_unit_type header) ≡ false }
-    requires header { header ≡ header_of unit.now }
-    requires rbsp { rbsp.now ≡ body_of unit.now }
-    requires fits { fits_kind (nal_unit_type header) (nal_ref_idc header) ≡ true }
-    requires kept { KeepsSome depths.Full false state.old }
-    ensures joins { (frames : Family) (before : History) → KeepsWithin depths.Full frames before (ends_picture (nal_unit_type header)) state.old →
-        Joins depths.Full (frame_span S.took S.failures frames sink.old sink.new) (ended_in before) (whole_slice before unit.now) state.new result }
-    ensures counts { OnOk result (state.new.units ≡ state.old.units + 1) }
-    ensures pictures { OnOk result (state.new.slices.pictures ≤ state.new.units) }
-    ensures no_memory { (frames : Family) (before : History) → KeepsWithin depths.Full frames before (ends_picture (nal_unit_type header)) state.old →
-        IsErrOf result Stop.Memory → BeginsAnotherFormat before unit.now }
-    ensures kept { OnOk result (IsQuiet S.failures sink.old sink.new) }
-{
-    let mut bits = Bits::new(rbsp);
-    join_read(alloc, state, header, unit, &mut bits, sink)
+    match &mut state.decoder {
+        None => Ok(()),
+        Some(decoder) => read_data(alloc, &place, &state.slice, decoder, bits, sink),
+    }
 }
 
 /// The bytes of a NAL unit, as they are read (7.3.1).
@@ -335,16 +225,12 @@ fn join<S: FrameSink>(
     requires header { bytes.now.header ≡ header_of bytes.now.unit.now }
     requires bytes { bytes.now.rbsp.now ≡ bytes_of extent.depth bytes.now.unit.now }
     requires fits { fits_kind (nal_unit_type bytes.now.header) (nal_ref_idc bytes.now.header) ≡ true }
-    requires kept { KeepsSome extent.depth (ends_picture (nal_unit_type bytes.now.header)) state.old }
-    ensures joins { (frames : Family) (before : History) →
-        KeepsWithin extent.depth frames before (ends_picture (nal_unit_type bytes.now.header)) state.old →
-        Joins extent.depth (frame_span S.took S.failures frames sink.old sink.new)
-        (length (ended_pictures (goes_on before) (ends_picture (nal_unit_type bytes.now.header)) (runs_of before)))
-        (joined_by extent (nal_unit_type bytes.now.header) before bytes.now.unit.now) state.new result }
+    requires kept { KeepsSome extent.depth (is_ending bytes.now.unit.now) state.old }
+    ensures joins { (frames : Family) (before : History) → KeepsWithin extent.depth frames before (is_ending bytes.now.unit.now) state.old →
+        Joins extent (frame_span S.took S.failures frames sink.old sink.new) before bytes.now.unit.now state.new result }
     ensures counts { OnOk result (state.new.units ≡ state.old.units + 1) }
     ensures pictures { OnOk result (state.new.slices.pictures ≤ state.new.units) }
-    ensures no_memory { (frames : Family) (before : History) →
-        KeepsWithin extent.depth frames before (ends_picture (nal_unit_type bytes.now.header)) state.old →
+    ensures no_memory { (frames : Family) (before : History) → KeepsWithin extent.depth frames before (is_ending bytes.now.unit.now) state.old →
         IsErrOf result Stop.Memory → ChangesFormat extent.depth before bytes.now.unit.now }
     ensures kept { OnOk result (IsQuiet S.failures sink.old sink.new) }
 {
@@ -355,12 +241,12 @@ fn join<S: FrameSink>(
         return Ok(());
     };
     match kind {
-        NalUnitType::SequenceSet => join_sps(extent, state, kind, unit, rbsp, sink),
-        NalUnitType::PictureSet => join_pps(extent, state, kind, unit, rbsp, sink),
-        _ => match &state.decoder {
-            None => join_slice(state, header, unit, rbsp, sink),
-            Some(_) => join_whole_slice(alloc, state, header, unit, rbsp, sink),
-        },
+        NalUnitType::SequenceSet => join_sps(extent, state, unit, rbsp, sink),
+        NalUnitType::PictureSet => join_pps(extent, state, unit, rbsp, sink),
+        _ => {
+            let mut bits = Bits::new(rbsp);
+            join_slice(alloc, state, header, unit, &mut bits, sink)
+        }
     }
 }
 

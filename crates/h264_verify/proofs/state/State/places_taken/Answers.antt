@@ -1,10 +1,11 @@
 use Rattle.std.proofs.Common.{◌≡◌, Bool, true, false, List, [], ◌∷◌, if◌then◌else◌, refl, ap, ◌∙◌}
 use Rattle.h264_dpb.specs.Buffered.{places_taken}
 use Rattle.h264_dpb.specs.Turns.{Turn}
+use Rattle.h264_verify.specs.declared.state.Depth.TheVariants as depths
 use Rattle.h264_verify.specs.Pictures.{CodedPicture, goes_on, runs_of}
 use Rattle.h264_verify.specs.Buffering.{within_newest, after_all}
 use Rattle.h264_verify.specs.Keeping.{buffer_by}
-use Rattle.h264_verify.proofs.Joining.{full-decoder, no-decoder}
+use Rattle.h264_verify.proofs.Made.{some-made, none-made}
 use Rattle.h264_verify.proofs.state.State.places_taken.Goals as goal
 
 -- the buffer while the newest picture may go on, and once it has ended
@@ -15,9 +16,9 @@ buffer-of true (p ∷ ps) = refl
 buffer-of false (p ∷ ps) = refl
 
 pub returns-in-None : goal.returns-in-None
-returns-in-None c = λ frames before k. absurd (no-decoder _ _ c.in-None.is k.decoder)
+returns-in-None c = λ frames before k. absurd (none-made _ depths.Full _ c.in-None.is k.decoder)
 
 pub returns-in-Some : goal.returns-in-Some
 returns-in-Some c = λ frames before k.
-    let o = (full-decoder _ _ _ c.in-Some.is k.decoder).output in
+    let o = (some-made _ depths.Full _ _ c.in-Some.is k.decoder).1.output in
     c.places_taken.ensures _ _ _ o.buffer o.ordered ∙ ap (λ (t : Turn). places_taken t.buffer) (buffer-of (goes_on before) (runs_of before))
