@@ -57,7 +57,7 @@ use Rattle.h264_units.specs.UnitHeader.{ends_picture}
 use Rattle.h264_verify.specs.Pictures.{joined_by, runs_of, coded_of, prev_ref_frame_num_of, held_after}
 use Rattle.h264_verify.specs.Order.{closing_demands, closing_at}
 use Rattle.h264_verify.specs.Order.{whole_picture, whole_steps, whole_at}
-use Rattle.h264_verify.specs.Slices.{is_idr_due, new_num_demand, first_mb_demands}
+use Rattle.h264_verify.specs.Slices.{pictures_before, is_idr_due, new_num_demand, first_mb_demands}
 use Rattle.h264_verify.specs.Order.{gap_rules, first_slice_rules, rules_of, steps_by, slice_steps}
 use Rattle.h264_verify.specs.Data.{slice_data_at}
 use Rattle.h264_verify.specs.declared.state.Extent.{Extent}
@@ -487,7 +487,8 @@ gap-rules-of n depth s prev refs b h =
 abbrev pub Begins : ℕ → Bool → List CodedPicture → Type 0
 Begins n begins pictures = begins ≡ true → length pictures ≤ n
 
-first-of : (n : ℕ) (depth : Depth) (pictures : List CodedPicture) (s : CodedSlice) → length pictures ≤ n → StepsOf n (first_slice_rules depth pictures s)
+first-of : (n : ℕ) (depth : Depth) (pictures : List CodedPicture) (s : CodedSlice) → length pictures ≤ n →
+    StepsOf n (first_slice_rules depth (pictures_before pictures) s)
 first-of n depth pictures s l =
     steps-both n
     (gap_rules depth s (prev_ref_frame_num_of pictures) (held_after pictures) (after_all pictures).buffer) _

@@ -25,7 +25,8 @@ use Rattle.h264_verify.specs.Slices.{first_mb_demands, is_idr_due}
 use Rattle.h264_verify.specs.Order.{slice_steps}
 use Rattle.h264_verify.specs.Pictures.{CodedSlice, CodedPicture, with_sets, open_of, begins_after, begins_at, runs_of}
 use Rattle.h264_verify.specs.Order.{closing_demands}
-use Rattle.h264_verify.specs.Keeping.{KeepsFrames, WhereMade, HoldsNewest, Entered, standing_demands, told_rules, coded_before, close_steps}
+use Rattle.h264_verify.specs.Order.{standing_demands, coded_before}
+use Rattle.h264_verify.specs.Keeping.{KeepsFrames, WhereMade, HoldsNewest, Entered, told_rules, close_steps}
 use Rattle.h264_verify.specs.Steps.{Step, needs}
 use Rattle.h264_verify.proofs.Slicing.{refused, err-named, own_steps, at-standing, at-place, after-place}
 use Rattle.h264_verify.proofs.Stepwise.{steps-stop, steps-on}

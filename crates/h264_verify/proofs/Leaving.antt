@@ -29,17 +29,17 @@ use Rattle.h264_units.specs.UnitHeader.{header_of, nal_unit_type}
 use Rattle.h264_verify.specs.History.{History, ReadUnit, maps_of, maps_with}
 use Rattle.h264_verify.specs.Pictures.{CodedSlice, CodedPicture, last_in, last_slice, picture_size, with_sets, sets_at, goes_on, open_of}
 use Rattle.h264_units.specs.UnitHeader.{ends_picture}
-use Rattle.h264_verify.specs.Pictures.{begins_after, begins_at, joined_to, runs_of, coded_of}
+use Rattle.h264_verify.specs.Pictures.{begins_after, begins_at, joined_to, runs_of}
 use Rattle.h264_verify.specs.Order.{closing_at, closing_demands}
 use Rattle.h264_verify.specs.Order.{whole_at, whole_steps}
 use Rattle.h264_verify.specs.Lists.{list_in}
 use Rattle.h264_verify.specs.Slices.{is_idr_due, first_mb_demands, slice_call}
-use Rattle.h264_verify.specs.Order.{first_slice_rules, later_slice_rules, rules_of, steps_by, slice_steps}
+use Rattle.h264_verify.specs.Order.{standing_demands, coded_before, slice_rules, rules_of, steps_by, slice_steps}
 use Rattle.h264_verify.specs.Steps as step
 use Rattle.h264_verify.specs.Data.{picture_set, coded_so_far, slice_syntax, data_by, slice_data_at}
 use Rattle.h264_verify.specs.Decoding.{EachSlice}
 use Rattle.h264_verify.specs.Buffering.{end_frames, closing_frames, last_frames}
-use Rattle.h264_verify.specs.Keeping.{ended_pictures, standing_demands}
+use Rattle.h264_verify.specs.Keeping.{ended_pictures}
 use Rattle.h264_verify.specs.Sound.{IsMarked, AreSound, has_ended, HasActive}
 use Rattle.h264_verify.specs.Units.{slice_unit, picture_demand}
 use Rattle.h264_verify.specs.Order.{content_steps, data_course, frames_at, end_steps}
@@ -124,13 +124,11 @@ module _ (before : History) (unit : NalUnit) (h : Header) (ms : List CodedMacrob
 
   -- its rules: those on its sets, on its place, and the rest
   abbrev further : Bool → List CodedPicture → List Step
-  further true pictures = needs (first_mb_demands depths.Full 0 h) ++ first_slice_rules depths.Full pictures bare
-  further false pictures = needs (first_mb_demands depths.Full (length (coded_of pictures)) h) ++ needs (later_slice_rules pictures bare)
+  further begins pictures = needs (first_mb_demands depths.Full (coded_before begins pictures) h) ++ slice_rules depths.Full begins pictures bare
 
   standing-met : (begins due : Bool) (pictures : List CodedPicture) → Met (rules_of depths.Full begins due maps pictures bare) →
       Met (needs (standing_demands begins sps due maps (8 * unit.from) h))
-  standing-met true due pictures m = met-first (needs (standing_demands true sps due maps (8 * unit.from) h)) (further true pictures) m
-  standing-met false due pictures m = met-first (needs (standing_demands false sps due maps (8 * unit.from) h)) (further false pictures) m
+  standing-met begins due pictures m = met-first (needs (standing_demands begins sps due maps (8 * unit.from) h)) (further begins pictures) m
 
   joined-read : (begins on due : Bool) (pictures : List CodedPicture) → begins ≡ begins_after (open_of on pictures) h → AreRead pictures →
       HasActive due pictures maps → Met (rules_of depths.Full begins due maps pictures bare) → IsOwn begins pictures ms →

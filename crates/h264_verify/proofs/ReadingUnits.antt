@@ -31,14 +31,13 @@ use Rattle.h264_verify.specs.History.{History, maps_of}
 use Rattle.h264_verify.specs.Pictures.{CodedSlice, CodedPicture, with_sets, sets_at, begins_at, runs_of}
 use Rattle.h264_verify.specs.Slices.{first_mb_demands}
 use Rattle.h264_verify.specs.declared.state.Extent.{Extent}
-use Rattle.h264_verify.specs.Order.{content, data_course}
+use Rattle.h264_verify.specs.Order.{content, data_course, coded_before}
 use Rattle.h264_verify.specs.Data.{coded_so_far, data_in, data_by, slice_data_at}
 use Rattle.h264_header.specs.declared.header.SliceUnit.{SliceUnit}
 use Rattle.h264_header.specs.Header.{header}
 use Rattle.h264_base.specs.declared.rule.Rule.TheVariants.{FirstMb}
 use Rattle.h264_verify.specs.Demands.{judged}
 use Rattle.h264_units.specs.UnitHeader.{header_of, nal_unit_type, is_slice}
-use Rattle.h264_verify.specs.Keeping.{coded_before}
 use Rattle.h264_verify.specs.Units.{slice_unit, slice_unit_of}
 use Rattle.h264_verify.proofs.Slicing.{ok-true}
 use Rattle.h264_verify.specs.StepOutcome.{structure_from, course_outcome}

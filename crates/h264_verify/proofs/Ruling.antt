@@ -3,9 +3,7 @@ use Rattle.std.proofs.Common.{◌≡◌, ℕ, ◌<◌, ◌≤◌, ◌^◌, ◌==
 use Rattle.std.proofs.Common.{OnOk, refl, ap, sym, ◌∙◌, subst, arith}
 use Rattle.h264_verify.specs.declared.state.Depth.{Depth}
 use Rattle.std.specs.Prelude.{IfSome}
-use Rattle.h264_units.specs.Stream.{NalUnit}
 use Rattle.h264_sps.specs.declared.sps.Sps.{Sps}
-use Rattle.h264_pps.specs.declared.Pps.{Pps}
 use Rattle.h264_header.specs.declared.header.Header.{Header}
 use Rattle.h264_header.specs.Picture.{is_idr}
 use Rattle.h264_marking.specs.Gaps.{unused_short_term_frame_nums}
@@ -17,8 +15,9 @@ use Rattle.h264_verify.specs.declared.picture.OpenPicture.{OpenPicture}
 use Rattle.h264_verify.specs.Buffering.{after_all, gaps_turn}
 use Rattle.h264_verify.specs.Demands.{judged}
 use Rattle.h264_verify.specs.Slices.{is_i, type_demand}
-use Rattle.h264_verify.specs.Order.{first_slice_rules, later_slice_rules}
-use Rattle.h264_verify.specs.Pictures.{CodedSlice, CodedPicture, with_sets, open_of, begins_after, goes_on, runs_of, counted, prev_ref_frame_num_of}
+use Rattle.h264_verify.specs.Order.{first_slice_rules}
+use Rattle.h264_verify.specs.Slices.{pictures_before, slices_before}
+use Rattle.h264_verify.specs.Pictures.{CodedSlice, CodedPicture, open_of, begins_after, goes_on, runs_of, counted, prev_ref_frame_num_of}
 use Rattle.h264_verify.specs.Pictures.{held_after, held_in}
 use Rattle.h264_verify.proofs.Holding.{gap-by, ended-gap}
 use Rattle.h264_verify.proofs.Made.{made-then, made-with, made-some, made-same}
@@ -31,7 +30,7 @@ use Rattle.h264_marking.specs.Frames.{References, frame_places}
 use Rattle.h264_picture.specs.Buffer.{buffer_size}
 use Rattle.h264_dpb.specs.Kept.{size_of}
 use Rattle.h264_verify.specs.Keeping.{format_of, format_in, IsMadeAs, GoesWith, IsSettled, KeepsFrames, WhereMade, FillsFrames, EntersBy, HoldsOpen}
-use Rattle.h264_verify.specs.Keeping.{KeepsPictures, KeepsSlices, KeepsSomeGap, KeepsSomeRules, first_by, later_by, is_typed}
+use Rattle.h264_verify.specs.Keeping.{KeepsPictures, KeepsSlices, KeepsSomeGap, KeepsSomeRules, pictures_by, slices_by, is_typed}
 use Rattle.h264_verify.proofs.Slicing.{ok-true}
 use Rattle.h264_verify.specs.Telling.{Family}
 
@@ -57,7 +56,7 @@ some-begun false slices d b k h = cc
 
 -- the rules of a picture's first slice
 pub first-rules : (depth : Depth) (on : Bool) (pictures : List CodedPicture) (slices : Slices) (s : CodedSlice) → KeepsPictures on true pictures slices →
-    first_by depth slices (map counted pictures) (after_all pictures).buffer s ≡ first_slice_rules depth pictures s
+    first_slice_rules depth (pictures_by slices (map counted pictures) (after_all pictures).buffer) s ≡ first_slice_rules depth (pictures_before pictures) s
 first-rules depth true pictures slices s k = rw (k.newest_idr, k.prev_ref, k.held) refl
 first-rules depth false pictures slices s k = rw (k.newest_idr, k.prev_ref, k.held) refl
 
@@ -141,19 +140,17 @@ pub enters-later : (depth : Depth) (frames : Family) (on : Bool) (pictures : Lis
     WhereMade depth (EntersBy frames false slice on pictures) decoder
 enters-later depth frames on pictures slice h decoder b k = made-then _ _ depth decoder (enters-on frames on pictures slice h b) k
 
-later-open : (p : CodedPicture) (ps : List CodedPicture) (slices : Slices) (pps : Pps) (sps : Sps) (h : Header) (unit : NalUnit) (o : Option OpenPicture) →
-    slices.picture ≡ o → HoldsOpen (Some p) o → slices.held ≡ held_in (p ∷ ps) →
-    later_by slices pps sps h ≡ later_slice_rules (p ∷ ps) (with_sets unit h [] (pps, sps))
-later-open p ps slices pps sps h unit None e k held = absurd k
-later-open p ps slices pps sps h unit (Some o) e k held = rw (e, k.types, k.marking, held) refl
+later-open : (p : CodedPicture) (ps : List CodedPicture) (slices : Slices) (o : Option OpenPicture) → slices.picture ≡ o → HoldsOpen (Some p) o →
+    slices.held ≡ held_in (p ∷ ps) → slices_by slices ≡ slices_before (p ∷ ps)
+later-open p ps slices None e k held = absurd k
+later-open p ps slices (Some o) e k held = rw (e, k.types, k.marking, held) refl
 
--- its rules
-pub later-rules : (on : Bool) (pictures : List CodedPicture) (slices : Slices) (pps : Pps) (sps : Sps) (h : Header) (unit : NalUnit) →
-    begins_after (open_of on pictures) h ≡ false → KeepsPictures on false pictures slices →
-    later_by slices pps sps h ≡ later_slice_rules pictures (with_sets unit h [] (pps, sps))
-later-rules on [] slices pps sps h unit b k = cc
-later-rules false (p ∷ ps) slices pps sps h unit b k = cc
-later-rules true (p ∷ ps) slices pps sps h unit b k = later-open p ps slices pps sps h unit slices.picture refl k.picture k.held
+-- what its rules look at
+pub later-rules : (on : Bool) (pictures : List CodedPicture) (slices : Slices) (h : Header) → begins_after (open_of on pictures) h ≡ false →
+    KeepsPictures on false pictures slices → slices_by slices ≡ slices_before pictures
+later-rules on [] slices h b k = cc
+later-rules false (p ∷ ps) slices h b k = cc
+later-rules true (p ∷ ps) slices h b k = later-open p ps slices slices.picture refl k.picture k.held
 
 -- ---- a slice of an IDR picture is I
 

@@ -22,11 +22,11 @@ use Rattle.h264_verify.specs.Outcome.{Outcome, answers, Plays, IsNamed}
 use Rattle.h264_verify.specs.Demands.{Demand, judged}
 use Rattle.h264_verify.specs.History.{History, with_pair, maps_with, maps_of}
 use Rattle.h264_verify.specs.Slices.{has_content, is_active, set_demand, first_mb_demands, is_idr_due, slice_call}
-use Rattle.h264_verify.specs.Order.{rules_of, steps_by}
+use Rattle.h264_verify.specs.Order.{standing_demands, coded_before, slice_rules, rules_of, steps_by}
 use Rattle.h264_verify.specs.Steps.{Step, Tells, needs}
 use Rattle.h264_verify.specs.StepOutcome.{steps_outcome}
 use Rattle.h264_verify.specs.Pictures.{CodedSlice, with_sets, sets_at, begins_at, joined_to, runs_of}
-use Rattle.h264_verify.specs.Keeping.{standing_demands, slice_rules, told_rules, coded_before}
+use Rattle.h264_verify.specs.Keeping.{told_rules}
 use Rattle.h264_verify.proofs.Playing.{answers-plays}
 use Rattle.h264_verify.proofs.Stepping.{needs-first, needs-ok, needs-err, after_rules}
 use Rattle.h264_base.proofs.Plain.{some-same}
@@ -186,10 +186,8 @@ module _ (depth : Depth) (before : History) (unit : NalUnit) (h : Header) (begin
     standing-rest : (begins : Bool) (sets : Pps × Sps) (ts : List Step) → rules_of depth begins due maps (runs_of before) (slice sets) ++ ts ≡
         needs (standing_demands begins sets.1 due maps (8 * unit.from) h) ++
         (needs (first_mb_demands depth (coded_before begins (runs_of before)) h) ++ (slice_rules depth begins (runs_of before) (slice sets) ++ ts))
-    standing-rest true sets ts = three (needs (standing_demands true sets.1 due maps (8 * unit.from) h)) (needs (first_mb_demands depth 0 h))
-        (slice_rules depth true (runs_of before) (slice sets)) ts
-    standing-rest false sets ts = three (needs (standing_demands false sets.1 due maps (8 * unit.from) h))
-        (needs (first_mb_demands depth (coded_before false (runs_of before)) h)) (slice_rules depth false (runs_of before) (slice sets)) ts
+    standing-rest begins sets ts = three (needs (standing_demands begins sets.1 due maps (8 * unit.from) h))
+        (needs (first_mb_demands depth (coded_before begins (runs_of before)) h)) (slice_rules depth begins (runs_of before) (slice sets)) ts
 
     with-sets : (sets : Pps × Sps) → sets_of maps h.pic_parameter_set_id.value ≡ Some sets →
         steps_outcome own_steps ≡ after_rules (judged (standing_demands begins sets.1 due maps (8 * unit.from) h)) (needs place ++ rules_then sets)

@@ -23,7 +23,8 @@ use Rattle.h264_verify.specs.declared.slices.Slices.{Slices}
 use Rattle.h264_verify.specs.History.{History, with_pair, maps_of}
 use Rattle.h264_verify.specs.Slices.{is_active}
 use Rattle.h264_verify.specs.Pictures.{CodedSlice, CodedPicture, last_slice, goes_on, open_of, begins_after, joined_to, runs_of, held_after}
-use Rattle.h264_verify.specs.Keeping.{KeepsSlices, standing_demands}
+use Rattle.h264_verify.specs.Order.{standing_demands}
+use Rattle.h264_verify.specs.Keeping.{KeepsSlices}
 use Rattle.h264_verify.specs.Sound.{IsMarked, HasSet, HasPps, AreSound, has_ended, HasActive, NamesSet}
 use Rattle.h264_verify.specs.Held.{has_gap_filled}
 use Rattle.h264_verify.proofs.Slicing.{content-active}

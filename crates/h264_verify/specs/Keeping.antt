@@ -5,11 +5,10 @@ use Rattle.std.specs.Option.{option_map_or}
 use Rattle.h264_near.specs.Coded.{CodedMacroblock}
 use Rattle.h264_bits.specs.declared.element.Found.{Found}
 use Rattle.h264_marking.specs.Frames.{References, frame_places}
-use Rattle.h264_marking.specs.Gaps.{entered, numbers_from}
+use Rattle.h264_marking.specs.Gaps.{numbers_from}
 use Rattle.h264_dpb.specs.Buffered.{Buffered}
 use Rattle.h264_poc.specs.declared.picture.Picture.{Picture}
 use Rattle.h264_poc.specs.Counts.{Keeps as KeepsCounts}
-use Rattle.h264_pps.specs.declared.Pps.{Pps}
 use Rattle.h264_sps.specs.declared.sps.Sps.{Sps}
 use Rattle.h264_header.specs.declared.header.Header.{Header}
 use Rattle.h264_header.specs.declared.header.Marking.{Marking}
@@ -42,18 +41,14 @@ use Rattle.h264_verify.specs.Buffering.{newest_count, after_all, within_newest, 
 use Rattle.h264_verify.specs.Decoding.{slices_of, EachSlice, number_of, parameters_of}
 use Rattle.h264_verify.specs.Demands.{Demand}
 use Rattle.h264_verify.specs.History.{History, maps_of}
-use Rattle.h264_verify.specs.Pictures.{CodedSlice, CodedPicture, last_slice, coded_of, picture_size, bit_after, goes_on, open_of, joined_to, runs_of, counted}
+use Rattle.h264_verify.specs.Pictures.{CodedSlice, CodedPicture, last_slice, picture_size, bit_after, goes_on, open_of, joined_to, runs_of, counted}
 use Rattle.h264_verify.specs.Pictures.{with_sets, prev_ref_frame_num_of, held_after, held_in}
-use Rattle.h264_verify.specs.Order.{closing_demands}
-use Rattle.h264_verify.specs.Order.{whole_steps}
-use Rattle.h264_poc.specs.OfSlice.{picture_of}
+use Rattle.h264_verify.specs.Order.{closing_demands, whole_steps, slice_rules}
 use Rattle.h264_marking.specs.Ended.{numbering_of}
 use Rattle.h264_verify.specs.Telling.{Said, Family, IsFamilyFor}
 use Rattle.h264_verify.specs.Steps.{Step, Tells, needs}
-use Rattle.h264_verify.specs.Slices.{is_i, has_i, has_p, states_type, is_idr_due, newest_idr_of, idr_demand, set_demand, type_demand, idr_num_demand, first_bit}
-use Rattle.h264_verify.specs.Slices.{id_demand, count_demand, qp_demand, list_demand, marking_demand, slice_call}
-use Rattle.h264_verify.specs.Order.{first_slice_rules, later_slice_rules, gap_rules}
-use Rattle.h264_verify.specs.Lists.{list_of, list_in, named_in}
+use Rattle.h264_verify.specs.Slices.{PicturesBefore, SlicesBefore, is_i, has_i, has_p, states_type, is_idr_due, newest_idr_of, slice_call}
+use Rattle.h264_verify.specs.Lists.{list_in, named_in}
 use Rattle.h264_verify.specs.Data.{coded_so_far}
 use Rattle.h264_verify.specs.Sound.{AreSound, has_ended, HasActive, NamesSet}
 
@@ -444,32 +439,29 @@ pub record KeepsSomeSlice (slices : Slices) (sets : Maps) (decoder : Option Deco
   pub slices_are : KeepsSlices before false slices
   pub keeps : WhereMade depth (KeepsFrames frames (goes_on before) false (runs_of before)) decoder
 
--- The rules of a picture's first slice from its type on, by what is kept of the pictures before it.
-abbrev pub first_by : Depth → Slices → List Picture → Buffered Shown → CodedSlice → List Step
-first_by depth slices pictures b s =
-    needs (type_demand s.sps s.header ∷ idr_num_demand s.header ∷ [])
-    ++ (gap_rules depth s slices.prev_ref_frame_num slices.held b
-    ++ needs (id_demand slices.newest_idr s.header
-    ∷ count_demand (picture_of s.sps s.header ∷ pictures) (first_bit s)
-    ∷ qp_demand s.pps s.header
-    ∷ list_demand (list_of s.header.kind.value (numbering_of s.sps s.header)
-    (entered (is_idr s.header) slices.prev_ref_frame_num (numbering_of s.sps s.header) slices.held))
-    ∷ []))
+-- what the rules of a picture's first slice look at, by what is kept of the pictures before it
+abbrev pub pictures_by : Slices → List Picture → Buffered Shown → PicturesBefore
+pictures_by slices pictures b = record {
+  newest_idr = slices.newest_idr;
+  prev_ref_frame_num = slices.prev_ref_frame_num;
+  held = slices.held;
+  counted = pictures;
+  buffer = b;
+}
 
 -- where one says so, the slices of the picture that may go on have one type
 abbrev pub same_type_by : Option OpenPicture → Header → Demand
 same_type_by o h = record { rule = SliceType; bit = h.kind.bit; met = agrees_by (types_by o) h }
 
--- The rules of a later slice from its type on, by what is kept of its picture.
-abbrev pub later_by : Slices → Pps → Sps → Header → List Demand
-later_by slices pps sps h =
-    type_demand sps h
-    ∷ same_type_by slices.picture h
-    ∷ idr_num_demand h
-    ∷ qp_demand pps h
-    ∷ list_demand (list_of h.kind.value (numbering_of sps h) slices.held)
-    ∷ marking_demand (marking_by slices.picture) h
-    ∷ []
+-- what the rules of a later slice look at, by what is kept of its picture
+abbrev pub slices_by : Slices → SlicesBefore
+slices_by slices = record {
+  has_i = (types_by slices.picture).i;
+  has_p = (types_by slices.picture).p;
+  states_type = (types_by slices.picture).stated;
+  marking = marking_by slices.picture;
+  held = slices.held;
+}
 
 -- a slice of these macroblocks, by its header and where it stands
 abbrev pub slice_at : SlicePlace → Header → List CodedMacroblock → CodedSlice
@@ -487,24 +479,9 @@ pub record Entered (before : History) (begins : Bool) (slice : CodedSlice) (slic
   pub prev_ref : slices.prev_ref_frame_num ≡ prev_ref_frame_num_of (joined_to begins slice (runs_of before))
   pub held : slices.held ≡ held_in (joined_to begins slice (runs_of before))
 
--- The rules on where a slice stands and with which sets.
-abbrev pub standing_demands : Bool → Sps → Bool → Maps → ℕ → Header → List Demand
-standing_demands true sps due maps bit h = idr_demand due bit h ∷ set_demand (is_idr h) maps sps h ∷ []
-standing_demands false sps due maps bit h = set_demand false maps sps h ∷ []
-
--- The rules after these, by the pictures.
-abbrev pub slice_rules : Depth → Bool → List CodedPicture → CodedSlice → List Step
-slice_rules depth true pictures s = first_slice_rules depth pictures s
-slice_rules depth false pictures s = needs (later_slice_rules pictures s)
-
--- These rules, and then the slice is told.
+-- The rules of a slice from its type on, and then the slice is told.
 abbrev pub told_rules : Depth → Bool → List CodedPicture → CodedSlice → List Step
 told_rules depth begins pictures s = slice_rules depth begins pictures s ++ Tells (Said (slice_call (joined_to begins s pictures) s)) ∷ []
-
--- how many macroblocks are coded before a slice
-abbrev pub coded_before : Bool → List CodedPicture → ℕ
-coded_before true pictures = 0
-coded_before false pictures = length (coded_of pictures)
 
 -- What the end of the picture that may go on goes through, where it ends here: its macroblocks, its marking, its frame.
 abbrev pub close_steps : Depth → Bool → History → List Step

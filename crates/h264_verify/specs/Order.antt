@@ -1,7 +1,7 @@
 -- The order of all checks, on one page: each list is judged from its first rule to its last. To be read beside the standard, and beside docs/RULES.md.
 -- A depth leaves out what it says at once: `Units` passes slices over, and `Headers` slice data with what they give. The mode `Verdict` leaves out
 -- nothing here: it is judged in full, and its sink is told no frames (Modes, Telling).
-use Rattle.std.specs.Prelude.{ℕ, Bool, true, not, List, [], ◌∷◌, ◌==◌, if◌then◌else◌, length, ◌*◌, false, Option, Some, None, map, ◌++◌}
+use Rattle.std.specs.Prelude.{ℕ, Bool, true, not, List, [], ◌∷◌, ◌==◌, if◌then◌else◌, length, ◌*◌, false, Option, Some, None, ◌++◌}
 use Rattle.h264_base.specs.Grammar.{Grammar, ◌>>=◌, Done}
 use Rattle.h264_verify.specs.declared.state.Depth.{Depth}
 use Rattle.h264_base.specs.declared.rule.Rule.TheVariants.{ForbiddenBit, RefIdc, Partition, Incomplete}
@@ -11,7 +11,7 @@ use Rattle.h264_header.specs.Picture.{is_idr, is_reference}
 use Rattle.h264_header.specs.declared.header.Header.{Header}
 use Rattle.h264_marking.specs.Ended.{numbering_of}
 use Rattle.h264_marking.specs.Frames.{References}
-use Rattle.h264_marking.specs.Gaps.{unused_short_term_frame_nums}
+use Rattle.h264_marking.specs.Gaps.{unused_short_term_frame_nums, entered}
 use Rattle.h264_poc.specs.OfSlice.{picture_of}
 use Rattle.h264_pps.specs.Pps.{pps}
 use Rattle.h264_pps.specs.declared.Pps.{Pps}
@@ -19,7 +19,7 @@ use Rattle.h264_sets.specs.Sets.{Maps}
 use Rattle.h264_sps.specs.Sps.{sps}
 use Rattle.h264_sps.specs.declared.sps.Sps.{Sps}
 use Rattle.h264_units.specs.Stream.{NalUnit}
-use Rattle.h264_verify.specs.Buffering.{closing_frames, last_frames, after_all, missing_steps}
+use Rattle.h264_verify.specs.Buffering.{closing_frames, last_frames, missing_steps}
 use Rattle.h264_verify.specs.Content.{Content}
 use Rattle.h264_verify.specs.Data.{slice_data_at}
 use Rattle.h264_verify.specs.Demands.{Demand}
@@ -27,10 +27,10 @@ use Rattle.h264_verify.specs.History.{History, maps_of}
 use Rattle.h264_verify.specs.Lists.{list_of}
 use Rattle.h264_verify.specs.Pictures.{CodedPicture, last_slice, bit_after, picture_size, goes_on, runs_of, CodedSlice, sets_at}
 use Rattle.h264_units.specs.UnitHeader.{ends_picture}
-use Rattle.h264_verify.specs.Pictures.{with_sets, joined_to, begins_at, prev_ref_frame_num_of, held_after, held_in, counted, coded_of, end_of_picture}
-use Rattle.h264_verify.specs.Slices.{newest_idr_of, newest_marking, is_idr_due, idr_demand, set_demand, first_mb_demands, type_demand}
-use Rattle.h264_verify.specs.Slices.{same_type_demand, idr_num_demand, gap_demand, new_num_demand, id_demand, count_demand, qp_demand, list_demand}
-use Rattle.h264_verify.specs.Slices.{marking_demand, newest_slices, first_bit, slice_call}
+use Rattle.h264_verify.specs.Pictures.{with_sets, joined_to, begins_at, coded_of, end_of_picture}
+use Rattle.h264_verify.specs.Slices.{PicturesBefore, pictures_before, SlicesBefore, slices_before, is_idr_due, idr_demand, set_demand, first_mb_demands}
+use Rattle.h264_verify.specs.Slices.{type_demand, same_type_demand, idr_num_demand, gap_demand, new_num_demand, id_demand, count_demand, qp_demand}
+use Rattle.h264_verify.specs.Slices.{list_demand, marking_demand, first_bit, slice_call}
 use Rattle.h264_verify.specs.Steps.{Step, Needs, needs, Course, Takes, Reads, Ends}
 use Rattle.h264_verify.specs.Telling.{Said}
 use Rattle.h264_units.specs.UnitHeader.{header_of, nal_unit_type, nal_ref_idc, forbidden_zero_bit, is_partition, fits_kind}
@@ -92,50 +92,54 @@ gap_rules depth s prev refs b =
     (unused_short_term_frame_nums (is_idr s.header) prev (numbering_of s.sps s.header)) refs b
     ++ needs (new_num_demand (is_idr s.header) (is_reference s.header) s.header.frame_num.bit prev (numbering_of s.sps s.header) refs ∷ []))
 
--- The rules of a picture's first slice after these pictures, the newest of which has ended, from its type on.
-abbrev pub first_slice_rules : Depth → List CodedPicture → CodedSlice → List Step
-first_slice_rules depth pictures s =
+-- The rules of a picture's first slice from its type on, after such pictures.
+abbrev pub first_slice_rules : Depth → PicturesBefore → CodedSlice → List Step
+first_slice_rules depth before s =
     needs (type_demand s.sps s.header ∷ idr_num_demand s.header ∷ [])
-    ++ (gap_rules depth s (prev_ref_frame_num_of pictures) (held_after pictures) (after_all pictures).buffer
-    ++ needs (id_demand (newest_idr_of pictures) s.header
-    ∷ count_demand (picture_of s.sps s.header ∷ map counted pictures) (first_bit s)
+    ++ (gap_rules depth s before.prev_ref_frame_num before.held before.buffer
+    ++ needs (id_demand before.newest_idr s.header
+    ∷ count_demand (picture_of s.sps s.header ∷ before.counted) (first_bit s)
     ∷ qp_demand s.pps s.header
-    ∷ list_demand (list_of s.header.kind.value (numbering_of s.sps s.header) (held_in (joined_to true s pictures)))
+    ∷ list_demand (list_of s.header.kind.value (numbering_of s.sps s.header)
+    (entered (is_idr s.header) before.prev_ref_frame_num (numbering_of s.sps s.header) before.held))
     ∷ []))
-
--- All rules of a picture's first slice. FirstMb is judged where slice data are read.
-abbrev pub first_slice_demands : Depth → Bool → Maps → List CodedPicture → CodedSlice → List Step
-first_slice_demands depth due maps pictures s =
-    needs (idr_demand due (first_bit s) s.header ∷ set_demand (is_idr s.header) maps s.sps s.header ∷ [])
-    ++ (needs (first_mb_demands depth 0 s.header)
-    ++ first_slice_rules depth pictures s)
 
 -- ---- a later slice
 
--- The rules of a later slice of the newest of these pictures.
-abbrev pub later_slice_rules : List CodedPicture → CodedSlice → List Demand
-later_slice_rules pictures s =
+-- The rules of a later slice from its type on, after such slices of its picture.
+abbrev pub later_slice_rules : SlicesBefore → CodedSlice → List Demand
+later_slice_rules before s =
     type_demand s.sps s.header
-    ∷ same_type_demand (newest_slices pictures) s.header
+    ∷ same_type_demand before s.header
     ∷ idr_num_demand s.header
     ∷ qp_demand s.pps s.header
-    ∷ list_demand (list_of s.header.kind.value (numbering_of s.sps s.header) (held_in pictures))
-    ∷ marking_demand (newest_marking pictures) s.header
+    ∷ list_demand (list_of s.header.kind.value (numbering_of s.sps s.header) before.held)
+    ∷ marking_demand before.marking s.header
     ∷ []
-
--- All rules of a later slice.
-abbrev pub later_slice_demands : Depth → Maps → List CodedPicture → CodedSlice → List Step
-later_slice_demands depth maps pictures s =
-    needs (set_demand false maps s.sps s.header ∷ [])
-    ++ (needs (first_mb_demands depth (length (coded_of pictures)) s.header)
-    ++ needs (later_slice_rules pictures s))
 
 -- ---- a slice: the end of the picture before it, its rules, and what is told of it
 
--- A slice begins a picture, or is a later one.
+-- Where it stands and with which sets: it begins a picture, or is a later one.
+abbrev pub standing_demands : Bool → Sps → Bool → Maps → ℕ → Header → List Demand
+standing_demands true sps due maps bit h = idr_demand due bit h ∷ set_demand (is_idr h) maps sps h ∷ []
+standing_demands false sps due maps bit h = set_demand false maps sps h ∷ []
+
+-- how many macroblocks of its picture are coded before it
+abbrev pub coded_before : Bool → List CodedPicture → ℕ
+coded_before true pictures = 0
+coded_before false pictures = length (coded_of pictures)
+
+-- Its rules from its type on.
+abbrev pub slice_rules : Depth → Bool → List CodedPicture → CodedSlice → List Step
+slice_rules depth true pictures s = first_slice_rules depth (pictures_before pictures) s
+slice_rules depth false pictures s = needs (later_slice_rules (slices_before pictures) s)
+
+-- All its rules. FirstMb is judged where slice data are read.
 abbrev pub rules_of : Depth → Bool → Bool → Maps → List CodedPicture → CodedSlice → List Step
-rules_of depth true due maps pictures s = first_slice_demands depth due maps pictures s
-rules_of depth false due maps pictures s = later_slice_demands depth maps pictures s
+rules_of depth begins due maps pictures s =
+    needs (standing_demands begins s.sps due maps (first_bit s) s.header)
+    ++ (needs (first_mb_demands depth (coded_before begins pictures) s.header)
+    ++ slice_rules depth begins pictures s)
 
 -- the steps of a slice with its sets; a header that was read has them
 abbrev pub steps_by : Depth → Option (Pps × Sps) → History → NalUnit → Header → List Step

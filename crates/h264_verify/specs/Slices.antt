@@ -26,11 +26,13 @@ use Rattle.h264_lists.specs.declared.slot.RefSlot.{RefSlot}
 use Rattle.h264_verify.specs.Content.{Content}
 use Rattle.h264_verify.specs.Content as contents
 use Rattle.h264_verify.specs.Demands.{Demand}
-use Rattle.h264_verify.specs.Buffering.{newest_count, frame_count}
+use Rattle.h264_dpb.specs.Buffered.{Buffered}
+use Rattle.h264_dpb.specs.Turns.{Shown}
+use Rattle.h264_verify.specs.Buffering.{newest_count, frame_count, after_all}
 use Rattle.h264_units.specs.UnitHeader.{header_of, nal_unit_type}
 use Rattle.h264_verify.specs.History.{History}
 use Rattle.h264_verify.specs.Pictures.{CodedSlice, CodedPicture}
-use Rattle.h264_verify.specs.Pictures.{bit_of, is_met, counted}
+use Rattle.h264_verify.specs.Pictures.{bit_of, is_met, counted, prev_ref_frame_num_of, held_after, held_in}
 use Rattle.h264_header.specs.Picture.{is_idr}
 use Rattle.h264_header.specs.Header.{slice_type_of}
 
@@ -101,8 +103,55 @@ has_p slices = list_any (λ s. not (is_i s.header.kind.value)) slices
 abbrev pub states_type : List CodedSlice → Bool
 states_type slices = list_any (λ s. s.header.same_type_in_picture) slices
 
-abbrev pub agrees : List CodedSlice → Header → Bool
-agrees slices h = not (h.same_type_in_picture || states_type slices) || not (if is_i h.kind.value then has_p slices else has_i slices)
+-- What the rules of a picture's first slice look at: the pictures before it, the newest of which has ended.
+pub record PicturesBefore : Type 0 where
+  -- idr_pic_id of the newest, where that is an IDR picture
+  pub newest_idr : Option ℕ
+  -- PrevRefFrameNum
+  pub prev_ref_frame_num : ℕ
+  -- the held frames
+  pub held : References
+  -- what their counts go by, the newest first
+  pub counted : List Picture
+  -- the picture buffer
+  pub buffer : Buffered Shown
+
+abbrev pub pictures_before : List CodedPicture → PicturesBefore
+pictures_before pictures = record {
+  newest_idr = newest_idr_of pictures;
+  prev_ref_frame_num = prev_ref_frame_num_of pictures;
+  held = held_after pictures;
+  counted = map counted pictures;
+  buffer = (after_all pictures).buffer;
+}
+
+-- the slices of the newest picture, the last one first
+abbrev pub newest_slices : List CodedPicture → List CodedSlice
+newest_slices [] = []
+newest_slices (p ∷ pictures) = p.later ++ p.first ∷ []
+
+-- What the rules of a later slice look at: the slices of its picture before it.
+pub record SlicesBefore : Type 0 where
+  -- one of them is I; one is P; one says that all have its type
+  pub has_i : Bool
+  pub has_p : Bool
+  pub states_type : Bool
+  -- the marking of the first
+  pub marking : Option (Found Marking)
+  -- the held frames
+  pub held : References
+
+abbrev pub slices_before : List CodedPicture → SlicesBefore
+slices_before pictures = record {
+  has_i = has_i (newest_slices pictures);
+  has_p = has_p (newest_slices pictures);
+  states_type = states_type (newest_slices pictures);
+  marking = newest_marking pictures;
+  held = held_in pictures;
+}
+
+abbrev pub agrees : SlicesBefore → Header → Bool
+agrees before h = not (h.same_type_in_picture || before.states_type) || not (if is_i h.kind.value then before.has_p else before.has_i)
 
 -- An IDR picture comes where one is due (7.4.1.2.1).
 abbrev pub idr_demand : Bool → ℕ → Header → Demand
@@ -123,8 +172,8 @@ abbrev pub type_demand : Sps → Header → Demand
 type_demand sps h = record { rule = rule.SliceType; bit = h.kind.bit; met = is_i h.kind.value || not (is_idr h || sps.max_num_ref_frames == 0) }
 
 -- Where one says so, the slices of a picture have one type (7.4.3).
-abbrev pub same_type_demand : List CodedSlice → Header → Demand
-same_type_demand slices h = record { rule = rule.SliceType; bit = h.kind.bit; met = agrees slices h }
+abbrev pub same_type_demand : SlicesBefore → Header → Demand
+same_type_demand before h = record { rule = rule.SliceType; bit = h.kind.bit; met = agrees before h }
 
 -- frame_num of an IDR picture is 0 (7.4.3).
 abbrev pub idr_num_demand : Header → Demand
@@ -158,11 +207,6 @@ list_demand r = record { rule = rule.ListCommand; bit = bit_of r; met = is_met r
 -- Later slices of a picture are marked as the first is (7.4.3.3).
 abbrev pub marking_demand : Option (Found Marking) → Header → Demand
 marking_demand first h = record { rule = rule.MarkDiffers; bit = bit_of_marking h.marking; met = same_marking first h.marking }
-
--- the slices of the newest picture, the last one first
-abbrev pub newest_slices : List CodedPicture → List CodedSlice
-newest_slices [] = []
-newest_slices (p ∷ pictures) = p.later ++ p.first ∷ []
 
 -- the first bit of a slice's unit
 abbrev pub first_bit : CodedSlice → ℕ

@@ -18,7 +18,8 @@ ghost use Rattle.h264_verify.specs.Telling.{Said, with_frames, Family};
 ghost use Rattle.h264_verify.specs.Buffering.{gaps_turn, ended_picture, frame_count, newest_count};
 ghost use Rattle.h264_verify.specs.Keeping.{KeepsSlices, KeepsFrames, WhereMade, FillsFrames, EntersBy, KeepsSomeGap, GoesWith, KeepsSomeRules};
 ghost use Rattle.h264_verify.specs.Keeping.{HoldsEnd, format_in};
-ghost use Rattle.h264_verify.specs.Keeping.{HoldsOpen, IsLeft, first_by, later_by, slice_rules, told_rules, KeepsPictures, Entered, is_typed, slice_at};
+ghost use Rattle.h264_verify.specs.Order.{first_slice_rules, later_slice_rules, slice_rules};
+ghost use Rattle.h264_verify.specs.Keeping.{HoldsOpen, IsLeft, pictures_by, slices_by, told_rules, KeepsPictures, Entered, is_typed, slice_at};
 ghost use Rattle.h264_verify.specs.StepOutcome.{steps_outcome};
 ghost use Rattle.h264_verify.specs.Pictures.{CodedSlice, CodedPicture, open_of, joined_to, runs_of, goes_on, bit_after};
 ghost use Rattle.h264_verify.specs.Pictures.{prev_ref_frame_num_after, begins_at, begins_after};
@@ -163,7 +164,7 @@ fn check_first_slice<S: FrameSink>(
     ensures plays { (depth : Depth) (frames : Family) (t : Turn) (next : ℕ) (pictures : List Picture) →
         WhereMade depth (FillsFrames frames t next) decoder.old → KeepsCounts pictures slices.old.counts →
         Plays (with_frames frames (span S.took S.failures sink.old sink.new)) (λ x. x)
-        (steps_outcome (first_by depth slices.old pictures t.buffer (slice_at head.now.place head.now.header.now []))) result }
+        (steps_outcome (first_slice_rules depth (pictures_by slices.old pictures t.buffer) (slice_at head.now.place head.now.header.now []))) result }
     ensures gap { (depth : Depth) (frames : Family) (t : Turn) (next : ℕ) → WhereMade depth (FillsFrames frames t next) decoder.old →
         OnOk result (WhereMade depth (FillsFrames frames (turn_then t (gaps_turn (numbering_of head.now.place.sps.now head.now.header.now)
         (unused_short_term_frame_nums (is_idr head.now.header.now) slices.old.prev_ref_frame_num
@@ -213,7 +214,7 @@ fn check_later_slice(
 ) -> Result<(), Stop>
     requires lengths { has_lengths head.now.place.sps.now ≡ true }
     requires numbered { head.now.numbering ≡ numbering_of head.now.place.sps.now head.now.header.now }
-    ensures judged { result ≡ judged (later_by slices.now head.now.place.pps.now head.now.place.sps.now head.now.header.now) }
+    ensures judged { result ≡ judged (later_slice_rules (slices_by slices.now) (slice_at head.now.place head.now.header.now [])) }
     ensures list { OnOk result (list_of head.now.header.now.kind.value head.now.numbering slices.now.held ≡ Ok list.new.items) }
     ensures typed { OnOk result (is_typed head.now.header.now ≡ true) }
     ensures no_memory { IsErrOf result Stop.Memory → ⊥ }

@@ -3,11 +3,12 @@ use Rattle.std.proofs.Common.{List, ◌∙◌, sym, ap, subst, [], map, length}
 use Rattle.h264_verify.specs.Keeping.{slice_at}
 use Rattle.h264_verify.specs.Telling.{took_with}
 use Rattle.h264_verify.specs.Outcome.{Plays}
-use Rattle.h264_verify.specs.Demands.{Demand, judged}
+use Rattle.h264_verify.specs.Demands.{judged}
 use Rattle.h264_verify.specs.Steps.{Step}
 use Rattle.h264_verify.specs.StepOutcome.{steps_outcome}
 use Rattle.h264_verify.specs.Buffering.{after_all}
 use Rattle.h264_verify.specs.Order.{later_slice_rules}
+use Rattle.h264_verify.specs.Slices.{SlicesBefore, slices_before}
 use Rattle.h264_verify.specs.Pictures.{goes_on, runs_of, with_sets, counted}
 use Rattle.h264_verify.proofs.Stepwise.{rules-play}
 use Rattle.h264_verify.proofs.Holding.{ended-gap}
@@ -38,11 +39,10 @@ returns-then-head-clause-frames g c = rw c.if-head.true (λ depth frames before 
 pub returns-else-head-clause-plays : goal.returns-else-head-clause-plays
 returns-else-head-clause-plays g c = rw c.if-head.false (λ depth frames before k b d.
     rules-play (took_with frames g.S.Elements.took) g.S.Elements.failures
-    (later_slice_rules (runs_of before) (with_sets c.args.head.now.place.unit.now c.args.head.now.header.now []
-    (c.args.head.now.place.pps.now, c.args.head.now.place.sps.now))) c.args.sink.now c.check_later_slice.result
-    (c.check_later_slice.ensures.judged ∙ ap (λ (ds : List Demand). judged ds)
-    (later-rules (goes_on before) (runs_of before) c.args.slices.now c.args.head.now.place.pps.now c.args.head.now.place.sps.now
-    c.args.head.now.header.now c.args.head.now.place.unit.now (sym b) k.kept)))
+    (later_slice_rules (slices_before (runs_of before)) (slice_at c.args.head.now.place c.args.head.now.header.now [])) c.args.sink.now
+    c.check_later_slice.result (c.check_later_slice.ensures.judged ∙
+    ap (λ (b : SlicesBefore). judged (later_slice_rules b (slice_at c.args.head.now.place c.args.head.now.header.now [])))
+    (later-rules (goes_on before) (runs_of before) c.args.slices.now c.args.head.now.header.now (sym b) k.kept)))
 
 pub returns-else-head-clause-frames : goal.returns-else-head-clause-frames
 returns-else-head-clause-frames g c = rw c.if-head.false (λ depth frames before k b d.

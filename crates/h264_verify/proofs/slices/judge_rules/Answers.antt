@@ -14,7 +14,7 @@ use Rattle.h264_verify.specs.Telling.{Said, took_with}
 use Rattle.h264_verify.specs.Steps.{Tells}
 use Rattle.h264_verify.specs.Slices.{slice_call}
 use Rattle.h264_verify.specs.Pictures.{goes_on, runs_of, joined_to, with_sets}
-use Rattle.h264_verify.specs.Keeping.{slice_rules}
+use Rattle.h264_verify.specs.Order.{slice_rules}
 use Rattle.h264_verify.proofs.Stepwise.{steps-stop, steps-on}
 use Rattle.h264_verify.proofs.Entering.{slice-kept}
 use Rattle.h264_verify.proofs.Judged.{ended-is}
