@@ -1,21 +1,16 @@
 -- What a unit tells is of the pictures that have ended after it, and no fewer have ended after a unit than before it.
-use Rattle.std.proofs.Common.{◌≡◌, ℕ, ◌+◌, ◌<◌, ◌≤◌, ◌*◌, nat_le, ℤ, Bool, true, false, not, ◌&&◌, ◌||◌, ◌==◌, List, [], ◌∷◌, ◌++◌, map, length, Option, Some}
+use Rattle.std.proofs.Common.{◌≡◌, ℕ, ◌<◌, ◌≤◌, ◌*◌, Bool, true, false, not, ◌&&◌, ◌||◌, ◌==◌, List, [], ◌∷◌, ◌++◌, map, length, Option, Some}
 use Rattle.std.proofs.Common.{None, Result, Ok, Err, refl, ap, sym, subst, arith, if◌then◌else◌}
 use Rattle.std.specs.Option.{is_some, option_map}
 use Rattle.std.proofs.lemmas.Bool.Decides.{nat_tests}
 use Rattle.h264_verify.specs.declared.state.Depth.{Depth}
 use Rattle.h264_verify.specs.declared.state.Depth.TheVariants as depths
-use Rattle.h264_base.specs.declared.rule.Rule.{Rule}
-use Rattle.h264_base.specs.declared.rule.Rule.TheVariants.{CodeWord, Trailing}
-use Rattle.h264_base.specs.declared.element_name.ElementName.{ElementName}
 use Rattle.h264_base.specs.declared.stop.Stop.{Stop}
-use Rattle.h264_base.specs.declared.stop.Stop.TheVariants.{No, Outside}
-use Rattle.h264_base.specs.Body.{Body, place}
-use Rattle.h264_base.specs.Word.{value_at, closes_at, ends_at, no_zero_at, padding}
-use Rattle.h264_base.specs.Grammar.{Grammar, Element, Found, found as found_at, Ahead, ahead, bytes_at, Done, Read, Check, Support, More, Align, Bytes, Close}
-use Rattle.h264_base.specs.Grammar.{◌>>=◌ as ◌bind◌, check}
-use Rattle.h264_base.specs.Run.{Run, run, stopped, element_run, align_run}
-use Rattle.h264_bits.specs.Forms.{natural}
+use Rattle.h264_base.specs.declared.stop.Stop.TheVariants.{No}
+use Rattle.h264_base.specs.Body.{Body}
+use Rattle.h264_base.specs.Grammar.{Element, Done}
+use Rattle.h264_base.specs.Grammar.{◌>>=◌ as ◌bind◌}
+use Rattle.h264_base.specs.Run.{run}
 use Rattle.h264_units.specs.Stream.{NalUnit}
 use Rattle.h264_rbsp.specs.Emulation.{emulation_checked}
 use Rattle.h264_rbsp.specs.Rbsp.{body_of}
@@ -26,10 +21,8 @@ use Rattle.h264_pps.specs.declared.Pps.{Pps}
 use Rattle.h264_pps.specs.Pps.{pps}
 use Rattle.h264_sets.specs.Sets.{Maps}
 use Rattle.h264_header.specs.declared.header.Header.{Header}
-use Rattle.h264_header.specs.declared.header.SliceUnit.{SliceUnit}
-use Rattle.h264_header.specs.Layout.{layout_of, sets_of}
+use Rattle.h264_header.specs.Layout.{sets_of}
 use Rattle.h264_header.specs.Picture.{is_idr, is_reference}
-use Rattle.h264_header.specs.Header.{named_sets, header}
 use Rattle.h264_marking.specs.Frames.{References}
 use Rattle.h264_marking.specs.declared.frame.Numbering.{Numbering}
 use Rattle.h264_marking.specs.Window.{filled}
@@ -70,7 +63,8 @@ use Rattle.h264_verify.specs.UnitOutcome.{unit_outcome}
 use Rattle.h264_verify.specs.Keeping.{ended_pictures, ended_in}
 use Rattle.h264_verify.specs.Buffering.{gap_on, gaps_turn, missing_before, gaps_before, ended_picture, ended_turn, after_all, within_newest, told_frames}
 use Rattle.h264_verify.specs.Buffering.{told_picture, end_frames, closing_frames, missing_on, missing_steps, last_frames}
-use Rattle.h264_header.proofs.Ids.{seen-there as some-mapped}
+use Rattle.h264_cavlc.proofs.Gives.{Gives, gives-done, gives-any, gives-bind, gives-if}
+use Rattle.h264_verify.proofs.Given.{sets-given, gives-choice}
 use Rattle.h264_verify.proofs.AgreeingUnits.{of-both as told-both}
 
 -- ---- frames in the buffer
@@ -252,135 +246,7 @@ pub closing-of : (depth : Depth) (before : History) →
 closing-of depth before = subst (λ (ps : List CodedPicture). AreOf (length ps) (steps_outcome (closing_frames depth before)).calls)
     (sym (all-ended (goes_on before) (runs_of before))) (steps-of (length (runs_of before)) (closing_frames depth before) (closing-steps depth before))
 
--- ---- what a structure gives
-
--- this holds of all that it may give
-abbrev pub GivesAll : {A : Type 0} → (A → Type 0) → Grammar A → Type 0
-GivesAll P (Done x) = P x
-GivesAll P (Read name rule code k) = (e : Found) → GivesAll P (k e)
-GivesAll P (Check rule bit holds g) = holds ≡ true → GivesAll P g
-GivesAll P (Support feature bit holds g) = GivesAll P g
-GivesAll P (More k) = (b : Ahead) → GivesAll P (k b)
-GivesAll P (Align g) = GivesAll P g
-GivesAll P (Bytes n k) = (bytes : List ℕ) → GivesAll P (k bytes)
-GivesAll P (Close g) = GivesAll P g
-
-pub record Gives {A : Type 0} (P : A → Type 0) (g : Grammar A) : Type 0 where
-  pub all : GivesAll P g
-
-abbrev Any : {A : Type 0} → A → Type 0
-Any x = Unit {0}
-
-all-any : {A : Type 0} (g : Grammar A) → GivesAll Any g
-all-any (Done x) = tt
-all-any (Read name rule code k) = λ e. all-any (k e)
-all-any (Check rule bit holds g) = λ h. all-any g
-all-any (Support feature bit holds g) = all-any g
-all-any (More k) = λ b. all-any (k b)
-all-any (Align g) = all-any g
-all-any (Bytes n k) = λ bytes. all-any (k bytes)
-all-any (Close g) = all-any g
-
-gives-any : {A : Type 0} (g : Grammar A) → Gives Any g
-gives-any g = record { all = all-any g }
-
-all-bind : {A B : Type 0} (P : A → Type 0) (Q : B → Type 0) (g : Grammar A) (f : A → Grammar B) → GivesAll P g → ((x : A) → P x → GivesAll Q (f x)) →
-    GivesAll Q (◌bind◌ g f)
-unfolding ◌bind◌
-all-bind P Q (Done x) f h k = k x h
-all-bind P Q (Read name rule code next) f h k = λ e. all-bind P Q (next e) f (h e) k
-all-bind P Q (Check rule bit holds g) f h k = λ t. all-bind P Q g f (h t) k
-all-bind P Q (Support feature bit holds g) f h k = all-bind P Q g f h k
-all-bind P Q (More next) f h k = λ b. all-bind P Q (next b) f (h b) k
-all-bind P Q (Align g) f h k = all-bind P Q g f h k
-all-bind P Q (Bytes n next) f h k = λ bytes. all-bind P Q (next bytes) f (h bytes) k
-all-bind P Q (Close g) f h k = all-bind P Q g f h k
-
-gives-bind : {A B : Type 0} {P : A → Type 0} {Q : B → Type 0} {g : Grammar A} {f : A → Grammar B} → Gives P g → ((x : A) → P x → Gives Q (f x)) →
-    Gives Q (◌bind◌ g f)
-gives-bind {P} {Q} {g} {f} h k = record { all = all-bind P Q g f h.all (λ x p. (k x p).all) }
-
-gives-done : {A : Type 0} {P : A → Type 0} (x : A) → P x → Gives P (Done x)
-gives-done x h = record { all = h }
-
-gives-check : (rule : Rule) (bit : ℕ) (holds : Bool) → Gives (λ (u : Unit {0}). holds ≡ true) (check rule bit holds)
-unfolding check
-gives-check rule bit holds = record { all = λ t. t }
-
-gives-choice : {A : Type 0} {P : A → Type 0} (b : Bool) (g h : Grammar A) → (b ≡ true → Gives P g) → (b ≡ false → Gives P h) → Gives P (if b then g else h)
-gives-choice true g h k l = k refl
-gives-choice false g h k l = l refl
-
--- an answer has it, if there is one
-abbrev GivenBy : {A : Type 0} → (A → Type 0) → Result (A × ℕ) Stop → Type 0
-GivenBy {A} P r = (x : A × ℕ) → r ≡ Ok x → P x.0
-
-given-err : {A : Type 0} (P : A → Type 0) (s : Stop) → GivenBy P (Err s)
-given-err P s x e = absurd cc
-
-given-test : {A : Type 0} (P : A → Type 0) (b : Bool) (r : Run A) (s : Stop) → (b ≡ true → GivenBy P r.answer) →
-    GivenBy P (let q : Run A = if b then r else stopped s in q.answer)
-given-test P true r s h = h refl
-given-test P false r s h = given-err P s
-
-given-element : {A : Type 0} (P : A → Type 0) (body : Body) (name : ElementName) (rule : Rule) (i : ℕ) (next : ℕ → Found → Run A) (o : Option (ℤ × ℕ)) →
-    ((j : ℕ) (e : Found) → GivenBy P (next j e).answer) → GivenBy P (element_run body name rule i next o).answer
-given-element P body name rule i next None h = given-err P (No (place body i) rule)
-given-element P body name rule i next (Some x) h = h x.1 (found_at body (record { name = name; from = i; to = x.1; value = x.0 }))
-
-given-align : {A : Type 0} (P : A → Type 0) (body : Body) (next : Run A) (o : Option ℕ) → GivenBy P next.answer → GivenBy P (align_run body next o).answer
-given-align P body next None h = h
-given-align P body next (Some j) h = given-err P (No (place body j) CodeWord)
-
-given-all : {A : Type 0} (P : A → Type 0) (g : Grammar A) (body : Body) (i : ℕ) → GivesAll P g → GivenBy P (run g body i).answer
-unfolding run
-given-all {A} P (Done x) body i h = λ y e. let same : (x, i) ≡ y = cc in subst (λ (z : A × ℕ). P z.0) same h
-given-all P (Read name rule code k) body i h =
-    given-element P body name rule i (λ j e. run (k e) body j) (value_at code body.bytes i) (λ j e. given-all P (k e) body j (h e))
-given-all P (Check rule bit holds g) body i h = given-test P holds (run g body i) (No bit rule) (λ t. given-all P g body i (h t))
-given-all P (Support feature bit holds g) body i h = given-test P holds (run g body i) (Outside bit feature) (λ t. given-all P g body i h)
-given-all P (More k) body i h = given-all P (k (ahead body i (not (ends_at body.bytes i)))) body i (h (ahead body i (not (ends_at body.bytes i))))
-given-all P (Align g) body i h = given-align P body (run g body (i + padding i)) (no_zero_at (padding i) body.bytes i) (given-all P g body (i + padding i) h)
-given-all P (Bytes n k) body i h = given-test P (nat_le (i + 8 * n) (8 * length body.bytes)) (run (k (bytes_at n body.bytes i)) body (i + 8 * n))
-    (No (place body (8 * length body.bytes)) CodeWord) (λ t. given-all P (k (bytes_at n body.bytes i)) body (i + 8 * n) (h (bytes_at n body.bytes i)))
-given-all P (Close g) body i h = given-test P (closes_at body.bytes i) (run g body (8 * length body.bytes)) (No (place body i) Trailing)
-    (λ t. given-all P g body (8 * length body.bytes) h)
-
-given : {A : Type 0} {P : A → Type 0} {g : Grammar A} (body : Body) (i : ℕ) → Gives P g → GivenBy P (run g body i).answer
-given {P} {g} body i h = given-all P g body i h.all
-
 -- ---- what is in a unit
-
-abbrev HasSets : (ℕ → Option (Pps × Sps)) → ℕ → Type 0
-HasSets sets id = is_some (sets id) ≡ true
-
--- the same, where the structure says what it gives
-abbrev Giving : {A : Type 0} → Grammar A → (A → Type 0) → Type 0
-Giving g P = Gives P g
-
-named-gives : (sets : ℕ → Option (Pps × Sps)) → Giving (named_sets sets) (λ n. HasSets sets n.id.value)
-unfolding named_sets
-named-gives sets =
-    gives-bind (gives-any _) (λ e _.
-    gives-bind (gives-any _) (λ _ _.
-    gives-bind (gives-check _ _ _) (λ _ t.
-    gives-done _ (some-mapped layout_of (sets (natural e.value)) t))))
-
--- a header that was read has its sets
-header-gives : (sets : ℕ → Option (Pps × Sps)) (unit : SliceUnit) → Gives (λ (h : Header). HasSets sets h.pic_parameter_set_id.value) (header sets unit)
-unfolding header
-header-gives sets unit =
-    gives-bind (gives-any _) (λ _ _.
-    gives-bind (gives-any _) (λ _ _.
-    gives-bind (named-gives sets) (λ named has.
-    gives-bind (gives-any _) (λ _ _.
-    gives-bind (gives-any _) (λ _ _.
-    gives-bind (gives-any _) (λ _ _.
-    gives-bind (gives-any _) (λ _ _.
-    gives-bind (gives-any _) (λ _ _.
-    gives-bind (gives-any _) (λ _ _.
-    gives-bind (gives-any _) (λ _ _.
-    gives-done _ has))))))))))
 
 -- a slice stands in the unit of a slice, and has its sets
 abbrev pub IsSound : ℕ → History → Content → Type 0
@@ -389,28 +255,29 @@ IsSound kind before (contents.OfPps set) = Unit {0}
 IsSound kind before (contents.OfSlice h macroblocks) = (is_slice kind ≡ true) × (is_some (sets_at before h) ≡ true)
 IsSound kind before contents.Passed = Unit {0}
 
-passed-gives : (kind : ℕ) (before : History) → Gives (IsSound kind before) (Done contents.Passed)
-passed-gives kind before = gives-done contents.Passed tt
+passed-gives : (kind : ℕ) (before : History) → Gives (Done contents.Passed) (IsSound kind before)
+passed-gives kind before = gives-done (IsSound kind before) contents.Passed tt
 
-header-or : (kind : ℕ) (before : History) (unit : NalUnit) → Gives (IsSound kind before) (header_or_passed kind before unit)
+header-or : (kind : ℕ) (before : History) (unit : NalUnit) → Gives (header_or_passed kind before unit) (IsSound kind before)
 header-or kind before unit =
-    gives-choice (is_slice kind) _ _
-    (λ slice. gives-bind (header-gives (sets_of (maps_of before)) (slice_unit unit)) (λ h has. gives-done (contents.OfSlice h []) (slice, has)))
+    gives-choice (IsSound kind before) (is_slice kind) _ _
+    (λ slice. gives-bind _ (IsSound kind before) _ _ (sets-given (sets_of (maps_of before)) (slice_unit unit))
+    (λ h has. gives-done (IsSound kind before) (contents.OfSlice h []) (slice, has)))
     (λ _. passed-gives kind before)
 
-other-gives : (depth : Depth) (kind : ℕ) (before : History) (unit : NalUnit) → Gives (IsSound kind before) (other_content depth kind before unit)
+other-gives : (depth : Depth) (kind : ℕ) (before : History) (unit : NalUnit) → Gives (other_content depth kind before unit) (IsSound kind before)
 other-gives depths.Units kind before unit = passed-gives kind before
 other-gives depths.Headers kind before unit = header-or kind before unit
 other-gives depths.Full kind before unit = header-or kind before unit
 
-content-gives : (extent : Extent) (kind : ℕ) (before : History) (unit : NalUnit) → Gives (IsSound kind before) (content extent kind before unit)
+content-gives : (extent : Extent) (kind : ℕ) (before : History) (unit : NalUnit) → Gives (content extent kind before unit) (IsSound kind before)
 unfolding content
 content-gives extent kind before unit =
-    gives-choice (kind == 7) _ _
-    (λ _. gives-bind (gives-any (sps extent.target)) (λ set _. gives-done (contents.OfSps set) tt))
-    (λ _. gives-choice (kind == 8) _ _
-    (λ _. gives-bind (gives-any (pps extent.target)) (λ set _. gives-done (contents.OfPps set) tt))
-    (λ _. other-gives extent.depth kind before unit))
+    gives-if (IsSound kind before) (kind == 7) _ _
+    (gives-bind _ (IsSound kind before) _ _ (gives-any (sps extent.target)) (λ set _. gives-done (IsSound kind before) (contents.OfSps set) tt))
+    (gives-if (IsSound kind before) (kind == 8) _ _
+    (gives-bind _ (IsSound kind before) _ _ (gives-any (pps extent.target)) (λ set _. gives-done (IsSound kind before) (contents.OfPps set) tt))
+    (other-gives extent.depth kind before unit))
 
 -- slice data give the macroblocks of a slice
 abbrev pub IsWith : Content → Content → Type 0
@@ -420,8 +287,10 @@ IsWith (contents.OfSlice h macroblocks) found = (ms : List CodedMacroblock) × (
 IsWith contents.Passed found = found ≡ contents.Passed
 
 whole-gives : (before : History) (unit : NalUnit) (h : Header) (macroblocks : List CodedMacroblock) →
-    Gives (IsWith (contents.OfSlice h macroblocks)) (◌bind◌ (slice_data_at before unit h) (λ ms. Done (contents.OfSlice h ms)))
-whole-gives before unit h macroblocks = gives-bind (gives-any (slice_data_at before unit h)) (λ ms _. gives-done (contents.OfSlice h ms) (ms, refl))
+    Gives (◌bind◌ (slice_data_at before unit h) (λ ms. Done (contents.OfSlice h ms))) (IsWith (contents.OfSlice h macroblocks))
+whole-gives before unit h macroblocks =
+    gives-bind _ (IsWith (contents.OfSlice h macroblocks)) _ _ (gives-any (slice_data_at before unit h))
+    (λ ms _. gives-done (IsWith (contents.OfSlice h macroblocks)) (contents.OfSlice h ms) (ms, refl))
 
 -- ---- one part after another
 
@@ -466,7 +335,7 @@ data-ends depths.Full before unit (contents.OfSlice h macroblocks) bit found e =
     let j = in-turn (structure_from g (body_of unit) bit) (λ x. gives x.0) found e in
     let same : j.value.0 ≡ found = cc (j.ends) in
     record {
-      same = subst (IsWith (contents.OfSlice h macroblocks)) same (given (body_of unit) bit (whole-gives before unit h macroblocks) j.value j.is);
+      same = subst (IsWith (contents.OfSlice h macroblocks)) same ((whole-gives before unit h macroblocks).gives (body_of unit) bit j.value.0 j.value.1 j.is);
       any = λ n. in-turn-of n j (elements-of n (body_of unit) (run g (body_of unit) bit).elements) tt;
     }
 data-ends depth before unit contents.Passed bit found e = record { same = cc; any = λ n. tt }
@@ -670,7 +539,7 @@ module _ (extent : Extent) (before : History) (unit : NalUnit) where
       let x = read.value in
       let met = in-turn (steps_outcome (content_steps extent.depth before unit x.0)) (λ _. following x) found read.ends in
       let rest = data-ends extent.depth before unit x.0 x.1 found met.ends in
-      let grown = content-grows x.0 (given body 0 (content-gives extent kind before unit) x read.is) found rest.same in
+      let grown = content-grows x.0 ((content-gives extent kind before unit).gives body 0 x.0 x.1 read.is) found rest.same in
       record {
         grows = grown.grows;
         ends = grown.ends;

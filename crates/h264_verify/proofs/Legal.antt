@@ -11,8 +11,7 @@ use Rattle.h264_base.specs.Body.{Body}
 use Rattle.h264_base.specs.Grammar.{Grammar, Element, Says}
 use Rattle.h264_base.specs.Run.{Run}
 use Rattle.h264_base.proofs.OneAnswer.{run-one}
-use Rattle.h264_bits.specs.Forms.{natural}
-use Rattle.h264_cavlc.proofs.Gives.{Gives, gives-done, gives-any, gives-bind, gives-check, gives-if}
+use Rattle.h264_cavlc.proofs.Gives.{Gives, gives-done, gives-any, gives-bind, gives-if}
 use Rattle.h264_rbsp.specs.Rbsp.{body_of}
 use Rattle.h264_units.specs.Stream.{NalUnit}
 use Rattle.h264_sps.specs.declared.sps.Sps.{Sps}
@@ -23,8 +22,8 @@ use Rattle.h264_bits.specs.declared.element.Found.{Found}
 use Rattle.h264_header.specs.declared.header.Header.{Header}
 use Rattle.h264_header.specs.declared.header.Marking.{Marking}
 use Rattle.h264_header.specs.declared.header.SliceUnit.{SliceUnit}
-use Rattle.h264_header.specs.Header.{header, named_sets}
-use Rattle.h264_header.specs.Layout.{layout_of, sets_of}
+use Rattle.h264_header.specs.Header.{header}
+use Rattle.h264_header.specs.Layout.{sets_of}
 use Rattle.h264_header.specs.Picture.{is_idr}
 use Rattle.h264_verify.specs.Telling.{Told, Said, Decodes, Shows, HasFrame, AreDecoded, Family}
 use Rattle.h264_verify.specs.Content.{Content}
@@ -41,11 +40,11 @@ use Rattle.h264_units.specs.UnitHeader.{is_slice}
 use Rattle.h264_verify.specs.Order.{content, content_steps, data_course, frames_at, content_course}
 use Rattle.h264_verify.specs.Verdict.{IsLegal}
 use Rattle.h264_verify.proofs.AgreeingUnits.{decoded-last}
+use Rattle.h264_verify.proofs.Given.{sets-given}
 use Rattle.h264_verify.proofs.Marked.{IsOfUnit, header-of, marked-of}
 use Rattle.h264_verify.proofs.Named.{LeavesAlone}
 use Rattle.h264_verify.specs.Held.{is_own}
 use Rattle.h264_verify.specs.Sound.{IsMarked}
-use Rattle.h264_header.proofs.Ids.{seen-there as some-mapped}
 
 -- ---- steps
 
@@ -217,26 +216,6 @@ has-met target before r calls l =
 pub record IsHeader (sets : ℕ → Option (Pps × Sps)) (u : SliceUnit) (h : Header) : Type 0 where
   pub named : is_some (sets h.pic_parameter_set_id.value) ≡ true
   pub unit : IsOfUnit u h
-
-named-gives : (sets : ℕ → Option (Pps × Sps)) → Gives (named_sets sets) (λ n. is_some (sets n.id.value) ≡ true)
-unfolding named_sets
-named-gives sets = gives-bind _ _ _ _ (gives-any _)
-    (λ e a. gives-bind _ _ _ _ (gives-any _)
-    (λ x b. gives-bind _ _ _ _ (gives-check _ _ _) (λ y t. gives-done _ _ (some-mapped layout_of (sets (natural e.value)) t))))
-
-abbrev HasSets : (ℕ → Option (Pps × Sps)) → Header → Type 0
-HasSets sets h = is_some (sets h.pic_parameter_set_id.value) ≡ true
-
-sets-given : (sets : ℕ → Option (Pps × Sps)) (u : SliceUnit) → Gives (header sets u) (HasSets sets)
-unfolding header
-sets-given sets u =
-    gives-bind _ (HasSets sets) _ _ (gives-any _)
-    (λ first a. gives-bind _ (HasSets sets) _ _ (gives-any _) (λ stated b. gives-bind _ (HasSets sets) _ _ (named-gives sets) (λ named n.
-    gives-bind _ (HasSets sets) _ _ (gives-any _) (λ num c. gives-bind _ (HasSets sets) _ _ (gives-any _) (λ idr d.
-    gives-bind _ (HasSets sets) _ _ (gives-any _) (λ order e. gives-bind _ (HasSets sets) _ _ (gives-any _) (λ kind f.
-    gives-bind _ (HasSets sets) _ _ (gives-any _) (λ marking g.
-    gives-bind _ (HasSets sets) _ _ (gives-any _) (λ qp i. gives-bind _ (HasSets sets) _ _ (gives-any _) (λ filter j.
-    gives-done (HasSets sets) _ n))))))))))
 
 header-gives : (sets : ℕ → Option (Pps × Sps)) (u : SliceUnit) → Gives (header sets u) (IsHeader sets u)
 header-gives sets u = record {

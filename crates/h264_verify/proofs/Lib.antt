@@ -1,4 +1,5 @@
 pub mod AgreeingUnits
+pub mod Given
 pub mod Growing
 pub mod Marked
 pub mod Joining
