@@ -9,8 +9,9 @@ use Rattle.h264_base.specs.Word.{Unsigned}
 use Rattle.h264_base.specs.Grammar.{Grammar, Done, ◌>>=◌, element, check, more}
 use Rattle.h264_bits.specs.Forms.{natural}
 use Rattle.h264_near.specs.declared.motion.Vector.{Vector}
+use Rattle.h264_near.specs.declared.skipped.Skipped.{Skipped}
 use Rattle.h264_near.specs.Coded.{CodedMacroblock, Inter}
-use Rattle.h264_vectors.specs.Vectors.{skip_vector}
+use Rattle.h264_vectors.specs.Vectors.{skip_vector, zero_vector}
 use Rattle.h264_vectors.specs.declared.slice.SliceContext.{SliceContext}
 use Rattle.h264_mbsyntax.specs.declared.slice.Standing.{Standing}
 use Rattle.h264_mbsyntax.specs.declared.slice.Standing.TheVariants.{Next, Skipping}
@@ -25,6 +26,10 @@ Step = Option (Standing × List CodedMacroblock)
 -- a skipped macroblock (7.4.4): P_Skip, without coefficients
 unfoldable pub skipped_of : SliceContext → List CodedMacroblock → Vector → CodedMacroblock
 skipped_of slice picture v = coded slice.number (Inter (replicate 16 (Some (motion_of slice 0 v)))) (no_coefficients (predicted_qp slice picture))
+
+-- the skipped macroblock of this slice that stands still, with this QP_Y: its vector is 0 (8.4.1.1)
+abbrev pub still_macroblock : SliceContext → ℕ → Skipped
+still_macroblock slice qp = record { slice = slice.number; qp = qp; motion = motion_of slice 0 zero_vector }
 
 unfoldable pub skip : ℕ → SliceContext → List CodedMacroblock → ℕ → ℕ → Grammar Step
 skip width slice picture bit more_skips = do

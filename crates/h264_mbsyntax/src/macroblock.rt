@@ -32,7 +32,9 @@ pub enum Kind {
     Intra16x16 { mode: Intra16x16PredMode },
     /// I_PCM.
     Pcm,
-    /// P: references and vectors are the contexts'. The blocks of each partition have one reference and one vector.
+    /// P: references and vectors are the contexts'. The blocks of each partition have one reference and one vector, so that they may be predicted
+    /// and filtered together. A `CodedMacroblock` has no partition: what follows of a macroblock goes by the motion of each 4x4 block (8.4.2, 8.7.2.1),
+    /// and is the same for every partition into blocks of one motion.
     Inter { partition: Partition },
 }
 

@@ -7,7 +7,7 @@ ghost use Rattle.h264_near.specs.Skips.{IsSkipped};
 ghost use Rattle.h264_vectors.specs.Derived.{motion_of as motion_by};
 ghost use Rattle.h264_vectors.specs.Vectors.{keeps_still, zero_vector};
 ghost use Rattle.h264_mbsyntax.specs.Macroblock.{predicted_qp};
-ghost use Rattle.h264_mbsyntax.specs.Slice.{skipped_of};
+ghost use Rattle.h264_mbsyntax.specs.Slice.{skipped_of, still_macroblock};
 
 use h264_near::{Skipped, Vector};
 use h264_vectors::{SliceContext, motion_of};
@@ -30,10 +30,11 @@ pub fn skip_macroblock(slice: &SliceContext, vector: Vector, qp: u8) -> Skipped
 /// The vector of a macroblock that stands still.
 const STILL: Vector = Vector { x: 0, y: 0 };
 
-/// Whether two skipped macroblocks are alike.
+/// Whether two skipped macroblocks are alike: all fields are equal.
 #[inline]
 fn is_alike(one: &Skipped, other: &Skipped) -> bool
-    ensures { result ≡ true → one.now ≡ other.now }
+    ensures same { result ≡ true → one.now ≡ other.now }
+    ensures found { one.now ≡ other.now → result ≡ true }
 {
     one.slice == other.slice
         && one.qp == other.qp
@@ -43,7 +44,7 @@ fn is_alike(one: &Skipped, other: &Skipped) -> bool
         && one.motion.vector.y == other.motion.vector.y
 }
 
-/// Whether a skipped macroblock stands still in this slice, so that the next one of its row, if it is skipped, is alike (8.4.1.1). `qp` is QP_Y of the
+/// Whether a skipped macroblock is the one that stands still in this slice, so that the next one of its row, if it is skipped, is alike (8.4.1.1). `qp` is QP_Y of the
 /// macroblock before that one.
 #[inline]
 pub fn is_repeated(slice: &SliceContext, skipped: &Skipped, qp: u8) -> bool
@@ -51,6 +52,7 @@ pub fn is_repeated(slice: &SliceContext, skipped: &Skipped, qp: u8) -> bool
     ensures still { result ≡ true → keeps_still (Some (Some skipped.now.motion)) ≡ true }
     ensures holds { result ≡ true → (picture : List CodedMacroblock) → qp ≡ predicted_qp slice.now picture →
         IsSkipped skipped.now (skipped_of slice.now picture zero_vector) }
+    ensures found { skipped.now ≡ still_macroblock slice.now qp → result ≡ true }
 {
     let own = skip_macroblock(slice, STILL, qp);
     is_alike(skipped, &own)

@@ -2,7 +2,7 @@
 use Rattle.std.proofs.Common.{◌≡◌, ◌≢◌, ◌⊎◌, inl, inr, ℕ, zero, suc, ◌+◌, ◌-◌, ◌*◌, ◌<◌, ◌≤◌, min, true, false, List, [], ◌∷◌, ◌++◌, length, replicate, take}
 use Rattle.std.proofs.Common.{drop, get_or, refl, ap, sym, ◌∙◌, subst, arith, append_assoc, length-append}
 use Rattle.std.proofs.lemmas.List.{append-nil, append_cancel_right, drop_more, drop-drop, drop-take, take-take, take_all, length-drop, length-replicate}
-use Rattle.std.proofs.lemmas.List.{length-take, replicate-append-replicate, take-append-drop}
+use Rattle.std.proofs.lemmas.List.{length-take, replicate-append-replicate, take-append-drop, take_more}
 use Rattle.h264_base.specs.declared.rule.Rule.TheVariants.{ByteStream, EmptyUnit}
 use Rattle.h264_base.specs.declared.stop.Feature.TheVariants.{UnitTooLong, InputTooLong}
 use Rattle.h264_base.specs.declared.stop.Stop.{Stop}
@@ -386,3 +386,48 @@ open? Over = inr (λ o. o)
 
 pub takes-some : (phase : Phase) (lead : ℕ) (body piece : List ℕ) (plan : Plan) → Plans phase lead body piece plan → 0 < length piece → 0 < plan.taken
 takes-some phase lead body piece plan p more = elim (open? plan.phase) [ inl o ↦ let e = p.all o in omega arith | inr n ↦ p.some n ]
+
+-- two lists without their last element
+same-front : (a b : List ℕ) (x y : ℕ) → a ++ x ∷ [] ≡ b ++ y ∷ [] → a ≡ b
+same-front [] [] x y e = refl
+same-front [] (d ∷ []) x y e = cc
+same-front [] (d ∷ f ∷ b) x y e = cc
+same-front (c ∷ []) [] x y e = cc
+same-front (c ∷ f ∷ a) [] x y e = cc
+same-front (c ∷ a) (d ∷ b) x y e =
+    let heads : c ≡ d = cc in
+    let tails : a ++ x ∷ [] ≡ b ++ y ∷ [] = cc in
+    cc (heads, same-front a b x y tails)
+
+-- before the last byte taken no unit waits
+pub least-taken : (phase : Phase) (lead : ℕ) (body piece : List ℕ) (plan : Plan) → Plans phase lead body piece plan → waits plan.phase ≡ true →
+    IsUndecided (rest_of phase lead body ++ take (plan.taken - 1) piece)
+least-taken phase lead body piece plan p w = by plan.phase p.runs p.sound p.rest_is p.some w
+  where
+    split : 0 < plan.taken → take plan.taken piece ≡ take (plan.taken - 1) piece ++ get_or piece (plan.taken - 1) 0 ∷ []
+    split h = let v : plan.taken ≤ length piece = p.within in
+        let m : plan.taken - 1 + 1 ≡ plan.taken = omega arith in
+        ap (λ n. take n piece) (sym m) ∙ take_more piece (plan.taken - 1) 0 (omega arith)
+
+    by : (q : Phase) → IsRunning q → IsSound q (body ++ added plan piece) →
+        rest_of q plan.lead (body ++ added plan piece) ≡ rest_of phase lead body ++ take plan.taken piece → (¬ IsOpen q → 0 < plan.taken) → waits q ≡ true →
+        IsUndecided (rest_of phase lead body ++ take (plan.taken - 1) piece)
+    by Between r s e n w = cc
+    by (Inside zeros) r s e n w = cc
+    by (Waiting code) r s e n w =
+        let b = body ++ added plan piece in
+        let whole : started plan.lead (b ++ 0 ∷ 0 ∷ []) ++ third code ∷ [] ≡
+        (rest_of phase lead body ++ take (plan.taken - 1) piece) ++ get_or piece (plan.taken - 1) 0 ∷ [] =
+        started-append plan.lead (b ++ 0 ∷ 0 ∷ []) (third code ∷ []) ∙ ap (started plan.lead) (append_assoc b (0 ∷ 0 ∷ []) (third code ∷ [])) ∙ e ∙
+        ap (λ l. rest_of phase lead body ++ l) (split (n (λ o. o))) ∙ sym (append_assoc (rest_of phase lead body) (take (plan.taken - 1) piece) _) in
+        inr (record {
+          zeros = plan.lead;
+          body = b;
+          held = 2;
+          whole = sym (same-front (started plan.lead (b ++ 0 ∷ 0 ∷ [])) (rest_of phase lead body ++ take (plan.taken - 1) piece) (third code) _ whole);
+          inner = s.0.1;
+          fits = s.1;
+          few = omega arith;
+        })
+    by (Last zeros) r s e n w = absurd r
+    by Over r s e n w = absurd r

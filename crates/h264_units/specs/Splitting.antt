@@ -1,5 +1,5 @@
 -- What a splitter is to its callers, and what its calls do. A working form.
-use Rattle.std.specs.Prelude.{◌≡◌, ℕ, ◌+◌, ◌≤◌, ◌⊎◌, Bool, false, IsTrue, IsFalse, List, [], ◌++◌, length, take, Option, Some, None}
+use Rattle.std.specs.Prelude.{◌≡◌, ℕ, ◌+◌, ◌-◌, ◌<◌, ◌≤◌, ◌⊎◌, Bool, false, IsTrue, IsFalse, List, [], ◌++◌, length, take, Option, Some, None}
 use Rattle.h264_base.specs.declared.stop.Stop.{Stop}
 use Rattle.h264_base.specs.declared.stop.Stop.TheVariants.{No, Outside, Memory, Read, Write}
 use Rattle.h264_units.specs.Stream.{NalUnit, past, input_limit, Next, Tail, Zeros, HasTail, IsUndecided, tail_stop}
@@ -31,7 +31,7 @@ pub record Refused (at : ℕ) (bytes : List ℕ) (stop : Stop) : Type 0 where
   pub stop_is : tail_stop tail ≡ Some stop
   pub stands : (more : List ℕ) → HasTail at (bytes ++ more) tail
 
--- The first n bytes of a piece were taken: all of them, unless a unit waits or the input has ended.
+-- The first n bytes of a piece were taken: all of them, unless a unit waits or the input has ended, and none after those that show that the unit is whole.
 pub record Pushed (old new : Splitting) (piece : List ℕ) (n : ℕ) : Type 0 where
   pub within : n ≤ length piece
   pub at_is : new.at ≡ old.at
@@ -39,6 +39,8 @@ pub record Pushed (old new : Splitting) (piece : List ℕ) (n : ℕ) : Type 0 wh
   pub all : IsFalse new.waiting → IsFalse new.ended → n ≡ length piece
   -- no whole unit is left
   pub undecided : IsFalse new.waiting → IsUndecided new.rest
+  -- no unit was whole before the last of these bytes
+  pub least : IsTrue new.waiting → 0 < n → IsUndecided (old.rest ++ take (n - 1) piece)
   pub ended_is : new.ended ≡ old.ended
   pub stop_is : new.stop ≡ None
 

@@ -1,5 +1,5 @@
 -- The steps of a session one after another, with frames to which more come.
-use Rattle.std.proofs.Common.{◌≡◌, ℕ, ◌≤◌, ◌==◌, ◌||◌, ◌&&◌, Bool, true, false, IsFalse, drop}
+use Rattle.std.proofs.Common.{◌≡◌, ℕ, ◌<◌, ◌≤◌, ◌==◌, ◌||◌, ◌&&◌, Bool, true, false, IsFalse, drop}
 use Rattle.std.proofs.Common.{List, [], ◌++◌, length, ◌+◌, ◌*◌, ◌⊎◌, inl, inr, Option}
 use Rattle.std.proofs.Common.{Result, Ok, Err, refl, ap, sym, subst, arith}
 use Rattle.std.proofs.lemmas.Bool.{eqb-true}
@@ -10,6 +10,7 @@ use Rattle.h264_base.specs.declared.stop.Stop.TheVariants.{No, Outside, Memory, 
 use Rattle.h264_base.specs.Call.{Call, span}
 use Rattle.h264_units.specs.Stream.{NalUnit, Next}
 use Rattle.h264_units.specs.Splitting.{Splitting, Pushed, Taken, Finished}
+use Rattle.h264_verify.proofs.Ways.{next-some}
 use Rattle.h264_verify.specs.declared.state.State.{State}
 use Rattle.h264_base.specs.declared.summary.Summary.{Summary}
 use Rattle.h264_verify.specs.Outcome.{Plays}
@@ -219,22 +220,26 @@ finishes-both {X} {extent} {took} {failures} {frames} {before} {unit} {s} {s'} {
 
 -- it was refused for bytes
 pub on-bytes : {S : Type 0} (extent : Extent) (took : S → List Call → Type 0) (failures : S → ℕ) (frames : Family) (old : Standing History) (piece : List ℕ)
-    (s : S) (stop : Stop) → stop ≡ Memory → StopsOn extent (frame_span took failures frames s s) old piece stop
-on-bytes {S} extent took failures frames old piece s stop e =
+    (s : S) (stop : Stop) → stop ≡ Memory → 0 < length piece → StopsOn extent (frame_span took failures frames s s) old piece stop
+on-bytes {S} extent took failures frames old piece s stop e some =
     subst (λ (x : Stop). StopsOn extent (frame_span took failures frames s s) old piece x) (sym e)
     (record {
       made = frames;
       same = agree-none (ended_in old.state) frames;
-      stops = memory-stops (judging extent) (took_with frames took) failures old piece
-          s;
+      stops = memory-stops (judging extent) (took_with frames took) failures old piece s some;
     })
 
 -- at the end of the input
 pub finishes-bytes : {S : Type 0} (extent : Extent) (took : S → List Call → Type 0) (failures : S → ℕ) (frames : Family) (old : Standing History) (s : S)
-    (stop : Stop) → stop ≡ Memory → FinishesOn extent (frame_span took failures frames s s) old (Err stop)
-finishes-bytes {S} extent took failures frames old s stop e =
+    (stop : Stop) → stop ≡ Memory → 0 < length old.split.rest → FinishesOn extent (frame_span took failures frames s s) old (Err stop)
+finishes-bytes {S} extent took failures frames old s stop e some =
     subst (λ (x : Stop). FinishesOn extent (frame_span took failures frames s s) old (Err x)) (sym e)
-    (record { made = frames; same = agree-none (ended_in old.state) frames; finishes = finish-bytes (judging extent) (took_with frames took) failures old s })
+    (record {
+      made = frames;
+      same = agree-none (ended_in old.state) frames;
+      finishes = finish-bytes (judging extent) (took_with frames took) failures old s
+          some;
+    })
 
 -- a unit was left open, and is read
 pub last-read : (depth : Depth) (old mid new : Splitting) (unit : NalUnit) → Finished old mid → Taken mid new unit → is_read depth unit ≡ true →
@@ -245,6 +250,10 @@ last-read depth old mid new unit f t r = record {
   next = subst (λ (a : ℕ). Next a old.rest unit new.rest) f.at_is (subst (λ (l : List ℕ). Next mid.at l unit new.rest) f.rest_is t.next);
   read = r;
 }
+
+-- so bytes were left
+pub last-some : (old mid new : Splitting) (unit : NalUnit) → Finished old mid → Taken mid new unit → 0 < length old.rest
+last-some old mid new unit f t = subst (λ (l : List ℕ). 0 < length l) f.rest_is (next-some mid.at mid.rest unit new.rest t.next)
 
 or-slice : (x y z : Bool) → z ≡ true → (x || y || z && true) ≡ true
 or-slice true y z e = refl

@@ -1,6 +1,6 @@
 -- How a stream that comes in pieces is judged.
 use Rattle.std.proofs.Common.{◌≡◌, ℕ, ◌+◌, ◌*◌, IsFalse, List, [], ◌∷◌, ◌++◌, length, take, drop, Some, Result, Ok, Err, refl, ap, sym, ◌∙◌, subst}
-use Rattle.std.proofs.Common.{append_assoc}
+use Rattle.std.proofs.Common.{◌<◌, arith, append_assoc, length-append}
 use Rattle.std.proofs.lemmas.List.{append-nil, take-append-drop}
 use Rattle.h264_base.specs.Call.{span}
 use Rattle.h264_base.specs.declared.stop.Stop.{Stop}
@@ -65,27 +65,31 @@ refused-ends j took old state piece s stop r = record {
       ∙ tail-stops j state r.tail stop _ r.stop_is;
 }
 
+longer : (rest piece more : List ℕ) → 0 < length piece → 0 < length (rest ++ (piece ++ more))
+longer rest piece more h = let a = length-append rest (piece ++ more) in let b = length-append piece more in omega arith
+
 -- memory was refused for bytes
 pub memory-stops : {State Summary : Type 0} (j : Judging State Summary) {S : Type 0} (took : S → List Told → Type 0) (failures : S → ℕ) (old : Standing State)
-    (piece : List ℕ) (s : S) → Stops j (span took failures s s) old piece Memory
-memory-stops j took failures old piece s =
+    (piece : List ℕ) (s : S) → 0 < length piece → Stops j (span took failures s s) old piece Memory
+memory-stops j took failures old piece s some =
     record {
       stops = (
         record { calls = []; tells = tells-none took s; after = λ more o c. (o.calls, refl) },
         refl,
-        λ more. lacks-bytes j took old.split.at old.state (old.split.rest ++ (piece ++ more)) s,
+        λ more. lacks-bytes j took old.split.at old.state (old.split.rest ++ (piece ++ more)) s
+            (λ h. longer old.split.rest piece more some),
       );
     }
 
 pub stops-push : {State Summary : Type 0} (j : Judging State Summary) {S : Type 0} (took : S → List Told → Type 0) (failures : S → ℕ) (old new : Splitting)
-    (state : State) (piece : List ℕ) (s : S) (stop : Stop) → PushStops old new piece stop →
+    (state : State) (piece : List ℕ) (s : S) (stop : Stop) → 0 < length piece → PushStops old new piece stop →
     Stops j (span took failures s s) (record { split = old; state = state }) piece stop
-stops-push j took failures old new state piece s (No bit rule) p = record { stops = (refused-ends j took old state piece s (No bit rule) p.0, refl) }
-stops-push j took failures old new state piece s (Outside bit feature) p =
+stops-push j took failures old new state piece s (No bit rule) some p = record { stops = (refused-ends j took old state piece s (No bit rule) p.0, refl) }
+stops-push j took failures old new state piece s (Outside bit feature) some p =
     record { stops = (refused-ends j took old state piece s (Outside bit feature) p.0, refl) }
-stops-push j took failures old new state piece s Memory p = memory-stops j took failures (record { split = old; state = state }) piece s
-stops-push j took failures old new state piece s Read p = absurd p
-stops-push j took failures old new state piece s Write p = absurd p
+stops-push j took failures old new state piece s Memory some p = memory-stops j took failures (record { split = old; state = state }) piece s some
+stops-push j took failures old new state piece s Read some p = absurd p
+stops-push j took failures old new state piece s Write some p = absurd p
 
 -- the units after the first, and the outcome from the first on
 pub record FirstJudged {State Summary : Type 0} (j : Judging State Summary) (state : State) (unit : NalUnit) (rest : List ℕ) (o : Outcome Summary) : Type 0

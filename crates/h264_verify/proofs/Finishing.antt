@@ -1,6 +1,6 @@
 -- The end of the input.
 use Rattle.std.proofs.Common.{◌≡◌, ℕ, ◌+◌, ◌*◌, ◌⊎◌, inl, inr, ◌↔◌, Bool, true, false, IsFalse, List, [], ◌∷◌, ◌++◌, length, Some, Result, Ok, Err, refl, ap}
-use Rattle.std.proofs.Common.{sym, ◌∙◌, subst}
+use Rattle.std.proofs.Common.{sym, ◌∙◌, subst, ◌<◌, arith}
 use Rattle.std.proofs.lemmas.List.{append-nil}
 use Rattle.h264_base.specs.Call.{span}
 use Rattle.h264_base.specs.declared.stop.Stop.{Stop}
@@ -66,13 +66,14 @@ named-not-memory tail stop e m = let n : IsNamed Memory = subst IsNamed m (tail-
 
 -- memory was refused for the bytes of the last unit
 pub finish-bytes : {State Summary : Type 0} (j : Judging State Summary) {S : Type 0} (took : S → List Told → Type 0) (failures : S → ℕ) (old : Standing State)
-    (s : S) → Finishes {Summary = Summary} j (span took failures s s) old (Err Memory)
-finish-bytes {Summary} j took failures old s = record {
+    (s : S) → 0 < length old.split.rest → Finishes {Summary = Summary} j (span took failures s s) old (Err Memory)
+finish-bytes {Summary} j took failures old s some = record {
   finishes = λ o c. memory-plays took failures (λ (x : Summary). x) o s;
   no_read = λ e. let n = same-stop {X = Summary} Memory Read e in cc;
   write = λ e. absurd (let n = same-stop {X = Summary} Memory Write e in cc);
   write_told = inl refl;
-  lacks = λ e. lacks-bytes j took old.split.at old.state (old.split.rest ++ []) s;
+  lacks = λ e. lacks-bytes j took old.split.at old.state (old.split.rest ++ []) s
+      (λ h. let n = ap (λ (l : List ℕ). length l) (append-nil old.split.rest) in omega arith);
 }
 
 pub finish-stops : {State Summary : Type 0} (j : Judging State Summary) {S : Type 0} (took : S → List Told → Type 0) (failures : S → ℕ) (old new : Splitting)

@@ -47,7 +47,8 @@ use Rattle.h264_verify.proofs.Sources.{judges-memory, piece-more, pieces-stop, p
 use Rattle.h264_verify.proofs.Stepping.{outcome, met-is, stop-is, either, bound, bind-stop, runs-outcome, SomeRun, some-run}
 use Rattle.h264_verify.proofs.Stepping as stepping
 use Rattle.h264_verify.proofs.Bounds.{are-decodable}
-use Rattle.h264_verify.proofs.Ways.{splits-shown, way-none, shows-as, shows-both, shows-more}
+use Rattle.h264_verify.proofs.Ways.{splits-shown, way-none, shows-as, shows-both, shows-more, leaves-shown, leaves-both}
+use Rattle.h264_verify.specs.Memory.{LeavesAfter}
 
 -- A legal unit comes to its calls, and joins those before it.
 pub legal-unit : (extent : Extent) (before : History) (r : ReadUnit) (calls : List Told) → IsLegal extent before r calls →
@@ -303,15 +304,15 @@ in-order [] us = refl
 in-order (r ∷ h) us = in-order h (r.unit ∷ us) ∙ sym (append_assoc (in_order h []) (r.unit ∷ []) us) ∙ ap (λ l. l ++ us) (sym (in-order h (r.unit ∷ [])))
 
 -- where memory was wanting, after legal units
-wants-after : (extent : Extent) (before : History) (units : List NalUnit) (calls : List Told) → LacksNext (judging extent) before units calls →
-    IsWanting extent before units calls
-wants-after extent before units calls (lacking.ForBytes e) = BeforeNext e
-wants-after extent before units calls (lacking.ForUnit unit later e g) = ForPicture unit later e g
+wants-after : (extent : Extent) (before : History) (units : List NalUnit) (calls : List Told) (place : ℕ) (left : List ℕ) →
+    LacksNext (judging extent) before units calls place left → IsWanting extent before units calls place left
+wants-after extent before units calls place left (lacking.ForBytes e more) = BeforeNext e more
+wants-after extent before units calls place left (lacking.ForUnit unit later e g) = ForPicture unit later e g
 
-wants-at : (extent : Extent) (bytes : List ℕ) (before : History) (told : List Told) (all units : List NalUnit) (tail : Tail) (calls : List Told) →
-    AreLegal extent before told → Splits 0 bytes all tail → all ≡ in_order before [] ++ units → Lacks (judging extent) before units calls →
-    WantsAt extent bytes (told ++ calls)
-wants-at extent bytes before told all units tail calls l s e k =
+wants-at : (extent : Extent) (bytes : List ℕ) (before : History) (told : List Told) (all units : List NalUnit) (tail : Tail) (calls : List Told) (at : ℕ)
+    (rest : List ℕ) → AreLegal extent before told → Splits 0 bytes all tail → all ≡ in_order before [] ++ units →
+    LeavesAfter 0 bytes (in_order before []) at rest → Lacks (judging extent) at before rest units calls → WantsAt extent bytes (told ++ calls)
+wants-at extent bytes before told all units tail calls at rest l s e b k =
     let legal = leads-legal extent k.mid before k.judged k.first told k.led l in
     record {
       before = k.mid;
@@ -323,21 +324,27 @@ wants-at extent bytes before told all units tail calls l s e k =
       first = told ++ k.first;
       last = k.last;
       legal = legal.0;
-      wants = wants-after extent k.mid k.later k.last k.lacks;
+      place = k.place;
+      left = k.left;
+      stands = subst (λ us. LeavesAfter 0 bytes us k.place k.left) (sym (in-order before k.judged) ∙ sym legal.1)
+          (leaves-both 0 bytes (in_order before []) k.judged at k.place rest k.left b k.stands);
+      wants = wants-after extent k.mid k.later k.last k.place k.left k.lacks;
       calls_are = ap (λ c. told ++ c) k.calls_are ∙ sym (append_assoc told k.first k.last);
     }
 
 wanting : {S : Type 0} (extent : Extent) (took : S → List Told → Type 0) (failures : S → ℕ) (bytes : List ℕ) (before : History) (told : List Told) (at : ℕ)
     (rest : List ℕ) (s s' : S) → AreLegal extent before told →
     ((all : List NalUnit) (tail : Tail) → Splits 0 bytes all tail → (units : List NalUnit) × (all ≡ in_order before [] ++ units) ×
-    Splits at rest units tail) → Lacking (judging extent) (span took failures s s') at before rest → Wanting extent (span took failures s s') bytes told
-wanting extent took failures bytes before told at rest s s' l cut k =
+    Splits at rest units tail) → LeavesAfter 0 bytes (in_order before []) at rest → Lacking (judging extent) (span took failures s s') at before rest →
+    Wanting extent (span took failures s s') bytes told
+wanting extent took failures bytes before told at rest s s' l cut b k =
     let all = some-split 0 bytes (omega arith) in
     let u = cut all.units all.tail all.splits in
     record {
       more = k.calls;
       tells = k.tells;
-      wants = wants-at extent bytes before told all.units u.0 all.tail k.calls l all.splits u.1 (k.lacks u.0 all.tail u.2);
+      wants = wants-at extent bytes before told all.units u.0 all.tail k.calls at rest l all.splits u.1 b
+          (k.lacks u.0 all.tail u.2);
     }
 
 -- What was played of the stream's outcome, after what a sink was told before, is its verdict.
@@ -375,7 +382,8 @@ judges-judged terms took failures bytes frames s s' result w =
       same = record { calls = refl; decoded = λ x. x };
       judged = judged-by (extent_by terms) (took_with w.frames took) failures bytes [] j.outcome s s'
           (λ answer e. subst (Verdict (extent_by terms) bytes j.outcome.calls) e (comes-verdict (extent_by terms) bytes j.outcome j.comes)) result j.ran
-          (λ e. wanting (extent_by terms) (took_with w.frames took) failures bytes [] [] 0 bytes s s' refl (λ all tail sp. (all, refl, sp)) (j.lacks e));
+          (λ e. wanting (extent_by terms) (took_with w.frames took) failures bytes [] [] 0 bytes s s' refl (λ all tail sp. (all, refl, sp)) (refl, refl)
+          (j.lacks e));
     }
 
 plays-rans : {S : Type 0} (took : S → List Told → Type 0) (failures : S → ℕ) (o : Outcome Summary) (s s' : S) (r : Result Summary Stop) →
@@ -499,7 +507,7 @@ fed-stop terms took failures old bytes piece frames told s s' stop w p later =
           p.stops.stops f.1)
           (λ e. wanting (extent_by terms) (took_with p.made took) failures (bytes ++ (piece ++ later)) w.before told old.split.at
           (old.split.rest ++ (piece ++ later)) s
-          s' w.legal cut (stops-lacks (judging (extent_by terms)) (took_with p.made took) failures (standing_after old.split w.before) piece later s s' stop
+          s' w.legal cut (leaves-shown 0 bytes (in_order w.before []) old.split.at old.split.rest (piece ++ later) w.shown) (stops-lacks (judging (extent_by terms)) (took_with p.made took) failures (standing_after old.split w.before) piece later s s' stop
           p.stops.stops (same-stop stop Memory e)));
     })
 
@@ -522,7 +530,7 @@ fed-end terms took failures session bytes frames told s s' r w q =
       judged = judged-by (extent_by terms) (took_with p.made took) failures (bytes ++ []) told f.0 s s' f.2 r
           (plays-rans (took_with p.made took) failures f.0 s s' r (p.finishes.finishes f.0 f.1))
           (λ e. wanting (extent_by terms) (took_with p.made took) failures (bytes ++ []) w.before told session.split.at (session.split.rest ++ []) s s'
-          w.legal cut
+          w.legal cut (leaves-shown 0 bytes (in_order w.before []) session.split.at session.split.rest [] w.shown)
           (p.finishes.lacks e));
     })
 

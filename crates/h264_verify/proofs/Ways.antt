@@ -1,13 +1,14 @@
 -- The units that a session took, with their calls.
-use Rattle.std.proofs.Common.{◌≡◌, ℕ, IsFalse, List, [], ◌∷◌, ◌++◌, take, drop, Result, Ok, refl, ap, sym, ◌∙◌, subst, append_assoc}
+use Rattle.std.proofs.Common.{◌≡◌, ℕ, ◌<◌, length, arith, IsFalse, List, [], ◌∷◌, ◌++◌, take, drop, Result, Ok, refl, ap, sym, ◌∙◌, subst, append_assoc}
 use Rattle.std.proofs.lemmas.List.{append-nil, take-append-drop}
 use Rattle.h264_base.specs.declared.stop.Stop.{Stop}
 use Rattle.h264_verify.specs.Telling.{Told}
 use Rattle.h264_units.specs.Stream.{NalUnit, Next, past, Tail, Splits}
-use Rattle.h264_units.proofs.Streams.{same-first, first-not-tail, splits-after}
+use Rattle.h264_units.proofs.Streams.{same-first, first-not-tail, splits-after, length-started}
 use Rattle.h264_units.specs.Splitting.{Splitting, Pushed, Taken}
 use Rattle.h264_verify.specs.Outcome.{Outcome}
 use Rattle.h264_verify.specs.Judging.{Judging}
+use Rattle.h264_verify.specs.Memory.{LeavesAfter}
 use Rattle.h264_verify.specs.Session.{Standing, ShowsUnits, Leads, Way, stretch}
 
 -- the same bytes, and the same rest
@@ -29,6 +30,23 @@ shows-more at bytes (u ∷ us) end rest more a =
         Next at ((bytes ++ more) ++ later) u ((left ++ more) ++ later)
     moved at u bytes left more later n = subst (λ l. Next at l u ((left ++ more) ++ later)) (sym (append_assoc bytes more later))
         (subst (λ l. Next at (bytes ++ (more ++ later)) u l) (sym (append_assoc left more later)) n)
+
+-- they leave that rest, however the bytes go on
+pub leaves-shown : (at : ℕ) (bytes : List ℕ) (us : List NalUnit) (end : ℕ) (rest more : List ℕ) → ShowsUnits at bytes us end rest →
+    LeavesAfter at (bytes ++ more) us end (rest ++ more)
+leaves-shown at bytes [] end rest more a = (a.0, ap (λ l. l ++ more) a.1)
+leaves-shown at bytes (u ∷ us) end rest more a = (a.0 ++ more, a.1 more, leaves-shown (past u) a.0 us end rest more a.2)
+
+pub leaves-both : (at : ℕ) (bytes : List ℕ) (us vs : List NalUnit) (mid end : ℕ) (left rest : List ℕ) → LeavesAfter at bytes us mid left →
+    LeavesAfter mid left vs end rest → LeavesAfter at bytes (us ++ vs) end rest
+leaves-both at bytes [] vs mid end left rest a b = subst (λ l. LeavesAfter at l vs end rest) a.1 (subst (λ n. LeavesAfter n left vs end rest) a.0 b)
+leaves-both at bytes (u ∷ us) vs mid end left rest a b = (a.0, a.1, leaves-both (past u) a.0 us vs mid end left rest a.2 b)
+
+-- the bytes of a unit are some
+pub next-some : (at : ℕ) (bytes : List ℕ) (unit : NalUnit) (rest : List ℕ) → Next at bytes unit rest → 0 < length bytes
+next-some at bytes unit rest n =
+    let l = ap length n.first.whole ∙ length-started n.first.zeros (unit.body ++ rest) in
+    omega arith
 
 -- the first of the units of these bytes
 pub splits-first : (at : ℕ) (bytes : List ℕ) (unit : NalUnit) (rest : List ℕ) (units : List NalUnit) (tail : Tail) → Next at bytes unit rest →

@@ -1,10 +1,10 @@
 -- A working form. Where judging a unit may want memory: for the bytes of one that is read, and for a picture of another format than the one before it.
-use Rattle.std.specs.Prelude.{◌≡◌, ◌≢◌, ℕ, ◌==◌, ◌&&◌, ◌||◌, Bool, true, false, Option, Some, None, List, [], ◌∷◌, if◌then◌else◌}
+use Rattle.std.specs.Prelude.{◌≡◌, ◌≢◌, ℕ, ◌<◌, length, ◌==◌, ◌&&◌, ◌||◌, Bool, true, false, Option, Some, None, List, [], ◌∷◌, if◌then◌else◌}
 use Rattle.h264_verify.specs.declared.state.Depth.{Depth}
 use Rattle.h264_verify.specs.declared.state.Depth.TheVariants as depths
 use Rattle.h264_base.specs.Body.{Body}
 use Rattle.h264_base.specs.Grammar.{Element, Derives}
-use Rattle.h264_units.specs.Stream.{NalUnit}
+use Rattle.h264_units.specs.Stream.{NalUnit, Next, past}
 use Rattle.h264_rbsp.specs.Rbsp.{body_of}
 use Rattle.h264_sps.specs.declared.sps.Sps.{Sps}
 use Rattle.h264_pps.specs.declared.Pps.{Pps}
@@ -34,6 +34,15 @@ is_read depth unit = is_kind_read depth (nal_unit_type (header_of unit))
 -- the RBSP of a unit that is read
 abbrev pub bytes_of : Depth → NalUnit → Option Body
 bytes_of depth unit = if is_read depth unit then Some (body_of unit) else None
+
+-- From this place on these bytes begin with these units, and after them these are left, from that place on.
+abbrev pub LeavesAfter : ℕ → List ℕ → List NalUnit → ℕ → List ℕ → Type 0
+LeavesAfter at bytes [] place left = (place ≡ at) × (left ≡ bytes)
+LeavesAfter at bytes (unit ∷ units) place left = (rest : List ℕ) × Next at bytes unit rest × LeavesAfter (past unit) rest units place left
+
+-- bytes are left to be judged, unless no unit was judged before them
+abbrev pub IsMore : ℕ → List ℕ → Type 0
+IsMore place left = 0 < place → 0 < length left
 
 -- pictures of this sequence have frames of another size, or another number of them in the buffer, than the newest of these, or are the first
 abbrev pub HasAnotherFormat : List CodedPicture → Sps → Type 0

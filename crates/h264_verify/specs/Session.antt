@@ -8,6 +8,7 @@ use Rattle.h264_units.specs.Stream.{NalUnit, Next, past, Tail, Splits}
 use Rattle.h264_units.specs.Splitting.{Splitting}
 use Rattle.h264_verify.specs.Outcome.{Outcome, with_calls, Plays}
 use Rattle.h264_verify.specs.Judging.{Judging, Comes}
+use Rattle.h264_verify.specs.Memory.{LeavesAfter, IsMore}
 
 -- where a session stands: what its splitter holds, and the state that the units taken left
 pub record Standing (State : Type 0) : Type 0 where
@@ -57,13 +58,15 @@ pub record Goes {State Summary S : Type 0} (j : Judging State Summary) (w : Sink
   pub after : (more : List ℕ) (o : Outcome Summary) → ToCome j p.old (p.piece ++ more) o → (later : Outcome Summary) × ToCome j p.new (p.left ++ more) later
       × (o ≡ with_calls calls later)
 
--- After a state memory is wanting: for the bytes of the next unit, of which nothing is told, or for that unit.
-pub data LacksNext {State Summary : Type 0} (j : Judging State Summary) (state : State) (units : List NalUnit) (calls : List Told) : Type 0 where
-  ForBytes : calls ≡ [] → LacksNext j state units calls
-  ForUnit : (unit : NalUnit) (later : List NalUnit) → units ≡ unit ∷ later → j.grows state unit → LacksNext j state units calls
+-- After a state memory is wanting: for bytes of those that are left, from this place on, of which nothing is told, or for the next unit.
+pub data LacksNext {State Summary : Type 0} (j : Judging State Summary) (state : State) (units : List NalUnit) (calls : List Told) (place : ℕ)
+    (left : List ℕ) : Type 0 where
+  ForBytes : calls ≡ [] → IsMore place left → LacksNext j state units calls place left
+  ForUnit : (unit : NalUnit) (later : List NalUnit) → units ≡ unit ∷ later → j.grows state unit → LacksNext j state units calls place left
 
--- The first of these units were judged, and then memory was wanting.
-pub record Lacks {State Summary : Type 0} (j : Judging State Summary) (state : State) (units : List NalUnit) (calls : List Told) : Type 0 where
+-- The first of the units of these bytes were judged, and then memory was wanting.
+pub record Lacks {State Summary : Type 0} (j : Judging State Summary) (at : ℕ) (state : State) (bytes : List ℕ) (units : List NalUnit)
+    (calls : List Told) : Type 0 where
   pub judged : List NalUnit
   pub later : List NalUnit
   pub units_are : units ≡ judged ++ later
@@ -71,14 +74,17 @@ pub record Lacks {State Summary : Type 0} (j : Judging State Summary) (state : S
   pub first : List Told
   pub last : List Told
   pub led : Leads j state judged first mid
-  pub lacks : LacksNext j mid later last
+  pub place : ℕ
+  pub left : List ℕ
+  pub stands : LeavesAfter at bytes judged place left
+  pub lacks : LacksNext j mid later last place left
   pub calls_are : calls ≡ first ++ last
 
 -- From this place and state on, this was told of these bytes, and then memory was wanting.
 pub record Lacking {State Summary S : Type 0} (j : Judging State Summary) (w : SinkSpan S Told) (at : ℕ) (state : State) (bytes : List ℕ) : Type 0 where
   pub calls : List Told
   pub tells : Tells w.took w.old w.new calls
-  pub lacks : (units : List NalUnit) (tail : Tail) → Splits at bytes units tail → Lacks j state units calls
+  pub lacks : (units : List NalUnit) (tail : Tail) → Splits at bytes units tail → Lacks j at state bytes units calls
 
 -- so it was, however the input goes on after this piece
 abbrev pub LacksAfter : {State Summary S : Type 0} → Judging State Summary → SinkSpan S Told → Standing State → List ℕ → Type 0

@@ -40,7 +40,7 @@ fn begin_if(alloc: Global, begins: bool, sps: &Sps, decoder: &mut Decoder) -> Re
 
 /// Reads the slice data of a slice whose rules are met (7.3.4), into the frame of its picture. Err: the first rule that is not met, with its
 /// bit, Write where the sink failed, or Memory where a picture begins whose sequence has another format than the decoder, and its places are
-/// refused.
+/// refused, before the first element.
 pub(crate) fn read_data<S: Elements>(
     alloc: Global,
     place: &SlicePlace<'_>,
@@ -60,6 +60,8 @@ pub(crate) fn read_data<S: Elements>(
         (λ ms. joined_to place.now.begins (record s { macroblocks = ms }) pictures) decoder.new result }
     ensures no_memory { place.now.begins ≡ false → IsErrOf result Stop.Memory → ⊥ }
     ensures stands { decoder.old.format ≡ Some (format_of place.now.sps.now) → IsErrOf result Stop.Memory → ⊥ }
+    // Memory comes before the first element, so that nothing is told of slice data then.
+    ensures untold { IsErrOf result Stop.Memory → sink.new ≡ sink.old }
     ensures kept { OnOk result (IsQuiet S.failures sink.old sink.new) }
 {
     let SlicePlace {

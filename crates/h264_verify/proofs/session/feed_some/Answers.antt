@@ -20,7 +20,7 @@ returns-in_err-n g c =
       stops = λ frames before k. record {
         made = frames;
         same = agree-none _ frames;
-        stops = stops-push (judging c.args.extent) _ _ _ _ _ _ _ _ (c.in_err-n.ensures.err c.requires.runs.0);
+        stops = stops-push (judging c.args.extent) _ _ _ _ _ _ _ _ c.requires.some (c.in_err-n.ensures.err c.requires.runs.0);
       };
     })
 
@@ -38,7 +38,7 @@ returns-in_err-bytes-in-Some g c =
       pictures = tt;
       undecided = tt;
       kept = tt;
-      stops = λ frames before k. on-bytes c.args.extent _ _ frames _ _ _ _ c.in_err-bytes-in-Some.ensures.err.0;
+      stops = λ frames before k. on-bytes c.args.extent _ _ frames _ _ _ _ c.in_err-bytes-in-Some.ensures.err.0 c.requires.some;
     })
 
 pub returns-in_err-judge_next-in-Some : goal.returns-in_err-judge_next-in-Some

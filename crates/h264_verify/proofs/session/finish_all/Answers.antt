@@ -4,7 +4,7 @@ use Rattle.h264_base.specs.declared.stop.Stop.TheVariants.{Memory}
 use Rattle.h264_verify.specs.Judging.{judging}
 use Rattle.h264_verify.proofs.Lacking.{same-stop}
 use Rattle.h264_verify.proofs.AgreeingUnits.{agree-none}
-use Rattle.h264_verify.proofs.Familiar.{finishes-both, finishes-bytes, last-read, changes-read}
+use Rattle.h264_verify.proofs.Familiar.{finishes-both, finishes-bytes, last-read, last-some, changes-read}
 use Rattle.h264_verify.proofs.Finishing.{finish-stops, finish-end, finish-unit-stops, not-waiting, named-not-memory}
 use Rattle.h264_verify.proofs.session.finish_all.Goals as goal
 
@@ -36,7 +36,8 @@ pub returns-in_err-bytes-in-Some : goal.returns-in_err-bytes-in-Some
 returns-in_err-bytes-in-Some g c =
     let p = err_from_is_err_and c.from_residual-in_err-bytes-in-Some.result c.from_residual-in_err-bytes-in-Some.ensures.1 in
     rw (p.1, p.2) (record {
-      finishes = λ frames before k. finishes-bytes c.args.extent _ _ frames _ _ _ c.in_err-bytes-in-Some.ensures.err.0;
+      finishes = λ frames before k. finishes-bytes c.args.extent _ _ frames _ _ _ c.in_err-bytes-in-Some.ensures.err.0
+          (last-some _ _ _ _ c.in_ok-finish.ensures.ok c.in-Some.ensures.some);
       memory = λ e. last-read _ _ _ _ _ c.in_ok-finish.ensures.ok c.in-Some.ensures.some c.in_err-bytes-in-Some.ensures.err.1;
     })
 
