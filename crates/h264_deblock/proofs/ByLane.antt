@@ -1,4 +1,4 @@
-use Rattle.std.proofs.Common.{◌≡◌, ◌⊎◌, ℕ, ◌+◌, ◌*◌, ◌/◌, ◌<◌, ◌≤◌, ◌%◌, Bool, true, false, ◌&&◌, cond, nat_lt, nat_le, ◌==◌, ℤ, pos, neg_ℤ, ◌+ℤ◌, ◌-ℤ◌, min}
+use Rattle.std.proofs.Common.{◌≡◌, ◌⊎◌, ℕ, ◌+◌, ◌*◌, ◌/◌, ◌<◌, ◌≤◌, ◌%◌, Bool, true, false, ◌&&◌, cond, nat_lt, nat_le, ℤ, pos, neg_ℤ, ◌+ℤ◌, ◌-ℤ◌, min}
 use Rattle.std.proofs.Common.{arith, refl, sym, ap, ◌∙◌, ⊎_elim, inl, inr}
 use Rattle.std.proofs.lemmas.Int.{ints, clamps}
 use Rattle.std.proofs.lemmas.Bool.Decides.{nat_tests}
@@ -6,12 +6,12 @@ use Rattle.std.specs.Int.{abs_diff}
 use Rattle.h264_plane.specs.Clip.{clip1}
 use Rattle.h264_deblock.proofs.Signed.{clip1-is}
 use Rattle.h264_deblock.specs.Line.{filtered, is_within_limits, is_flat, turned, number, clip3, delta, bend, reach, second, normal, by_filter, strong}
-use Rattle.h264_deblock.specs.Line.{strong_side, Line, Side, Limits, Filter, Off, Normal, Strong}
-use Rattle.h264_deblock.specs.Rows.{filter_by, any_filter, is_on, is_smooth, side_by, sign}
+use Rattle.h264_deblock.specs.Line.{strong_side, Line, Side, Limits, Off, Normal, Strong}
+use Rattle.h264_deblock.specs.Rows.{is_on, is_smooth, side_by, sign}
 use Rattle.h264_deblock.specs.Inner.{SameInner}
+use Rattle.h264_deblock.specs.Level.{filter_by}
 use Rattle.h264_deblock.proofs.Lines.{filtered_is, filtered_not, filtered_off, within_inner}
 use Rattle.h264_deblock.proofs.Beside.{same_line}
-use Rattle.h264_deblock.proofs.Groups.{any_four, any_other}
 
 -- a limit of 0 moves nothing
 no_reach : (z : ℤ) → clip3 (neg_ℤ (pos 0)) (pos 0) z ≡ pos 0
@@ -249,10 +249,6 @@ both_lane true false false a b r ea eb er = rw (er, ea, eb) refl
 both_lane false f true a b r ea eb er = rw (er, ea, eb) refl
 both_lane false f false a b r ea eb er = rw (er, ea, eb) refl
 
-pub number_four : (t : ℕ) (f : Bool) → f ≡ nat_lt (abs_diff t 254) 1 → (t == 254) ≡ f
-number_four t true e = grind (arith, nat_tests, e)
-number_four t false e = grind (arith, nat_tests, e)
-
 -- ---- chroma
 
 inner_normal : (k : Limits) (t : ℕ) (l : Line) (p0 q0 : ℕ) → p0 ≡ clip1 (pos l.p0 +ℤ delta (t + 1) l) → q0 ≡ clip1 (pos l.q0 -ℤ delta (t + 1) l) →
@@ -291,13 +287,6 @@ inner_normal_lane alpha beta t l m on s tc up down p0 q0 near eo es etc moves =
     inner_by_on o k l m t s tc up down p0 q0 (on_by w k l t (within_inner k m l near)) refl near
     (es ∙ ap (λ n. cond (nat_lt 0 n) t 0) eo ∙ cond_sign o t 0) (etc ∙ ap (λ n. s + n) eo) moves
 
--- the filter's kind is none of what is asked of the samples
-pub within_same : (a b : ℕ) (f g : Filter) (l : Line) →
-    is_within_limits (let k : Limits = record { alpha = a; beta = b; filter = f } in k) l ≡
-    is_within_limits (let k : Limits = record { alpha = a; beta = b; filter = g } in k) l
-unfolding is_within_limits
-within_same a b f g l = refl
-
 -- what the lanes of an edge with bS 4 choose
 chosen_if : (w : Bool) (on a b x : ℕ) → on ≡ sign w → x ≡ cond (nat_lt 0 on) a b → x ≡ cond w a b
 chosen_if true on a b x e h = rw e at h
@@ -322,15 +311,3 @@ inner_strong_lane alpha beta l on a b p0 q0 eo ea eb e1 e2 =
     let w = is_within_limits k l in
     strong_inner w k l p0 q0 refl refl (chosen_if w on a l.p0 p0 eo e1 ∙ ap (λ z. cond w z l.p0) ea)
     (chosen_if w on b l.q0 q0 eo e2 ∙ ap (λ z. cond w z l.q0) eb)
-
--- the samples of chroma of an edge with some bS of 4
-pub mixed_inner : (f : Bool) (k : Limits) (t : ℕ) (l : Line) (x a b : ℕ) (part : Line → ℕ) → f ≡ nat_lt (abs_diff t 254) 1 → x ≡ cond f a b →
-    a ≡ part (filtered true (record { alpha = k.alpha; beta = k.beta; filter = Strong }) l) →
-    b ≡ part (filtered true (record { alpha = k.alpha; beta = k.beta; filter = filter_by t }) l) →
-    x ≡ part (filtered true (record { alpha = k.alpha; beta = k.beta; filter = any_filter t }) l)
-mixed_inner true k t l x a b part ef ex ea eb =
-    ex ∙ ea ∙ ap (λ (h : Filter). let n : Limits = record { alpha = k.alpha; beta = k.beta; filter = h } in part (filtered true n l))
-    (sym (any_four t (number_four t true ef)))
-mixed_inner false k t l x a b part ef ex ea eb =
-    ex ∙ eb ∙ ap (λ (h : Filter). let n : Limits = record { alpha = k.alpha; beta = k.beta; filter = h } in part (filtered true n l))
-    (sym (any_other t (number_four t false ef)))

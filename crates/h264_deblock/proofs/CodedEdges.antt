@@ -31,7 +31,8 @@ use Rattle.h264_deblock.specs.declared.edge_parameters.BoundaryStrength.TheVaria
 use Rattle.h264_deblock.specs.declared.slice_filter.SliceFilter.{SliceFilter}
 use Rattle.h264_deblock.specs.CodedEdges.{named, block_at, strength_at, strengths, plane_qp, edge_of, filters, border, inner, edges_along, coded_edges}
 use Rattle.h264_deblock.specs.Steps.{LiesAlong, block_beside, number_at, inter_strength, inner_lines, alike, are_like, are_alike, IsEven}
-use Rattle.h264_deblock.specs.Steps.{is_steady, side_qp, parameters, border_of, border_edge, inner_edge}
+use Rattle.h264_deblock.specs.Steps.{is_steady, side_qp, border_of, border_edge, inner_edge}
+use Rattle.h264_deblock.specs.Level.{parameters}
 use Rattle.h264_plane.specs.Frames.{is_chroma}
 
 -- ---- blocks

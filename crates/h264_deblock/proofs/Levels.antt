@@ -3,10 +3,9 @@ use Rattle.std.proofs.Common.{◌≡◌, ◌≢◌, ℕ, zero, suc, ◌<◌, Boo
 use Rattle.std.specs.Prelude.{replicate}
 use Rattle.std.proofs.lemmas.Simd.{get_or-replicate}
 use Rattle.h264_deblock.specs.Edge.{index_of, filter_of, limits}
-use Rattle.h264_deblock.specs.Rows.{any_filter}
+use Rattle.h264_deblock.specs.Level.{any_filter, names, fours, IsLevel, AreBelow}
 use Rattle.h264_deblock.specs.Limits.{quarter, IsIdle}
 use Rattle.h264_deblock.specs.CodedEdges.{named}
-use Rattle.h264_deblock.specs.Words.{names, fours, IsLevel, AreBelow}
 use Rattle.h264_deblock.specs.Line.{Limits}
 use Rattle.h264_deblock.specs.declared.limits.Level.{Level}
 use Rattle.h264_deblock.specs.declared.edge_parameters.BoundaryStrength.{BoundaryStrength}

@@ -6,10 +6,11 @@ use Rattle.h264_deblock.specs.Edge.{edge_at}
 use Rattle.h264_deblock.specs.CodedEdges.{filters}
 use Rattle.h264_deblock.specs.Filtering.{AreInside, edge_or, edges_done}
 use Rattle.h264_deblock.specs.Steps.{side_qp, inner_edge}
-use Rattle.h264_deblock.specs.Words.{names, named_border, zeros, IsWord, AreWords}
+use Rattle.h264_deblock.specs.Words.{named_border, zeros, AreWords}
 use Rattle.h264_deblock.specs.Marks.{AreMarks, luma_by, chroma_by, luma_list, chroma_list}
 use Rattle.h264_deblock.specs.declared.by_level.Marks.{Marks}
 use Rattle.h264_deblock.specs.declared.slice_filter.SliceFilter.{SliceFilter}
+use Rattle.h264_deblock.specs.Level.{names, IsWord}
 use Rattle.h264_deblock.proofs.CodedEdges.{inside}
 use Rattle.h264_deblock.proofs.Macroblocks.{or_none, or_some}
 use Rattle.h264_deblock.proofs.Numbers.{some-named, zero-edge}

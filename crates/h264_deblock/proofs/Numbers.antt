@@ -8,9 +8,10 @@ use Rattle.h264_deblock.specs.Edge.{edge_after, edge_at}
 use Rattle.h264_deblock.specs.declared.edge_parameters.EdgeParameters.{EdgeParameters}
 use Rattle.h264_deblock.proofs.Beside.{edge_off}
 use Rattle.h264_deblock.specs.declared.plane_level.Border.{Border}
-use Rattle.h264_deblock.specs.Words.{named_border, names, zeros, fours, IsWord, AreWords}
+use Rattle.h264_deblock.specs.Words.{named_border, zeros, AreWords}
 use Rattle.h264_deblock.specs.Limits.{AreAll}
 use Rattle.h264_deblock.specs.declared.edge_parameters.BoundaryStrength.TheVariants.{Zero}
+use Rattle.h264_deblock.specs.Level.{names, fours, IsWord}
 
 -- none of four is 4
 pub below-word : (a b c d : ℕ) → a < 4 → b < 4 → c < 4 → d < 4 → IsWord (a ∷ b ∷ c ∷ d ∷ [])

@@ -1,7 +1,7 @@
 -- A line that does not ask for its filter.
 use Rattle.std.proofs.Common.{◌≡◌, ◌⊎◌, ℕ, false, refl, ◌∙◌, ⊎_elim}
 use Rattle.h264_deblock.specs.Line.{filtered, is_within_limits, Line, Limits, Off}
-use Rattle.h264_deblock.specs.Rows.{any_filter, filter_by}
+use Rattle.h264_deblock.specs.Level.{any_filter, filter_by}
 use Rattle.h264_deblock.proofs.Lines.{filtered_not, filtered_off}
 
 off_number : (t : ℕ) → t ≡ 255 → any_filter t ≡ Off

@@ -1,5 +1,5 @@
 -- Inner edges within the partitions of a macroblock.
-use Rattle.std.proofs.Common.{◌≡◌, ◌≢◌, ℕ, zero, suc, ◌-◌, ◌*◌, ◌/◌, ◌<◌, ◌==◌, Bool, true, false, not, List, get_or, Option, None, refl, sym, ap, ◌∙◌, arith}
+use Rattle.std.proofs.Common.{◌≡◌, ◌≢◌, ℕ, ◌-◌, ◌*◌, ◌/◌, ◌<◌, ◌==◌, Bool, true, false, not, List, get_or, Option, None, refl, sym, ap, ◌∙◌, arith}
 use Rattle.std.proofs.lemmas.Bool.{eq-eqb, false≢true}
 use Rattle.h264_near.specs.declared.motion.Motion.{Motion}
 use Rattle.h264_near.specs.declared.partition.SubPartition.{SubPartition}
@@ -59,12 +59,3 @@ joined8x8 types v line motions some few other whole moves = joined (P8x8 types) 
     same : (v : Bool) (k : ℕ) → k < 4 → number_at v (line - 1) k / 4 * 4 ≡ number_at v line k / 4 * 4
     same true k h = omega arith
     same false k h = omega arith
-
--- four of a list
-pub four-whole : (types : List SubPartition) → get_or types 0 sub.P8x8 ≡ sub.P8x8 → get_or types 1 sub.P8x8 ≡ sub.P8x8 → get_or types 2 sub.P8x8 ≡ sub.P8x8 →
-    get_or types 3 sub.P8x8 ≡ sub.P8x8 → (q : ℕ) → q < 4 → get_or types q sub.P8x8 ≡ sub.P8x8
-four-whole types a b c d zero h = a
-four-whole types a b c d (suc zero) h = b
-four-whole types a b c d (suc (suc zero)) h = c
-four-whole types a b c d (suc (suc (suc zero))) h = d
-four-whole types a b c d (suc (suc (suc (suc q)))) h = absurd (omega arith)

@@ -3,7 +3,7 @@ use Rattle.std.specs.Prelude.{◌≡◌, ℕ, ◌+◌, ◌<◌, Bool, true, List
 use Rattle.h264_plane.specs.Samples.{Samples, look}
 use Rattle.h264_deblock.specs.Line.{filtered, Line, Limits}
 use Rattle.h264_deblock.specs.Edge.{taps, lines_after, HasSamplesBy, edge_at}
-use Rattle.h264_deblock.specs.Rows.{any_filter}
+use Rattle.h264_deblock.specs.Level.{any_filter}
 use Rattle.h264_deblock.specs.declared.inner.Inner.{Inner}
 use Rattle.h264_deblock.specs.declared.inner.Nearest.{Nearest}
 use Rattle.h264_deblock.specs.declared.inner.Pairs.{Pairs}

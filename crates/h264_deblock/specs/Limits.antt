@@ -1,7 +1,7 @@
 -- What is known of an edge before its lines are filtered: of its four bS, its filters and its thresholds. A working form.
 use Rattle.std.specs.Prelude.{◌≡◌, ℕ, ◌/◌, ◌%◌, ◌<◌, Bool, List, get_or, if◌then◌else◌, ◌⊎◌}
 use Rattle.h264_deblock.specs.Edge.{limits}
-use Rattle.h264_deblock.specs.Rows.{any_filter, filter_by}
+use Rattle.h264_deblock.specs.Level.{any_filter, filter_by}
 use Rattle.h264_deblock.specs.Line.{Strong}
 use Rattle.h264_deblock.specs.declared.limits.Mix.{Mix}
 use Rattle.h264_deblock.specs.declared.limits.Mix.TheVariants.{NoFour, AllFour}

@@ -2,12 +2,13 @@
 use Rattle.std.specs.Prelude.{◌≡◌, ℕ, ◌<◌, true, false, IsTrue, List, [], ◌∷◌, get_or, Option, is_some}
 use Rattle.h264_deblock.specs.Filtering.{PlaneEdges}
 use Rattle.h264_deblock.specs.Steps.{border_edge, inner_edge}
-use Rattle.h264_deblock.specs.Words.{names, named_border, zeros, AreWords, HasWord}
+use Rattle.h264_deblock.specs.Words.{named_border, zeros, AreWords, HasWord}
 use Rattle.h264_deblock.specs.declared.by_level.Marks.{Marks}
 use Rattle.h264_deblock.specs.declared.plane_level.Border.{Border}
 use Rattle.h264_deblock.specs.declared.strengths.InnerStrengths.{InnerStrengths}
 use Rattle.h264_deblock.specs.declared.edge_parameters.EdgeParameters.{EdgeParameters}
 use Rattle.h264_deblock.specs.declared.slice_filter.SliceFilter.{SliceFilter}
+use Rattle.h264_deblock.specs.Level.{names}
 
 -- the edges of a direction, of which chroma has every other one
 abbrev pub luma_list : ℕ → SliceFilter → Option Border → List (List ℕ) → List (Option EdgeParameters)

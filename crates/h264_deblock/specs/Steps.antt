@@ -18,6 +18,7 @@ use Rattle.h264_deblock.specs.declared.edge_parameters.BoundaryStrength.{Boundar
 use Rattle.h264_deblock.specs.declared.edge_parameters.BoundaryStrength.TheVariants.{Zero, BelowFour}
 use Rattle.h264_deblock.specs.declared.slice_filter.SliceFilter.{SliceFilter}
 use Rattle.h264_deblock.specs.CodedEdges.{filters, strengths}
+use Rattle.h264_deblock.specs.Level.{parameters}
 use Rattle.h264_deblock.specs.Strength.{Side, moves_apart}
 use Rattle.h264_deblock.specs.Limits.{AreAll}
 
@@ -86,10 +87,6 @@ is_steady e = are_blank e.totals && are_alike e.motions
 -- the quantisation parameter of luma or of chroma
 abbrev pub side_qp : Bool → ℕ → ℤ → ℕ
 side_qp chroma qp offset = if chroma then chroma_qp_of qp offset else qp
-
-abbrev pub parameters : ℕ → ℕ → SliceFilter → List BoundaryStrength → EdgeParameters
-parameters qp_p qp_q filter strengths =
-    record { qp_p = qp_p; qp_q = qp_q; filter_offset_a = filter.filter_offset_a; filter_offset_b = filter.filter_offset_b; strengths = strengths }
 
 -- the edge to a macroblock beside: the quantisation parameter of that one, and the strengths
 pub record NamedBorder : Type 0 where

@@ -7,10 +7,11 @@ ghost use Rattle.h264_deblock.specs.Edge.{edge_at};
 ghost use Rattle.h264_deblock.specs.Filtering.{edge_or, edges_done};
 ghost use Rattle.h264_deblock.specs.CodedEdges.{filters};
 ghost use Rattle.h264_deblock.specs.Steps.{side_qp, border_edge, inner_edge};
-ghost use Rattle.h264_deblock.specs.Words.{names, named_border, IsWord, HasWord, IsLevelOf};
+ghost use Rattle.h264_deblock.specs.Words.{named_border, HasWord};
 ghost use Rattle.h264_deblock.specs.Marks.{AreMarks, AreStill, luma_by, chroma_by};
+ghost use Rattle.h264_deblock.specs.Level.{names, IsWord, IsLevelOf};
 
-use crate::edges::{luma_at_level, pair_at_level};
+use crate::edges::{edge, edge_pair};
 use crate::named::{Word, is_zero};
 use crate::plane_level::{Border, PlaneLevel, level_beside, plane_level};
 use crate::slice_filter::SliceFilter;
@@ -50,7 +51,7 @@ fn luma_border<const VERTICAL: bool>(
         return;
     }
     let level = level_beside::<false>(border, own);
-    luma_at_level::<VERTICAL>(plane, along, across, &level, &border.strengths);
+    edge::<VERTICAL>(plane, along, across, &level, &border.strengths);
 }
 
 /// Filters an inner edge of luma.
@@ -71,7 +72,7 @@ fn luma_inner<const VERTICAL: bool>(
     ensures { ShowsSamples plane.old plane.new
         (edge_or (inner_edge own.now.qp own.now.filter.now (names word.now)) VERTICAL false (edge_at along across) (at plane.old)) }
 {
-    luma_at_level::<VERTICAL>(plane, along, across, &own.inner, word);
+    edge::<VERTICAL>(plane, along, across, &own.inner, word);
 }
 
 /// Filters the edge of both planes of chroma to the macroblock beside, where it is filtered.
@@ -104,7 +105,7 @@ fn pair_border<const VERTICAL: bool>(
         return;
     }
     let level = level_beside::<true>(border, own);
-    pair_at_level::<VERTICAL>(cb, cr, along, across, &level, &border.strengths);
+    edge_pair::<VERTICAL>(cb, cr, along, across, &level, &border.strengths);
 }
 
 /// Filters an inner edge of both planes of chroma.
@@ -130,7 +131,7 @@ fn pair_inner<const VERTICAL: bool>(
     ensures cr { ShowsSamples cr.old cr.new
         (edge_or (inner_edge own.now.qp own.now.filter.now (names word.now)) VERTICAL true (edge_at along across) (at cr.old)) }
 {
-    pair_at_level::<VERTICAL>(cb, cr, along, across, &own.inner, word);
+    edge_pair::<VERTICAL>(cb, cr, along, across, &own.inner, word);
 }
 
 /// Filters the edges of the macroblock at this column and row, those of luma by turns with those of chroma. An edge reads what the one before it in its

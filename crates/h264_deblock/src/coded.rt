@@ -12,7 +12,8 @@ ghost use Rattle.h264_deblock.specs.Filtering.{edges_done};
 ghost use Rattle.h264_deblock.specs.declared.slice_filter.SliceFilter.{SliceFilter as Filter};
 ghost use Rattle.h264_deblock.specs.CodedEdges.{coded_edges};
 ghost use Rattle.h264_deblock.specs.Steps.{LiesAlong, IsEven, border_of, IsStill, MovesBy};
-ghost use Rattle.h264_deblock.specs.Words.{named_border, IsWord};
+ghost use Rattle.h264_deblock.specs.Words.{named_border};
+ghost use Rattle.h264_deblock.specs.Level.{IsWord};
 
 use crate::by_level::{Marks, filter_by};
 use crate::named::is_zero;

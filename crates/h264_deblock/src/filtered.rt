@@ -6,7 +6,8 @@ ghost use Rattle.std.specs.Int.{abs_diff};
 ghost use Rattle.h264_deblock.specs.Line.{Strong, filtered, is_within_limits, is_flat, number, clip3, bend};
 ghost use Rattle.h264_deblock.specs.Limits.{Suits};
 ghost use Rattle.h264_deblock.specs.Inner.{limits_at};
-ghost use Rattle.h264_deblock.specs.Rows.{line_of, sign, filter_by, IsFiltered, side_by, side_of};
+ghost use Rattle.h264_deblock.specs.Rows.{line_of, sign, IsFiltered, side_by, side_of};
+ghost use Rattle.h264_deblock.specs.Level.{filter_by};
 
 use crate::lanes::{
     above, all, are_zero, average, average_down, chosen, eighth, fourth, greatest, least, near,

@@ -3,7 +3,7 @@ ghost use Rattle.h264_plane.specs.Samples.{at, look, size_along, size_across};
 ghost use Rattle.h264_deblock.specs.Line.{Strong, filtered as filtered_of};
 ghost use Rattle.h264_deblock.specs.Edge.{taps};
 ghost use Rattle.h264_deblock.specs.Limits.{Suits};
-ghost use Rattle.h264_deblock.specs.Rows.{filter_by};
+ghost use Rattle.h264_deblock.specs.Level.{filter_by};
 ghost use Rattle.h264_deblock.specs.Inner.{inner_of, limits_at, HasInner, SameInner, AreBeside, AreNearest, AreNearestWritten};
 
 use crate::columns::{columns_of, pair_in_turn};

@@ -1,10 +1,8 @@
 ghost use Rattle.std.specs.Prelude.{◌≡◌, ◌≢◌, ℕ, ◌<◌, ◌≤◌, List, slice_index, get_or, true};
 ghost use Rattle.h264_deblock.specs.Edge.{filter_of, limits};
-ghost use Rattle.h264_deblock.specs.Rows.{any_filter};
+ghost use Rattle.h264_deblock.specs.Level.{any_filter, parameters, names, IsWord, IsLevel, AreBelow};
 ghost use Rattle.h264_deblock.specs.Inner.{limits_at};
 ghost use Rattle.h264_deblock.specs.Limits.{IsIdle, Suits, quarter};
-ghost use Rattle.h264_deblock.specs.Steps.{parameters};
-ghost use Rattle.h264_deblock.specs.Words.{names, IsWord, IsLevel, AreBelow};
 ghost use Rattle.h264_deblock.specs.declared.edge_parameters.BoundaryStrength.{BoundaryStrength as Bs};
 ghost use Rattle.h264_deblock.specs.declared.edge_parameters.EdgeParameters.{EdgeParameters as Parameters};
 ghost use Rattle.h264_deblock.specs.declared.limits.Mix.TheVariants.{NoFour, AllFour};
@@ -30,12 +28,12 @@ pub const STRONG: u8 = 254;
 /// The number of the filter of a line with bS 0.
 pub const OFF: u8 = 255;
 
-/// What edges between two quantisation parameters have in common.
+/// What edges between two quantisation parameters have in common (8.7.2.2): their thresholds, and a filter for each bS below 4.
 #[derive(Clone, Copy)]
 pub struct Level {
     pub alpha: u8,
     pub beta: u8,
-    /// The numbers of the filters of bS 0, 1, 2 and 3.
+    /// tC0 of bS 1, 2 and 3, after 255 for bS 0, by which no line is filtered.
     pub numbers: [u8; 4],
 }
 
@@ -47,7 +45,7 @@ pub enum Mix {
 }
 
 /// A filter's number.
-#[tactic(auto, unfolding(crate::specs::Rows::filter_by, crate::specs::Rows::any_filter))]
+#[tactic(auto, unfolding(crate::specs::Level::filter_by, crate::specs::Level::any_filter))]
 #[inline(always)]
 fn number(index_a: u8, strength: BoundaryStrength) -> u8
     requires { index_a ≤ 51 }
@@ -77,7 +75,7 @@ fn spread<const CHROMA: bool>(quarters: [u8; 4]) -> [u8; 16]
         .to_array()
 }
 
-/// What edges between two quantisation parameters, in a slice with this filter, have in common.
+/// What edges between two quantisation parameters, qPp and qPq, have in common, where a slice with this filter holds q0 (8.7.2.2).
 #[inline(always)]
 pub fn level_of(qp_p: u8, qp_q: u8, filter: &SliceFilter) -> Level
     ensures here { (strengths : List Bs) → IsLevel result (parameters qp_p qp_q filter.now strengths) }

@@ -4,8 +4,8 @@
 ghost use Rattle.std.specs.Prelude.{◌≡◌, true};
 ghost use Rattle.h264_deblock.specs.Words.{zeros};
 
-/// bS of each quarter of an edge's lines as a number, 0 to 4. Where one of them is 4, all are.
-pub(crate) type Word = [u8; 4];
+/// The strengths bS of the quarters of an edge's lines as numbers, 0 to 4, from the first line on (8.7.2.1). Where one of them is 4, all are.
+pub type Word = [u8; 4];
 
 /// bS of the edge between two macroblocks of which one is intra. Inside an intra macroblock it is 3.
 pub(crate) const FOUR: u8 = 4;

@@ -4,7 +4,7 @@
 ghost use Rattle.std.specs.Prelude.{◌≡◌, ◌≤◌, true, false};
 ghost use Rattle.h264_tables.specs.ChromaQp.{clip_51};
 ghost use Rattle.h264_deblock.specs.Steps.{side_qp};
-ghost use Rattle.h264_deblock.specs.Words.{IsLevelOf};
+ghost use Rattle.h264_deblock.specs.Level.{IsLevelOf};
 
 use crate::limits::{Level, level_of};
 use crate::named::Word;

@@ -14,7 +14,8 @@ ghost use Rattle.h264_deblock.specs.declared.slice_filter.SliceFilter.{SliceFilt
 ghost use Rattle.h264_deblock.specs.CodedEdges.{named, strength_at, strengths, coded_edges as edges_of_coded};
 ghost use Rattle.h264_deblock.specs.Marks.{AreStill};
 ghost use Rattle.h264_deblock.specs.Steps.{LiesAlong, border_of, inner_lines};
-ghost use Rattle.h264_deblock.specs.Words.{names, all_names, named_border, IsWord};
+ghost use Rattle.h264_deblock.specs.Words.{all_names, named_border};
+ghost use Rattle.h264_deblock.specs.Level.{names, IsWord};
 
 use crate::by_level::{Marks, filter_borders};
 use crate::coded::is_still;

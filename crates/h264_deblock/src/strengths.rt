@@ -8,11 +8,12 @@ ghost use Rattle.h264_near.specs.Coded.{CodedMacroblock};
 ghost use Rattle.h264_near.specs.Keeps.{AreContexts};
 ghost use Rattle.h264_deblock.specs.CodedEdges.{named, strength_at, strengths};
 ghost use Rattle.h264_deblock.specs.Strength.{moves_apart};
-ghost use Rattle.h264_deblock.specs.Words.{names, all_names, IsWord, AreWords};
+ghost use Rattle.h264_deblock.specs.Words.{all_names, AreWords};
 ghost use Rattle.h264_deblock.specs.Steps.{LiesAlong, inter_strength, number_at, inner_lines, alike, are_like, is_steady};
 ghost use Rattle.h264_deblock.specs.Steps.{MovesBy, AreJoined, IsEven};
 ghost use Rattle.h264_near.specs.declared.motion.Motion.{Motion as Motions};
 ghost use Rattle.h264_deblock.specs.Steps.{HasStillLines};
+ghost use Rattle.h264_deblock.specs.Level.{names, IsWord};
 
 use crate::joined::is_joined;
 use crate::named::{FOUR, Word};

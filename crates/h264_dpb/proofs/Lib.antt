@@ -4,7 +4,6 @@ pub mod Tellings
 pub mod Steps
 pub mod Room
 pub mod Bounded
-pub mod Turns
 pub mod Steady
 pub mod Stored
 pub mod Rows

@@ -30,7 +30,7 @@ impl Model for Buffer {
 }
 
 impl Buffer {
-    ghost use Rattle.std.specs.Prelude.{◌≡◌, ◌+◌, ◌-◌, ◌<◌, ◌≤◌, ◌^◌, IsTrue, false, is_some, length, [], OnOk, IfSome};
+    ghost use Rattle.std.specs.Prelude.{◌≡◌, ℕ, ◌+◌, ◌-◌, ◌<◌, ◌≤◌, ◌^◌, IsTrue, true, false, is_some, length, [], OnOk, IfSome};
     ghost use Rattle.h264_base.specs.Call.{HasRoom, span};
     ghost use Rattle.h264_dpb.specs.Numbered.{is_taken};
     ghost use Rattle.h264_dpb.specs.Bumping.{flushed};
@@ -67,6 +67,7 @@ impl Buffer {
     pub fn free_place(&self, first: usize, count: usize) -> Option<usize>
         requires small { first + count < 2 ^ 32 }
         ensures free { IfSome result (λ place. (first ≤ place) × (place < first + count) × (is_taken self.now.entries place ≡ false)) }
+        ensures lowest { IfSome result (λ place. (lower : ℕ) → first ≤ lower → lower < place → is_taken self.now.entries lower ≡ true) }
         ensures some { length self.now.entries < count → IsTrue (is_some result) }
         ensures first { is_taken self.now.entries first ≡ false → 0 < count → IsTrue (is_some result) }
     {

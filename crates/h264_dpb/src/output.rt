@@ -151,6 +151,7 @@ impl Output {
     pub fn free_place(&self, first: usize, count: usize) -> Option<usize>
         requires small { first + count < 2 ^ 32 }
         ensures free { IfSome result (λ place. (first ≤ place) × (place < first + count) × (is_occupied place self.now ≡ false)) }
+        ensures lowest { IfSome result (λ place. (lower : ℕ) → first ≤ lower → lower < place → is_occupied lower self.now ≡ true) }
         ensures some { (next : ℕ) → IsOrdered next self.now → size_of self.now < count → IsTrue (is_some result) }
         ensures first { is_occupied first self.now ≡ false → 0 < count → IsTrue (is_some result) }
     {

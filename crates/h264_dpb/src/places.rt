@@ -1,4 +1,4 @@
-ghost use Rattle.std.specs.Prelude.{◌≡◌, ◌+◌, ◌<◌, ◌≤◌, ◌^◌, false, length, IsTrue, is_some, IfSome};
+ghost use Rattle.std.specs.Prelude.{◌≡◌, ℕ, ◌+◌, ◌<◌, ◌≤◌, ◌^◌, true, false, length, IsTrue, is_some, IfSome};
 ghost use Rattle.h264_dpb.specs.Numbered.{is_at as is_at_place, is_taken, place_in};
 
 use crate::entry::{Entry, Placed};
@@ -21,6 +21,7 @@ fn is_taken(entries: &[Entry<Placed>], place: usize) -> bool
 pub(crate) fn free_place(entries: &[Entry<Placed>], first: usize, count: usize) -> Option<usize>
     requires small { first + count < 2 ^ 32 }
     ensures free { IfSome result (λ place. (first ≤ place) × (place < first + count) × (is_taken entries.now place ≡ false)) }
+    ensures lowest { IfSome result (λ place. (lower : ℕ) → first ≤ lower → lower < place → is_taken entries.now lower ≡ true) }
     ensures some { length entries.now < count → IsTrue (is_some result) }
     ensures first { is_taken entries.now first ≡ false → 0 < count → IsTrue (is_some result) }
 {

@@ -66,7 +66,8 @@ pub column-after : (width : ℕ) (picture : List CodedMacroblock) (n : ℕ) (m :
     length (picture ++ replicate n m) % width ≡ length picture % width + n
 column-after width picture n m h =
     let p = parts (length picture) width in
-    let l : length (picture ++ replicate n m) ≡ length picture + n = length-append picture (replicate n m) ∙ ap (λ k. length picture + k) (length-replicate n m) in
+    let l : length (picture ++ replicate n m) ≡ length picture + n =
+    length-append picture (replicate n m) ∙ ap (λ k. length picture + k) (length-replicate n m) in
     remainder _ width (length picture / width) (length picture % width + n) h (omega arith)
 
 -- what holds below a number and of it holds below the next one

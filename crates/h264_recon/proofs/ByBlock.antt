@@ -1,5 +1,5 @@
 -- The residual of a macroblock, added block by block.
-use Rattle.std.proofs.Common.{◌≡◌, ◌≢◌, ◌⊎◌, inl, inr, ⊎_elim, ℕ, ◌+◌, ◌*◌, ◌/◌, ◌%◌, ◌<◌, ◌≤◌, List, [], slice_index, get_or, replicate, ℤ, pos, ◌+ℤ◌, arith}
+use Rattle.std.proofs.Common.{◌≡◌, ◌≢◌, ◌⊎◌, inl, inr, ⊎_elim, ℕ, ◌+◌, ◌*◌, ◌/◌, ◌%◌, ◌<◌, ◌≤◌, List, [], slice_index, replicate, ℤ, pos, ◌+ℤ◌, arith}
 use Rattle.std.proofs.Common.{refl, sym, ap, ◌∙◌}
 use Rattle.std.proofs.lemmas.Bool.{cases_lt, cases_eq}
 use Rattle.h264_plane.specs.Clip.{clip1}
@@ -12,8 +12,7 @@ use Rattle.h264_scale.specs.declared.levels.ChromaLevels.TheVariants as chroma
 use Rattle.h264_scale.specs.declared.levels.Levels.{Levels}
 use Rattle.h264_scale.proofs.Blocks.{plain_entries}
 use Rattle.h264_scale.proofs.Whole.{none_residual, no_dc_residual, not_coded_chroma}
-use Rattle.h264_recon.specs.Residuals.{place, raster, IsAdded, AreAdded, IsBlockAdded, AreBlocksAdded}
-use Rattle.h264_recon.specs.declared.store.Samples.{Samples}
+use Rattle.h264_recon.specs.Residuals.{place, raster, IsAdded, IsBlockAdded, AreBlocksAdded}
 
 -- ---- one block
 
@@ -31,31 +30,10 @@ none_coded qp = record { each = λ i j p q. sym (none_residual qp i j p q) }
 pub none_with_dc : (qp : ℕ) → HasEntries [] (residual_at (d_with_dc (pos 0) (replicate 15 (pos 0)) qp))
 none_with_dc qp = record { each = λ i j p q. sym (no_dc_residual qp i j p q) }
 
--- with a residual
-pub block_some : (n x y : ℕ) (old new : List ℕ) (r : List ℤ) (f : ℕ → ℕ → ℤ) → IsBlockAdded n old new x y (λ j i. get_or r (4 * j + i) (pos 0)) →
-    HasEntries r f → IsBlockAdded n old new x y f
-block_some n x y old new r f b has = record {
-  here = λ i j p q. b.here i j p q ∙ ap (λ z. clip1 (pos (slice_index old (place n x y i j)) +ℤ z)) (has.each j i q p);
-  kept = b.kept;
-}
-
 -- samples that stay as they are
 pub record Stay (n : ℕ) (old new : List ℕ) : Type 0 where
   pub clipped : (k : ℕ) → k < n → slice_index new k ≡ clip1 (pos (slice_index old k) +ℤ pos 0)
   pub same : (k : ℕ) → k < n → slice_index new k ≡ slice_index old k
-
--- without one
-pub luma_none : (x y : ℕ) (old new : List ℕ) (f : ℕ → ℕ → ℤ) → x < 4 → y < 4 → Stay 256 old new → HasEntries [] f → IsBlockAdded 16 old new x y f
-luma_none x y old new f p q stay has = record {
-  here = λ i j d e. stay.clipped (place 16 x y i j) (omega arith) ∙ ap (λ z. clip1 (pos (slice_index old (place 16 x y i j)) +ℤ z)) (has.each j i e d);
-  kept = λ u v i j k l d e other. stay.same (place 16 u v i j) (omega arith);
-}
-
-pub chroma_none : (x y : ℕ) (old new : List ℕ) (f : ℕ → ℕ → ℤ) → x < 2 → y < 2 → Stay 64 old new → HasEntries [] f → IsBlockAdded 8 old new x y f
-chroma_none x y old new f p q stay has = record {
-  here = λ i j d e. stay.clipped (place 8 x y i j) (omega arith) ∙ ap (λ z. clip1 (pos (slice_index old (place 8 x y i j)) +ℤ z)) (has.each j i e d);
-  kept = λ u v i j k l d e other. stay.same (place 8 u v i j) (omega arith);
-}
 
 -- ---- one block after the other
 
@@ -157,8 +135,3 @@ plane_stays qp old new stay = record {
       ∙ ap (λ z. clip1 (pos (slice_index old (place 8 x y i j)) +ℤ z)) (sym (not_coded_chroma qp x y j i e d));
   rest = λ x y i j p q d e most. absurd (omega arith);
 }
-
-pub all_added : (l : Levels) (old new : Samples) → IsAdded l Y old.y new.y → IsAdded l Cb old.cb new.cb → IsAdded l Cr old.cr new.cr → AreAdded l old new
-all_added l old new a b d Y = a
-all_added l old new a b d Cb = b
-all_added l old new a b d Cr = d

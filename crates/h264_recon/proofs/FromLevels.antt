@@ -39,11 +39,6 @@ uncoded t t' d d' ac b p is e f =
     let none : (are_zero d && are_blank t) ≡ true = sym is ∙ p in
     rw (sym e, sym f, none) refl
 
--- levels, where there are some
-pub coded_luma : (t : List ℕ) (blocks : List (List ℤ)) (b : Bool) → b ≡ false → b ≡ are_blank t → luma.Blocks blocks ≡ luma_blocks t blocks
-unfolding luma_blocks
-coded_luma t blocks b n is = let some : are_blank t ≡ false = sym is ∙ n in rw some refl
-
 pub coded_chroma : (t : List ℕ) (d d' : List ℤ) (ac : List (List ℤ)) (b : Bool) → b ≡ false → b ≡ (are_zero d && are_blank t) → d ≡ d' →
     chroma.WithDc (record { dc = d; ac = ac }) ≡ chroma_blocks t d' ac
 unfolding chroma_blocks

@@ -99,12 +99,6 @@ both false b t = absurd (cc)
 below : (n m : ℕ) → IsTrue (nat_lt n m) → n < m
 below n m t = ltb-true n m t
 
-pub guarded : (a : ℕ) (b : Bool) → IsTrue (nat_lt 0 a && b) → 0 < a
-guarded a b t = below 0 a (both (nat_lt 0 a) b t).0
-
-pub guarded2 : (a n m : ℕ) (b : Bool) → IsTrue (nat_lt 0 a && (nat_lt n m && b)) → (0 < a) × (n < m)
-guarded2 a n m b t = let p = both (nat_lt 0 a) (nat_lt n m && b) t in (below 0 a p.0, below n m (both (nat_lt n m) b p.1).0)
-
 pub same : (a : ℕ) (b : Bool) → (IsTrue b → 0 < a) → (nat_lt 0 a && b) ≡ b
 same a false h = and-false (nat_lt 0 a)
 same a true h = rw (lt-ltb 0 a (h refl)) refl

@@ -40,10 +40,6 @@ unfolding chroma_d
 d_of_dc2 qp x y levels l dcs dc p q e same dcs_are =
     ap (λ z. d_with_dc z l qp) (same ∙ dcs_are.each y x q p) ∙ ap (λ z. d_with_dc (dc2_at levels.dc qp y x) z qp) e
 
-pub d_of_none : (qp x y : ℕ) → d_of [] qp ≡ luma_d qp luma.NotCoded x y
-unfolding luma_d
-d_of_none qp x y = refl
-
 -- ---- the range, block by block
 
 pub all_none : (p : ℕ → Bool) → all_below 0 p ≡ true
@@ -118,10 +114,6 @@ pub levels_cb : (l : Levels) → chroma_fits l.qp_cb l.cb ≡ false → levels_f
 unfolding levels_fit
 levels_cb l p = and_first _ (chroma_fits l.qp_cr l.cr) (and_second (luma_fits l.qp l.luma) _ p)
 
-pub levels_cr : (l : Levels) → chroma_fits l.qp_cr l.cr ≡ false → levels_fit l ≡ false
-unfolding levels_fit
-levels_cr l p = and_second (luma_fits l.qp l.luma && chroma_fits l.qp_cb l.cb) _ p
-
 -- ---- levels that are all 0
 
 no_levels : (qp : ℕ) → dc_only (pos 0) ≡ block_of (d_of [] qp)
@@ -167,10 +159,6 @@ not_coded_luma_fits qp = luma_whole qp luma.NotCoded refl (all_of 16 _ (λ b. no
 pub not_coded_chroma_fits : (qp : ℕ) → chroma_fits qp chroma.NotCoded ≡ true
 unfolding chroma_d chroma_dc_fits
 not_coded_chroma_fits qp = chroma_whole qp chroma.NotCoded refl (all_of 4 _ (λ b. none_fit qp))
-
-pub not_coded_luma : (qp x y i j : ℕ) → i < 4 → j < 4 → residual_at (luma_d qp luma.NotCoded x y) i j ≡ pos 0
-unfolding luma_d
-not_coded_luma qp x y i j p q = none_residual qp i j p q
 
 pub not_coded_chroma : (qp x y i j : ℕ) → i < 4 → j < 4 → residual_at (chroma_d qp chroma.NotCoded x y) i j ≡ pos 0
 unfolding chroma_d

@@ -1,7 +1,7 @@
 -- Bits in bytes stand there.
-use Rattle.std.proofs.Common.{◌≡◌, ℕ, zero, suc, ◌+◌, ◌-◌, ◌*◌, ◌/◌, ◌%◌, ◌^◌, ◌<◌, ◌≤◌, ◌==◌, Bool, true, false, [], ◌∷◌, ◌++◌, length, get_or, take, drop}
+use Rattle.std.proofs.Common.{◌≡◌, ℕ, zero, suc, ◌+◌, ◌-◌, ◌*◌, ◌/◌, ◌%◌, ◌^◌, ◌<◌, ◌≤◌, Bool, true, false, [], ◌∷◌, ◌++◌, length, get_or, take, drop}
 use Rattle.std.proofs.Common.{Some, slice_get, refl, ap, sym, ◌∙◌, arith}
-use Rattle.std.proofs.lemmas.List.{get_or-drop, length-drop}
+use Rattle.std.proofs.lemmas.List.{get_or-drop, get_or_past, length-drop}
 use Rattle.std.proofs.Math.Seq.{take-length}
 use Rattle.std.proofs.lemmas.List.FromFn.{length-map-range_with_len, get_or-map-range_with_len, map-range_with_len_more}
 use Rattle.std.proofs.lemmas.Option.{slice_get-get_or}
@@ -66,6 +66,10 @@ packed-bit n bits k h =
 
 pub packed-stands : (n : ℕ) (bits : Word) → length bits ≤ 8 * n → StandsAt (packed n bits) 0 bits
 packed-stands n bits h = stands-each (packed n bits) 0 bits (λ k few. let z : 0 + k ≡ k = omega arith in rw z (packed-bit n bits k (omega arith)))
+
+-- zeros stand after the last bit
+pub packed-zeros : (n : ℕ) (bits : Word) (k : ℕ) → length bits ≤ k → k < 8 * n → bit_of (packed n bits) k ≡ Some false
+packed-zeros n bits k past h = rw (packed-bit n bits k h) (ap Some (get_or_past bits k false past))
 
 pub packed-none : (bits : Word) → packed 0 bits ≡ []
 unfolding packed

@@ -27,28 +27,6 @@ pub step-without : (old new : List ℕ) (z next b : ℕ) (rest : List ℕ) → n
     new ++ escaped next rest ≡ old ++ escaped z (b ∷ rest)
 step-without old new z next b rest e g h = rw (g, h, escaped-without z b rest e) (simp append_assoc)
 
-pub few-after : (z b : ℕ) → z ≤ 2 → needs_prevention z b ≡ false → zeros_after z b ≤ 2
-few-after z b few e = go (b == 0) refl
-  where
-    go : (c : Bool) → (b == 0) ≡ c → (if c then z + 1 else 0) ≤ 2
-    go true f = let n : b ≡ 0 = eqb-true b 0 f in grind (arith, nat_tests)
-    go false f = omega arith
-
-pub few-anew : (b : ℕ) → zeros_after 0 b ≤ 2
-few-anew b = go (b == 0)
-  where
-    go : (c : Bool) → (if c then 0 + 1 else 0) ≤ 2
-    go true = omega arith
-    go false = omega arith
-
-pub escaped-next : (body after : List ℕ) (z next i : ℕ) (s whole : List ℕ) → i < length s →
-    ((rest : List ℕ) → after ++ escaped next rest ≡ body ++ escaped z (get_or s i 0 ∷ rest)) → body ++ escaped z (drop i s) ≡ whole →
-    after ++ escaped next (drop (i + 1) s) ≡ whole
-escaped-next body after z next i s whole h step before =
-    let k : i + 1 ≡ suc i = omega arith in
-    let d = drop-cons s i 0 h in
-    rw k (step (drop (suc i) s) ∙ sym (ap (λ (t : List ℕ). body ++ escaped z t) d) ∙ before)
-
 pub escaped-over : (body : List ℕ) (z i : ℕ) (s whole : List ℕ) → i ≡ length s → body ++ escaped z (drop i s) ≡ whole → body ≡ whole
 unfolding escaped
 escaped-over body z i s whole e before = sym (append-nil body) ∙ sym (ap (λ (t : List ℕ). body ++ escaped z t) (ap (λ i. drop i s) e ∙ drop-length s)) ∙ before

@@ -83,16 +83,3 @@ golomb-leading value zeros is h =
 
 pub two-words : (old mid new u w : Word) → mid ≡ old ++ u → new ≡ mid ++ w → new ≡ old ++ (u ++ w)
 two-words old mid new u w e f = f ∙ ap (λ (m : Word). m ++ w) e ∙ append_assoc old u w
-
--- codeNum of a signed value
-pub code-positive : (m : ℕ) → 0 < m → signed (2 * m - 1) ≡ pos m
-code-positive m h =
-    let odd : ((2 * m - 1) % 2 == 0) ≡ false = (let r : (2 * m - 1) % 2 ≡ 1 = omega arith in rw r refl) in
-    let half : (2 * m - 1) / 2 + 1 ≡ m = omega arith in
-    rw (odd, half) refl
-
-pub code-other : (m : ℕ) → signed (2 * m) ≡ neg_ℤ (pos m)
-code-other m =
-    let even : (2 * m % 2 == 0) ≡ true = (let r : 2 * m % 2 ≡ 0 = omega arith in rw r refl) in
-    let half : 2 * m / 2 ≡ m = omega arith in
-    rw (even, half) refl

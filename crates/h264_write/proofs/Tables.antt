@@ -114,18 +114,6 @@ row-number (q ∷ rows) r (inr m) = let k = row-number rows r m in (suc k.0, (le
 abbrev pub LacksTo : ℕ → List Row → ℕ → Type 0
 LacksTo i rows value = (k : ℕ) (r : Row) → k < i → slice_get rows k ≡ Some r → r.value ≡ value → ⊥
 
-pub lacks-more : (i : ℕ) (rows : List Row) (r : Row) (value : ℕ) → slice_get rows i ≡ Some r → (r.value ≡ value → ⊥) → LacksTo i rows value →
-    LacksTo (i + 1) rows value
-lacks-more i rows r value e other before k q h f g = elim (cases_lt k i) [
-  | inl early ↦ before k q early f g
-  | inr late ↦
-      let same : k ≡ i = omega arith in
-      let f' = rw same at f in
-      let p : ◌≡◌ {A = Option Row} (Some r) (Some q) = sym e ∙ f' in
-      let s : r ≡ q = cc in
-      other (ap (λ (r : Row). r.value) s ∙ g)
-]
-
 pub lacks-all : (i : ℕ) (table : Table) (value : ℕ) → length (rows_of table) ≤ i → LacksTo i (rows_of table) value → HasNoValue table value
 lacks-all i table value h before r m e = let k = row-number (rows_of table) r m in let l = k.1 in before k.0 r (omega arith) k.2 e
 

@@ -32,8 +32,8 @@ impl Model for Writer {
 }
 
 impl Writer {
-    ghost use Rattle.std.specs.Prelude.{◌≡◌, ◌≢◌, ◌+◌, ◌-◌, ◌/◌, ◌<◌, ◌≤◌, ◌^◌, ◌≤ℤ◌, pos, neg_ℤ, [], length, vec_len, OnOk, IfOk, Err};
-    ghost use Rattle.h264_base.specs.Word.{Fixed, Unsigned, Signed, Words, StandsAt};
+    ghost use Rattle.std.specs.Prelude.{◌≡◌, ◌≢◌, ℕ, ◌+◌, ◌-◌, ◌*◌, ◌/◌, ◌<◌, ◌≤◌, ◌^◌, ◌≤ℤ◌, pos, neg_ℤ, false, [], length, vec_len, OnOk, IfOk, Err, Some};
+    ghost use Rattle.h264_base.specs.Word.{Fixed, Unsigned, Signed, Words, StandsAt, bit_of};
     ghost use Rattle.h264_bits.specs.Truncated.{truncated};
     ghost use Rattle.h264_tables.specs.Table.{code_table};
     ghost use Rattle.h264_write.specs.Written.{Writes, Closes, HasNoValue};
@@ -121,6 +121,7 @@ impl Writer {
     pub fn bytes(&self, alloc: Global) -> Result<Vec<u8>, AllocError>
         ensures stand { IfOk result (λ v. StandsAt v.items 0 self.now) }
         ensures count { IfOk result (λ v. vec_len v ≡ (length self.now + 7) / 8) }
+        ensures zeros { IfOk result (λ v. (i : ℕ) → length self.now ≤ i → i < 8 * vec_len v → bit_of v.items i ≡ Some false) }
     {
         let bytes = pack(alloc, self.bits.as_slice())?;
         Ok(bytes)

@@ -1,5 +1,5 @@
 use Rattle.std.proofs.Common.{refl}
-use Rattle.h264_deblock.specs.Words.{names}
+use Rattle.h264_deblock.specs.Level.{names}
 use Rattle.h264_deblock.proofs.Macroblocks.{or_none, or_some}
 use Rattle.h264_deblock.proofs.Numbers.{zero-edge}
 use Rattle.h264_deblock.proofs.by_level.pair_border.Goals as goal
@@ -22,16 +22,16 @@ returns-then-is_zero-clause-cr g c =
     rw c.in-Some.is (or_some _ _ _ _ _ _ _ (zero-edge _ _ c.args.cr.now _ c.args.along c.args.across c.in-Some.border.strengths before
     (c.is_zero.ensures c.if-is_zero.true) refl))
 
-pub pair_at_level-requires-clause-before : goal.pair_at_level-requires-clause-before
-pair_at_level-requires-clause-before g c = c.requires.before (rw c.in-Some.is refl)
+pub edge_pair-requires-clause-before : goal.edge_pair-requires-clause-before
+edge_pair-requires-clause-before g c = c.requires.before (rw c.in-Some.is refl)
 
-pub pair_at_level-requires-clause-word : goal.pair_at_level-requires-clause-word
-pair_at_level-requires-clause-word g c = c.requires.word _ c.in-Some.is
+pub edge_pair-requires-clause-word : goal.edge_pair-requires-clause-word
+edge_pair-requires-clause-word g c = c.requires.word _ c.in-Some.is
 
 pub returns-clause-cb : goal.returns-clause-cb
 returns-clause-cb g c = rw c.in-Some.is (or_some _ _ _ _ _ _ _
-    (c.pair_at_level.ensures.cb _ (c.level_beside-level.ensures.here (names c.in-Some.border.strengths)) refl))
+    (c.edge_pair.ensures.cb _ (c.level_beside-level.ensures.here (names c.in-Some.border.strengths)) refl))
 
 pub returns-clause-cr : goal.returns-clause-cr
 returns-clause-cr g c = rw c.in-Some.is (or_some _ _ _ _ _ _ _
-    (c.pair_at_level.ensures.cr _ (c.level_beside-level.ensures.here (names c.in-Some.border.strengths)) refl))
+    (c.edge_pair.ensures.cr _ (c.level_beside-level.ensures.here (names c.in-Some.border.strengths)) refl))

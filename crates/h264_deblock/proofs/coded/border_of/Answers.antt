@@ -1,5 +1,5 @@
 use Rattle.std.proofs.Common.{sym, ◌∙◌}
-use Rattle.h264_deblock.specs.Words.{names}
+use Rattle.h264_deblock.specs.Level.{names}
 use Rattle.h264_deblock.proofs.CodedEdges.{border-at-0, border-none, border-some, border-skip}
 use Rattle.h264_deblock.proofs.coded.border_of.Goals as goal
 

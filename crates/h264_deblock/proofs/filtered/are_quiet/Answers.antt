@@ -1,7 +1,8 @@
 use Rattle.std.proofs.Common.{refl, slice_index, sym, ◌∙◌, ⊎_elim, inl, inr}
 use Rattle.h264_deblock.specs.Line.{is_within_limits}
-use Rattle.h264_deblock.specs.Rows.{line_of, any_filter}
+use Rattle.h264_deblock.specs.Rows.{line_of}
 use Rattle.h264_deblock.specs.Inner.{inner_of, limits_at}
+use Rattle.h264_deblock.specs.Level.{any_filter}
 use Rattle.h264_deblock.proofs.Lines.{within_inner}
 use Rattle.h264_deblock.proofs.OutOfLimits.{quiet_line}
 use Rattle.h264_deblock.proofs.filtered.are_quiet.Goals as goal

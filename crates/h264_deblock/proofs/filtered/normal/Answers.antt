@@ -1,9 +1,10 @@
 use Rattle.std.proofs.Common.{ℕ, Bool, ◌&&◌, cond, nat_le, nat_lt, slice_index, get_or, ap, ◌∙◌}
 use Rattle.std.specs.Int.{abs_diff}
 use Rattle.h264_deblock.specs.Line.{is_within_limits, Line}
-use Rattle.h264_deblock.specs.Rows.{line_of, filter_by, sign}
+use Rattle.h264_deblock.specs.Rows.{line_of, sign}
 use Rattle.h264_deblock.specs.Inner.{inner_of}
 use Rattle.h264_deblock.specs.declared.limits.LineLimits.{LineLimits}
+use Rattle.h264_deblock.specs.Level.{filter_by}
 use Rattle.h264_deblock.proofs.ByLane.{normal_lane, bent_by, reach_fits}
 use Rattle.h264_deblock.proofs.filtered.normal.Goals as goal
 

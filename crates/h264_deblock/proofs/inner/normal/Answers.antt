@@ -1,6 +1,6 @@
 use Rattle.std.proofs.Common.{◌<◌, ℕ, Bool, cond, nat_lt, slice_index, get_or, refl, ap, ◌∙◌}
 use Rattle.h264_deblock.specs.Line.{is_within_limits, Line}
-use Rattle.h264_deblock.specs.Rows.{filter_by}
+use Rattle.h264_deblock.specs.Level.{filter_by}
 use Rattle.h264_deblock.specs.Inner.{inner_of}
 use Rattle.h264_deblock.specs.declared.limits.LineLimits.{LineLimits}
 use Rattle.h264_deblock.proofs.ByLane.{inner_normal_lane, reach_of_chroma_fits}

@@ -1,5 +1,5 @@
 use Rattle.std.proofs.Common.{subst, ℕ}
-use Rattle.h264_deblock.specs.Words.{IsLevelOf}
+use Rattle.h264_deblock.specs.Level.{IsLevelOf}
 use Rattle.h264_deblock.proofs.plane_level.level_beside.Goals as goal
 
 pub returns : goal.returns

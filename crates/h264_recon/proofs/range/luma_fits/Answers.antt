@@ -3,7 +3,6 @@ use Rattle.h264_plane.specs.Places.{column_of, row_of}
 use Rattle.h264_scale.specs.Residual.{residual_fits}
 use Rattle.h264_scale.proofs.Whole.{all_none, all_more, refused, luma_dc_unfit, luma_unfit, luma_whole, all_to}
 use Rattle.h264_recon.specs.ReadLevels.{luma_by}
-use Rattle.h264_recon.proofs.FromLevels.{uncoded_fits}
 use Rattle.h264_recon.proofs.range.luma_fits.Goals as goal
 
 pub returns-in_default : goal.returns-in_default

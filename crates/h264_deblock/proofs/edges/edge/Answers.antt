@@ -1,6 +1,6 @@
 use Rattle.h264_deblock.proofs.Beside.{edge_idle}
 use Rattle.h264_deblock.proofs.Numbers.{zero-edge}
-use Rattle.h264_deblock.proofs.edges.luma_at_level.Goals as goal
+use Rattle.h264_deblock.proofs.edges.edge.Goals as goal
 
 pub returns-then-is_zero : goal.returns-then-is_zero
 returns-then-is_zero g c e is named-by =

@@ -1,6 +1,6 @@
 use Rattle.h264_deblock.proofs.Beside.{edge_idle}
 use Rattle.h264_deblock.proofs.Numbers.{zero-edge}
-use Rattle.h264_deblock.proofs.edges.pair_at_level.Goals as goal
+use Rattle.h264_deblock.proofs.edges.edge_pair.Goals as goal
 
 pub returns-then-is_zero-clause-cb : goal.returns-then-is_zero-clause-cb
 returns-then-is_zero-clause-cb g c e is named-by =
