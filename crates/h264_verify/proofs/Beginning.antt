@@ -18,7 +18,8 @@ use Rattle.h264_dpb.specs.Numbered.{is_taken}
 use Rattle.h264_verify.specs.declared.decoder.Decoder.{Decoder}
 use Rattle.h264_verify.specs.declared.decoder.Format.{Format}
 use Rattle.h264_verify.specs.Pictures.{CodedSlice, CodedPicture}
-use Rattle.h264_verify.specs.Keeping.{format_of, HasFormat, IsSettled, IsSized, IsRoomFor, AreOlder}
+use Rattle.h264_verify.specs.Keeping.{HasFormat, IsSettled, IsSized, IsRoomFor, AreOlder}
+use Rattle.h264_verify.specs.Memory.{format_of}
 use Rattle.h264_verify.specs.Keeping.{KeepsFrames, EntersFrames, EntersSome, EntersBy, IsPlaced, HasFreePlace}
 use Rattle.h264_verify.specs.Keeping.{BegunFrames, BeginsFrames}
 use Rattle.h264_verify.proofs.Filling.{sized}

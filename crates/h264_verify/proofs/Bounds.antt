@@ -11,7 +11,7 @@ use Rattle.h264_verify.specs.Steps.{AreMet}
 use Rattle.h264_verify.specs.Order.{end_steps}
 use Rattle.h264_verify.specs.Pictures.{CodedPicture, goes_on, held_in, runs_of}
 use Rattle.h264_verify.specs.Buffering.{within_newest}
-use Rattle.h264_verify.specs.Keeping.{ended_pictures}
+use Rattle.h264_verify.specs.Pictures.{ended_pictures}
 use Rattle.h264_verify.specs.Sound.{AreSound, has_ended}
 use Rattle.h264_verify.specs.Held.{AreAmong}
 use Rattle.h264_verify.specs.Predicting.{ArePredicted}

@@ -19,7 +19,8 @@ use Rattle.h264_verify.specs.History.{History}
 use Rattle.h264_verify.specs.Pictures.{CodedPicture, goes_on as may_go_on, runs_of}
 use Rattle.h264_verify.specs.Order.{closing_demands}
 use Rattle.h264_verify.specs.Buffering.{closing_frames, last_frames}
-use Rattle.h264_verify.specs.Keeping.{ended_pictures, close_steps}
+use Rattle.h264_verify.specs.Keeping.{close_steps}
+use Rattle.h264_verify.specs.Pictures.{ended_pictures}
 use Rattle.h264_verify.specs.Order.{whole_picture, whole_steps, end_steps}
 use Rattle.h264_verify.specs.Demands.{Demand}
 use Rattle.h264_base.specs.declared.summary.Summary.{Summary}

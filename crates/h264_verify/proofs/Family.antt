@@ -10,7 +10,7 @@ use Rattle.h264_verify.specs.Telling.{Told, AreDecoded}
 use Rattle.h264_verify.specs.History.{History}
 use Rattle.h264_verify.specs.Pictures.{CodedPicture, goes_on, runs_of}
 use Rattle.h264_verify.specs.Decoding.{slices_of}
-use Rattle.h264_verify.specs.Keeping.{ended_pictures}
+use Rattle.h264_verify.specs.Pictures.{ended_pictures}
 use Rattle.h264_verify.specs.Verdict.{AreLegal, Holds}
 use Rattle.h264_verify.specs.Family.{HaveSameSamples, AreSameOn}
 use Rattle.h264_verify.proofs.Agreeing.{each-slice}

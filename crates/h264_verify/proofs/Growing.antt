@@ -60,7 +60,8 @@ use Rattle.h264_verify.specs.Order.{content, content_steps, data_course, frames_
 use Rattle.h264_verify.specs.Outcome.{Outcome, ◌>>=◌, continued as outcome_on, answers, gives}
 use Rattle.h264_verify.specs.StepOutcome.{steps_outcome, structure_from, course_outcome}
 use Rattle.h264_verify.specs.UnitOutcome.{unit_outcome}
-use Rattle.h264_verify.specs.Keeping.{ended_pictures, ended_in}
+use Rattle.h264_verify.specs.Keeping.{ended_in}
+use Rattle.h264_verify.specs.Pictures.{ended_pictures}
 use Rattle.h264_verify.specs.Buffering.{gap_on, gaps_turn, missing_before, gaps_before, ended_picture, ended_turn, after_all, within_newest, told_frames}
 use Rattle.h264_verify.specs.Buffering.{told_picture, end_frames, closing_frames, missing_on, missing_steps, last_frames}
 use Rattle.h264_cavlc.proofs.Gives.{Gives, gives-done, gives-any, gives-bind, gives-if}

@@ -24,7 +24,8 @@ use Rattle.h264_sps.specs.declared.sps.Sps.{Sps}
 use Rattle.h264_pps.specs.declared.Pps.{Pps}
 use Rattle.h264_header.specs.Layout.{sets_of}
 use Rattle.h264_verify.specs.KeepingUnits.{Keeps, KeepsWithin, KeepsSome}
-use Rattle.h264_verify.specs.Keeping.{KeepsSomeSlice, KeepsFrames, WhereMade, IsLeft, KeepsSlices, ended_in, ended_pictures}
+use Rattle.h264_verify.specs.Keeping.{KeepsSomeSlice, KeepsFrames, WhereMade, IsLeft, KeepsSlices, ended_in}
+use Rattle.h264_verify.specs.Pictures.{ended_pictures}
 use Rattle.h264_header.specs.declared.header.Header.{Header}
 use Rattle.h264_base.specs.Grammar.{Grammar}
 use Rattle.h264_rbsp.specs.Rbsp.{body_of}

@@ -39,7 +39,7 @@ use Rattle.h264_verify.specs.Steps as step
 use Rattle.h264_verify.specs.Data.{picture_set, coded_so_far, slice_syntax, data_by, slice_data_at}
 use Rattle.h264_verify.specs.Decoding.{EachSlice}
 use Rattle.h264_verify.specs.Buffering.{end_frames, closing_frames, last_frames}
-use Rattle.h264_verify.specs.Keeping.{ended_pictures}
+use Rattle.h264_verify.specs.Pictures.{ended_pictures}
 use Rattle.h264_verify.specs.Sound.{IsMarked, AreSound, has_ended, HasActive}
 use Rattle.h264_verify.specs.Units.{slice_unit, picture_demand}
 use Rattle.h264_verify.specs.Order.{content_steps, data_course, frames_at, end_steps}

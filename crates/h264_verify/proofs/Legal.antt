@@ -43,7 +43,7 @@ use Rattle.h264_verify.proofs.AgreeingUnits.{decoded-last}
 use Rattle.h264_verify.proofs.Given.{sets-given}
 use Rattle.h264_verify.proofs.Marked.{IsOfUnit, header-of, marked-of}
 use Rattle.h264_verify.proofs.Named.{LeavesAlone}
-use Rattle.h264_verify.specs.Held.{is_own}
+use Rattle.h264_verify.specs.Sound.{is_own}
 use Rattle.h264_verify.specs.Sound.{IsMarked}
 
 -- ---- steps

@@ -35,7 +35,7 @@ use Rattle.h264_verify.specs.Content.{Content}
 use Rattle.h264_verify.specs.Content as contents
 use Rattle.h264_verify.specs.Data.{slice_data_at}
 use Rattle.h264_verify.specs.History.{History, ReadUnit, with_pair, maps_with, maps_of}
-use Rattle.h264_verify.specs.Keeping.{ended_pictures}
+use Rattle.h264_verify.specs.Pictures.{ended_pictures}
 use Rattle.h264_verify.specs.Pictures.{CodedSlice, CodedPicture, with_sets, slice_in, goes_on, joined_to, joined_by, begins_after, open_of, runs_of}
 use Rattle.h264_verify.specs.Steps.{Runs}
 use Rattle.h264_units.specs.UnitHeader.{header_of, nal_unit_type}

@@ -42,7 +42,8 @@ use Rattle.h264_verify.specs.Lists.{list_in, context_in}
 use Rattle.h264_verify.specs.Decoding.{EachSlice, number_of, parameters_of}
 use Rattle.h264_verify.specs.StepOutcome.{structure_from}
 use Rattle.h264_verify.specs.Framing.{ReadsSlice}
-use Rattle.h264_verify.specs.Keeping.{KeepsOutput, HasFormat, IsRoomFor, format_of, IsSized, IsNear}
+use Rattle.h264_verify.specs.Keeping.{KeepsOutput, HasFormat, IsRoomFor, IsSized, IsNear}
+use Rattle.h264_verify.specs.Memory.{format_of}
 use Rattle.h264_verify.specs.Keeping.{HasReferences, AreFalling, IsMaking, HoldsBegun, place_by, HoldsFrames, IsPlaced}
 use Rattle.h264_verify.proofs.Saying.{elements-tell, elements-front}
 use Rattle.h264_verify.proofs.Agreeing.{each-slice}

@@ -22,7 +22,7 @@ use Rattle.h264_sps.proofs.Gives.{Gives, gives-following, gives-met, gives-deriv
 use Rattle.h264_units.specs.UnitHeader.{nal_unit_type, nal_ref_idc, is_never_reference, fits_kind}
 use Rattle.h264_verify.specs.Units.{slice_unit_of}
 use Rattle.h264_verify.specs.Sound.{IsMarked}
-use Rattle.h264_verify.specs.Held.{is_idr_marking, is_own}
+use Rattle.h264_verify.specs.Sound.{is_idr_marking, is_own}
 
 -- what a header takes from its unit
 pub record IsOfUnit (u : SliceUnit) (h : Header) : Type 0 where

@@ -28,7 +28,8 @@ use Rattle.h264_verify.specs.History.{History, maps_of}
 use Rattle.h264_verify.specs.Pictures.{CodedPicture, runs_of, begins_at}
 use Rattle.h264_verify.specs.declared.decoder.Decoder.{Decoder}
 use Rattle.h264_verify.specs.declared.decoder.Format.{Format}
-use Rattle.h264_verify.specs.Keeping.{KeepsFrames, WhereMade, format_of, format_in}
+use Rattle.h264_verify.specs.Keeping.{KeepsFrames, WhereMade, format_in}
+use Rattle.h264_verify.specs.Memory.{format_of}
 use Rattle.h264_verify.specs.declared.state.Extent.{Extent}
 use Rattle.h264_units.specs.UnitHeader.{is_slice}
 use Rattle.h264_sps.specs.Sps.{sps}

@@ -32,7 +32,7 @@ use Rattle.h264_verify.specs.Lists.{list_of, list_in, named_in}
 use Rattle.h264_verify.specs.Slices.{is_i}
 use Rattle.h264_verify.specs.Decoding.{slices_of, EachSlice}
 use Rattle.h264_verify.specs.Sound.{HasSet}
-use Rattle.h264_verify.specs.Held.{is_idr_marking}
+use Rattle.h264_verify.specs.Sound.{is_idr_marking}
 use Rattle.h264_verify.proofs.Agreeing.{each-slice}
 use Rattle.h264_verify.proofs.Alike.{AreReadSlices}
 use Rattle.h264_verify.proofs.Among.{pictures_in, IsAmong, filled-holds, marked-holds}

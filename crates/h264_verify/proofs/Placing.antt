@@ -24,7 +24,8 @@ use Rattle.h264_verify.specs.declared.decoder.Decoder.{Decoder}
 use Rattle.h264_verify.specs.declared.decoder.Format.{Format}
 use Rattle.h264_verify.specs.Pictures.{CodedPicture, held_after, last_slice, picture_size}
 use Rattle.h264_verify.specs.Buffering.{ended_picture, within_newest, after_all}
-use Rattle.h264_verify.specs.Keeping.{format_of, HasFormat, IsRoomFor, IsSized, KeepsFrames}
+use Rattle.h264_verify.specs.Keeping.{HasFormat, IsRoomFor, IsSized, KeepsFrames}
+use Rattle.h264_verify.specs.Memory.{format_of}
 use Rattle.h264_verify.proofs.Lending.{each-lent, all-ready}
 use Rattle.h264_verify.proofs.Purposes.{made-for, family-kept, lends-none}
 use Rattle.h264_verify.proofs.PictureEnding.{with_one, with_frame, frame-at, with-agrees, with-family, frames-agree, rectangle-fits}

@@ -23,7 +23,8 @@ use Rattle.h264_dpb.specs.Turns.{store_turn}
 use Rattle.h264_verify.specs.Pictures.{CodedPicture, held_after, held_in, is_met}
 use Rattle.h264_verify.specs.Buffering.{gap_on, gaps_turn, missing_before, ended_picture, ended_turn, after_all, within_newest}
 use Rattle.h264_verify.specs.Sound.{IsMarked, AreSound}
-use Rattle.h264_verify.specs.Held.{Stands, AreAmong, is_idr_marking, is_own, has_gap_filled}
+use Rattle.h264_verify.specs.Held.{Stands, AreAmong}
+use Rattle.h264_verify.specs.Sound.{is_idr_marking, is_own, has_gap_filled}
 use Rattle.h264_verify.proofs.Among.{IsAmong, filled-holds, marked-holds, reset-holds, reset-by as either}
 use Rattle.h264_verify.proofs.Staying.{stands-missing, stands-reference, stands-other, stands-own}
 

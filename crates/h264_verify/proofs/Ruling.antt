@@ -29,7 +29,8 @@ use Rattle.h264_sps.specs.Usable.{is_usable}
 use Rattle.h264_marking.specs.Frames.{References, frame_places}
 use Rattle.h264_picture.specs.Buffer.{buffer_size}
 use Rattle.h264_dpb.specs.Kept.{size_of}
-use Rattle.h264_verify.specs.Keeping.{format_of, format_in, IsMadeAs, GoesWith, IsSettled, KeepsFrames, WhereMade, FillsFrames, EntersBy, HoldsOpen}
+use Rattle.h264_verify.specs.Keeping.{format_in, IsMadeAs, GoesWith, IsSettled, KeepsFrames, WhereMade, FillsFrames, EntersBy, HoldsOpen}
+use Rattle.h264_verify.specs.Memory.{format_of}
 use Rattle.h264_verify.specs.Keeping.{KeepsPictures, KeepsSlices, KeepsSomeGap, KeepsSomeRules, pictures_by, slices_by, is_typed}
 use Rattle.h264_verify.proofs.Slicing.{ok-true}
 use Rattle.h264_verify.specs.Telling.{Family}

@@ -26,7 +26,7 @@ use Rattle.h264_verify.specs.Pictures.{CodedSlice, CodedPicture, last_slice, goe
 use Rattle.h264_verify.specs.Order.{standing_demands}
 use Rattle.h264_verify.specs.Keeping.{KeepsSlices}
 use Rattle.h264_verify.specs.Sound.{IsMarked, HasSet, HasPps, AreSound, has_ended, HasActive, NamesSet}
-use Rattle.h264_verify.specs.Held.{has_gap_filled}
+use Rattle.h264_verify.specs.Sound.{has_gap_filled}
 use Rattle.h264_verify.proofs.Slicing.{content-active}
 use Rattle.h264_verify.proofs.Sound.{met-by, ended-sound-of}
 use Rattle.h264_verify.proofs.Ruling.{held-all}

@@ -27,7 +27,8 @@ use Rattle.h264_units.specs.UnitHeader.{ends_picture}
 use Rattle.h264_verify.specs.Order.{closing_at, closing_demands}
 use Rattle.h264_verify.specs.Order.{whole_picture, whole_steps, whole_at}
 use Rattle.h264_verify.specs.Buffering.{end_frames, closing_frames, last_frames}
-use Rattle.h264_verify.specs.Keeping.{ended_pictures, ended_in}
+use Rattle.h264_verify.specs.Keeping.{ended_in}
+use Rattle.h264_verify.specs.Pictures.{ended_pictures}
 use Rattle.h264_verify.specs.Slices.{is_idr_due, slice_call}
 use Rattle.h264_verify.specs.Order.{rules_of, steps_by, slice_steps}
 use Rattle.h264_verify.specs.Units.{picture_demand}

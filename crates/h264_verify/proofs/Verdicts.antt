@@ -506,9 +506,10 @@ fed-stop terms took failures old bytes piece frames told s s' stop w p later =
           (stops-plays (judging (extent_by terms)) (took_with p.made took) failures (standing_after old.split w.before) piece later s s' stop f.0
           p.stops.stops f.1)
           (λ e. wanting (extent_by terms) (took_with p.made took) failures (bytes ++ (piece ++ later)) w.before told old.split.at
-          (old.split.rest ++ (piece ++ later)) s
-          s' w.legal cut (leaves-shown 0 bytes (in_order w.before []) old.split.at old.split.rest (piece ++ later) w.shown) (stops-lacks (judging (extent_by terms)) (took_with p.made took) failures (standing_after old.split w.before) piece later s s' stop
-          p.stops.stops (same-stop stop Memory e)));
+          (old.split.rest ++ (piece ++ later)) s s' w.legal cut
+          (leaves-shown 0 bytes (in_order w.before []) old.split.at old.split.rest (piece ++ later) w.shown)
+          (stops-lacks (judging (extent_by terms)) (took_with p.made took) failures (standing_after old.split w.before) piece later s s' stop p.stops.stops
+          (same-stop stop Memory e)));
     })
 
 -- the end of the input

@@ -42,7 +42,8 @@ use Rattle.h264_verify.specs.Decoding.{slices_of, EachSlice, number_of, paramete
 use Rattle.h264_verify.specs.Demands.{Demand}
 use Rattle.h264_verify.specs.History.{History, maps_of}
 use Rattle.h264_verify.specs.Pictures.{CodedSlice, CodedPicture, last_slice, picture_size, bit_after, goes_on, open_of, joined_to, runs_of, counted}
-use Rattle.h264_verify.specs.Pictures.{with_sets, prev_ref_frame_num_of, held_after, held_in}
+use Rattle.h264_verify.specs.Pictures.{with_sets, prev_ref_frame_num_of, held_after, held_in, ended_pictures}
+use Rattle.h264_verify.specs.Memory.{format_of}
 use Rattle.h264_verify.specs.Order.{closing_demands, whole_steps, slice_rules}
 use Rattle.h264_marking.specs.Ended.{numbering_of}
 use Rattle.h264_verify.specs.Telling.{Said, Family, IsFamilyFor}
@@ -138,13 +139,6 @@ HoldsNewest false (p ∷ pictures) work = HoldsCoded (Some p) work
 
 -- ---- frames, where they are made
 
--- the pictures that have ended, where more slices may come to the newest, or it has ended
-abbrev pub ended_pictures : Bool → Bool → List CodedPicture → List CodedPicture
-ended_pictures on ended [] = []
-ended_pictures true true (p ∷ ps) = p ∷ ps
-ended_pictures true false (p ∷ ps) = ps
-ended_pictures false ended (p ∷ ps) = p ∷ ps
-
 -- how many of these units' pictures have ended before a unit that may go on with the newest
 abbrev pub ended_in : History → ℕ
 ended_in before = length (ended_pictures (goes_on before) false (runs_of before))
@@ -165,10 +159,6 @@ pub record IsRoomFor (f : Format) (work : Work) : Type 0 where
 abbrev pub HasFormat : Option Format → Work → Type 0
 HasFormat None work = Unit {0}
 HasFormat (Some f) work = IsRoomFor f work
-
--- the format of a sequence's pictures
-abbrev pub format_of : Sps → Format
-format_of sps = record { size = sps.frame_size; frames = buffer_size sps }
 
 -- what was lent stands at none of the active sequence's places
 abbrev pub AreOlder : Work → Work → Type 0

@@ -1,4 +1,5 @@
--- A working form. Where judging a unit may want memory: for the bytes of one that is read, and for a picture of another format than the one before it.
+-- Where judging a unit may want memory: for the bytes of one that is read, and for a picture of another format than the one before it. To be read beside the
+-- standard.
 use Rattle.std.specs.Prelude.{◌≡◌, ◌≢◌, ℕ, ◌<◌, length, ◌==◌, ◌&&◌, ◌||◌, Bool, true, false, Option, Some, None, List, [], ◌∷◌, if◌then◌else◌}
 use Rattle.h264_verify.specs.declared.state.Depth.{Depth}
 use Rattle.h264_verify.specs.declared.state.Depth.TheVariants as depths
@@ -14,7 +15,8 @@ use Rattle.h264_header.specs.Header.{header as header_syntax}
 use Rattle.h264_units.specs.UnitHeader.{header_of, nal_unit_type}
 use Rattle.h264_verify.specs.History.{History, maps_of}
 use Rattle.h264_verify.specs.Pictures.{CodedPicture, sets_at, begins_at, runs_of}
-use Rattle.h264_verify.specs.Keeping.{format_of}
+use Rattle.h264_picture.specs.Buffer.{buffer_size}
+use Rattle.h264_verify.specs.declared.decoder.Format.{Format}
 use Rattle.h264_units.specs.UnitHeader.{is_slice}
 use Rattle.h264_verify.specs.Units.{slice_unit}
 
@@ -43,6 +45,10 @@ LeavesAfter at bytes (unit ∷ units) place left = (rest : List ℕ) × Next at 
 -- bytes are left to be judged, unless no unit was judged before them
 abbrev pub IsMore : ℕ → List ℕ → Type 0
 IsMore place left = 0 < place → 0 < length left
+
+-- the format of a sequence's pictures
+abbrev pub format_of : Sps → Format
+format_of sps = record { size = sps.frame_size; frames = buffer_size sps }
 
 -- pictures of this sequence have frames of another size, or another number of them in the buffer, than the newest of these, or are the first
 abbrev pub HasAnotherFormat : List CodedPicture → Sps → Type 0

@@ -172,3 +172,10 @@ mark_demand r = record { rule = MarkCommand; bit = bit_of r; met = is_met r }
 abbrev pub end_of_picture : List CodedPicture → List Demand
 end_of_picture [] = []
 end_of_picture (p ∷ ps) = mark_demand (ended_by p (length ps) (held_in (p ∷ ps))) ∷ []
+
+-- the pictures that have ended, where more slices may come to the newest, or it has ended
+abbrev pub ended_pictures : Bool → Bool → List CodedPicture → List CodedPicture
+ended_pictures on ended [] = []
+ended_pictures true true (p ∷ ps) = p ∷ ps
+ended_pictures true false (p ∷ ps) = ps
+ended_pictures false ended (p ∷ ps) = p ∷ ps

@@ -1,5 +1,5 @@
 -- What is known of pictures whose rules are met. A working form.
-use Rattle.std.specs.Prelude.{◌≡◌, ◌||◌, not, List, [], ◌∷◌, length, Some, None, Bool, true, false}
+use Rattle.std.specs.Prelude.{◌≡◌, ◌||◌, not, List, [], ◌∷◌, length, Option, Some, None, Bool, true, false}
 use Rattle.std.specs.Option.{is_some}
 use Rattle.h264_pps.specs.declared.Pps.{Pps}
 use Rattle.h264_sps.specs.declared.sps.Sps.{Sps}
@@ -7,8 +7,27 @@ use Rattle.h264_sps.specs.Usable.{is_usable}
 use Rattle.h264_sets.specs.Sets.{Maps, IsActive, pps_of}
 use Rattle.h264_header.specs.declared.header.Header.{Header}
 use Rattle.h264_header.specs.Picture.{is_idr, is_reference}
-use Rattle.h264_verify.specs.Pictures.{CodedPicture, last_slice, held_in, ended_by, is_met}
-use Rattle.h264_verify.specs.Held.{is_own, has_gap_filled}
+use Rattle.h264_bits.specs.declared.element.Found.{Found}
+use Rattle.h264_header.specs.declared.header.Marking.{Marking}
+use Rattle.h264_header.specs.declared.header.Marking.TheVariants as marking
+use Rattle.h264_marking.specs.Gaps.{all_filled}
+use Rattle.h264_marking.specs.Ended.{numbering_of}
+use Rattle.h264_verify.specs.Pictures.{CodedPicture, last_slice, held_in, held_after, ended_by, is_met}
+use Rattle.h264_verify.specs.Buffering.{missing_before}
+
+-- that of an IDR picture (7.3.3.3)
+abbrev pub is_idr_marking : Marking → Bool
+is_idr_marking (marking.Idr no_output long_term) = true
+is_idr_marking marking.SlidingWindow = false
+is_idr_marking (marking.Adaptive operations) = false
+
+abbrev pub is_own : Option (Found Marking) → Bool
+is_own None = true
+is_own (Some found) = is_idr_marking found.value
+
+-- the gap before a picture after these was filled (8.2.5.2)
+abbrev pub has_gap_filled : CodedPicture → List CodedPicture → Bool
+has_gap_filled p ps = is_some (all_filled (numbering_of p.first.sps p.first.header) (missing_before p ps) (held_after ps))
 
 -- A header that was read has a marking where its picture is a reference, and nowhere else (7.3.3); an IDR picture is one (7.4.1), and is marked as
 -- one (7.3.3.3).

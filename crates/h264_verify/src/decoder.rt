@@ -4,7 +4,7 @@
 ghost use Rattle.std.specs.Prelude.{◌≡◌};
 ghost use Rattle.h264_verify.specs.Telling.{Family, IsFamilyFor};
 ghost use Rattle.h264_base.specs.Call.{HasRoom, IsQuiet, span};
-ghost use Rattle.h264_verify.specs.Keeping.{format_of};
+ghost use Rattle.h264_verify.specs.Memory.{format_of};
 
 use h264_base::{Elements, Stop};
 use h264_bits::Bits;
@@ -72,7 +72,8 @@ impl Decoder {
     ghost use Rattle.h264_verify.specs.Lists.{context_in};
     ghost use Rattle.h264_verify.specs.Decoding.{number_of};
     ghost use Rattle.h264_verify.specs.Buffering.{ended_picture, told_frames, end_frames};
-    ghost use Rattle.h264_verify.specs.Keeping.{format_of, HasFormat, IsSized, AreOlder, EntersSome, IsRoomFor, KeepsOutput, FillsFrames};
+    ghost use Rattle.h264_verify.specs.Keeping.{HasFormat, IsSized, AreOlder, EntersSome, IsRoomFor, KeepsOutput, FillsFrames};
+    ghost use Rattle.h264_verify.specs.Memory.{format_of};
     ghost use Rattle.h264_verify.specs.Keeping.{KeepsFrames, FillsSome, KeepsSomeEnd, EntersFrames, BegunFrames, HoldsBegun, IsNear};
     ghost use Rattle.h264_verify.specs.Keeping.{HasPlace, HasFreePlace, SlicesSome};
     ghost use Rattle.h264_verify.specs.StepOutcome.{steps_outcome, structure_from};

@@ -18,7 +18,7 @@ ghost use Rattle.h264_verify.specs.Within.{DecodesWithin, EndsWithin};
 ghost use Rattle.h264_verify.specs.Verdict.{Verdict, AreLegal, Holds, StopsAt};
 ghost use Rattle.h264_verify.specs.Telling.{calls_of, AreDecoded};
 ghost use Rattle.h264_verify.specs.History.{History};
-ghost use Rattle.h264_verify.specs.Keeping.{ended_pictures};
+ghost use Rattle.h264_verify.specs.Pictures.{ended_pictures};
 ghost use Rattle.h264_verify.specs.Family.{AreSameOn, IsFrontOf, LeavesFramesOut};
 ghost use Rattle.h264_plane.specs.declared.frame.Frame.{Frame};
 ghost use Rattle.h264_base.specs.declared.mode.Mode.TheVariants as modes;

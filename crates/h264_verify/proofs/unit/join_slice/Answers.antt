@@ -109,7 +109,8 @@ returns-in_err-place_slice g c =
           let kept = rw (slice-goes _ c.requires.slice) at k in
           let some = some-of _ c.in_ok-read_header.ensures.named in
           let j = c.in_err-place_slice.ensures.refused extent.depth frames before some.0 kept.slices k.sets some.1 kept.decoder in
-          joins-broken extent frames _ _ before c.args.unit.now _ j.made (none-ends frames j.made before c.args.unit.now (slice-goes (kind c.args.unit.now) c.requires.slice) j.same) _ _ _ _
+          joins-broken extent frames _ _ before c.args.unit.now _ j.made
+          (none-ends frames j.made before c.args.unit.now (slice-goes (kind c.args.unit.now) c.requires.slice) j.same) _ _ _ _
           (header-read extent j.made _ _ before c.args.unit.now c.args.header _ _ h _ _ _ _ _ reads c.requires.slice k.sets c.requires.header
           c.slice_unit-slice_unit.ensures c.requires.first c.in_ok-read_header.ensures.meets c.in_ok-read_header.ensures.answers) _ _ j.plays;
       counts = tt;

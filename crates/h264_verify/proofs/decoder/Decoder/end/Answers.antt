@@ -7,7 +7,7 @@ use Rattle.h264_dpb.specs.Turns.{way_turn}
 use Rattle.h264_dpb.specs.Kept.{KeepsBuffer, HasFrames, IsAtPlace, placed_at}
 use Rattle.h264_verify.specs.declared.decoder.Decoder.{Decoder}
 use Rattle.h264_verify.specs.Buffering.{within_newest}
-use Rattle.h264_verify.specs.Keeping.{format_of}
+use Rattle.h264_verify.specs.Memory.{format_of}
 use Rattle.h264_header.proofs.Entries.{where-ok}
 use Rattle.h264_verify.proofs.Made.{full-made}
 use Rattle.h264_verify.proofs.PictureEnding.{with_frame, with-agrees, with-family}
