@@ -1,4 +1,5 @@
--- A working form. Where judging a unit may want memory: for the bytes of one that is read, and for a picture of another format than the one before it.
+-- A working form. Where judging may want memory: for bytes that are left, those of a unit that is read among them, and for a picture of another format than
+-- the one before it.
 use Rattle.std.specs.Prelude.{◌≡◌, ◌≢◌, ℕ, ◌<◌, length, ◌==◌, ◌&&◌, ◌||◌, Bool, true, false, Option, Some, None, List, [], ◌∷◌, if◌then◌else◌}
 use Rattle.h264_verify.specs.declared.state.Depth.{Depth}
 use Rattle.h264_verify.specs.declared.state.Depth.TheVariants as depths
@@ -35,10 +36,10 @@ is_read depth unit = is_kind_read depth (nal_unit_type (header_of unit))
 abbrev pub bytes_of : Depth → NalUnit → Option Body
 bytes_of depth unit = if is_read depth unit then Some (body_of unit) else None
 
--- From this place on these bytes begin with these units, and after them these are left, from that place on.
-abbrev pub LeavesAfter : ℕ → List ℕ → List NalUnit → ℕ → List ℕ → Type 0
-LeavesAfter at bytes [] place left = (place ≡ at) × (left ≡ bytes)
-LeavesAfter at bytes (unit ∷ units) place left = (rest : List ℕ) × Next at bytes unit rest × LeavesAfter (past unit) rest units place left
+-- These are the first units of the bytes at this place, and what is left of the bytes after them.
+abbrev pub BeginWith : (at : ℕ) → (bytes : List ℕ) → List NalUnit → (after : ℕ) → (left : List ℕ) → Type 0
+BeginWith at bytes [] after left = (after ≡ at) × (left ≡ bytes)
+BeginWith at bytes (unit ∷ units) after left = (rest : List ℕ) × Next at bytes unit rest × BeginWith (past unit) rest units after left
 
 -- bytes are left to be judged, unless no unit was judged before them
 abbrev pub IsMore : ℕ → List ℕ → Type 0

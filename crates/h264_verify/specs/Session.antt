@@ -8,7 +8,7 @@ use Rattle.h264_units.specs.Stream.{NalUnit, Next, past, Tail, Splits}
 use Rattle.h264_units.specs.Splitting.{Splitting}
 use Rattle.h264_verify.specs.Outcome.{Outcome, with_calls, Plays}
 use Rattle.h264_verify.specs.Judging.{Judging, Comes}
-use Rattle.h264_verify.specs.Memory.{LeavesAfter, IsMore}
+use Rattle.h264_verify.specs.Memory.{BeginWith, IsMore}
 
 -- where a session stands: what its splitter holds, and the state that the units taken left
 pub record Standing (State : Type 0) : Type 0 where
@@ -76,7 +76,7 @@ pub record Lacks {State Summary : Type 0} (j : Judging State Summary) (at : ℕ)
   pub led : Leads j state judged first mid
   pub place : ℕ
   pub left : List ℕ
-  pub stands : LeavesAfter at bytes judged place left
+  pub stands : BeginWith at bytes judged place left
   pub lacks : LacksNext j mid later last place left
   pub calls_are : calls ≡ first ++ last
 

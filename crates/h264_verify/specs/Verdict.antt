@@ -17,7 +17,7 @@ use Rattle.h264_base.specs.declared.summary.Summary.{Summary}
 use Rattle.h264_verify.specs.Steps.{AreMet, IsFirstStop, Runs}
 use Rattle.h264_verify.specs.History.{History, ReadUnit}
 use Rattle.h264_verify.specs.Pictures.{runs_of}
-use Rattle.h264_verify.specs.Memory.{ChangesFormat, LeavesAfter, IsMore}
+use Rattle.h264_verify.specs.Memory.{ChangesFormat, BeginWith, IsMore}
 use Rattle.h264_verify.specs.Units.{summary_of, extent_by}
 use Rattle.h264_verify.specs.Order.{unit_course, end_steps}
 use Rattle.h264_verify.specs.Decodable.{AreDecodable}
@@ -137,7 +137,7 @@ pub record WantsAt (extent : Extent) (bytes : List ℕ) (calls : List Told) : Ty
   pub legal : AreLegal extent before first
   pub place : ℕ
   pub left : List ℕ
-  pub stands : LeavesAfter 0 bytes (in_order before []) place left
+  pub stands : BeginWith 0 bytes (in_order before []) place left
   pub wants : IsWanting extent before units last place left
   pub calls_are : calls ≡ first ++ last
 
