@@ -174,7 +174,7 @@ module _ (before : History) (unit : NalUnit) where
   content-by false true extent kind = pps-is extent
   content-by false false extent kind = other-is extent.depth kind
 
-  content-is : (extent : Extent) (kind : ℕ) → on extent.depth (content extent kind before unit) ≡ joined_by extent kind before unit
+  pub content-is : (extent : Extent) (kind : ℕ) → on extent.depth (content extent kind before unit) ≡ joined_by extent kind before unit
   unfolding content joined_by
   content-is extent kind = content-by (kind == 7) (kind == 8) extent kind
 

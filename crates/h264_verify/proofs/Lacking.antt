@@ -38,7 +38,7 @@ lacks-bytes j took at state bytes s more = record {
 
 -- for the first unit
 pub lacks-unit : {State Summary : Type 0} (j : Judging State Summary) {S : Type 0} (took : S → List Told → Type 0) {failures : S → ℕ} (at : ℕ) (state : State)
-    (bytes : List ℕ) (s s' : S) (unit : NalUnit) (calls : List Told) → j.grows state unit → Tells took s s' calls →
+    (bytes : List ℕ) (s s' : S) (unit : NalUnit) (calls : List Told) → j.grows state unit calls → Tells took s s' calls →
     ((units : List NalUnit) (tail : Tail) → Splits at bytes units tail → (later : List NalUnit) × (units ≡ unit ∷ later)) →
     Lacking j (span took failures s s') at state bytes
 lacks-unit j took at state bytes s s' unit calls g t first = record {

@@ -148,7 +148,8 @@ fed-finishes j start took failures known bytes mid s0 s1 s2 r none f k p =
 -- nothing was fed: memory was refused at once
 pub judges-memory : {State Summary : Type 0} (j : Judging State Summary) {S : Type 0} (start : State) (took : S → List Told → Type 0) (failures : S → ℕ)
     (bytes : List ℕ) (s : S) → Judges {Summary = Summary} j start (span took failures s s) bytes (Err Memory)
-judges-memory j start took failures bytes s = judged (λ o c. record { plays = (front-none o.calls, refl) }) (λ m. lacks-bytes j took 0 start bytes s (λ h. absurd (omega arith)))
+judges-memory j start took failures bytes s = judged (λ o c. record { plays = (front-none o.calls, refl) })
+    (λ m. lacks-bytes j took 0 start bytes s (λ h. absurd (omega arith)))
   where
     front-none : (calls : List Told) → TellsFront took s s calls
     front-none calls = record { front = []; rest = calls; whole = refl; tells = tells-none took s }

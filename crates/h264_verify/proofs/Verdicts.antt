@@ -307,7 +307,7 @@ in-order (r ∷ h) us = in-order h (r.unit ∷ us) ∙ sym (append_assoc (in_ord
 wants-after : (extent : Extent) (before : History) (units : List NalUnit) (calls : List Told) (place : ℕ) (left : List ℕ) →
     LacksNext (judging extent) before units calls place left → IsWanting extent before units calls place left
 wants-after extent before units calls place left (lacking.ForBytes e more) = BeforeNext e more
-wants-after extent before units calls place left (lacking.ForUnit unit later e g) = ForPicture unit later e g
+wants-after extent before units calls place left (lacking.ForUnit unit later e g) = ForPicture unit later e g.0 g.1
 
 wants-at : (extent : Extent) (bytes : List ℕ) (before : History) (told : List Told) (all units : List NalUnit) (tail : Tail) (calls : List Told) (at : ℕ)
     (rest : List ℕ) → AreLegal extent before told → Splits 0 bytes all tail → all ≡ in_order before [] ++ units →
@@ -507,7 +507,8 @@ fed-stop terms took failures old bytes piece frames told s s' stop w p later =
           p.stops.stops f.1)
           (λ e. wanting (extent_by terms) (took_with p.made took) failures (bytes ++ (piece ++ later)) w.before told old.split.at
           (old.split.rest ++ (piece ++ later)) s
-          s' w.legal cut (begin-shown 0 bytes (in_order w.before []) old.split.at old.split.rest (piece ++ later) w.shown) (stops-lacks (judging (extent_by terms)) (took_with p.made took) failures (standing_after old.split w.before) piece later s s' stop
+          s' w.legal cut (begin-shown 0 bytes (in_order w.before []) old.split.at old.split.rest (piece ++ later) w.shown)
+          (stops-lacks (judging (extent_by terms)) (took_with p.made took) failures (standing_after old.split w.before) piece later s s' stop
           p.stops.stops (same-stop stop Memory e)));
     })
 

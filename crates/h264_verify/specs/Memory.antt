@@ -1,6 +1,6 @@
 -- A working form. Where judging may want memory: for bytes that are left, those of a unit that is read among them, and for a picture of another format than
 -- the one before it.
-use Rattle.std.specs.Prelude.{◌≡◌, ◌≢◌, ℕ, ◌<◌, length, ◌==◌, ◌&&◌, ◌||◌, Bool, true, false, Option, Some, None, List, [], ◌∷◌, if◌then◌else◌}
+use Rattle.std.specs.Prelude.{◌≡◌, ◌≢◌, ℕ, ◌<◌, length, ◌==◌, ◌&&◌, ◌||◌, Bool, true, false, Option, Some, None, List, [], ◌∷◌, Ok, if◌then◌else◌}
 use Rattle.h264_verify.specs.declared.state.Depth.{Depth}
 use Rattle.h264_verify.specs.declared.state.Depth.TheVariants as depths
 use Rattle.h264_base.specs.Body.{Body}
@@ -18,6 +18,12 @@ use Rattle.h264_verify.specs.Pictures.{CodedPicture, sets_at, begins_at, runs_of
 use Rattle.h264_verify.specs.Keeping.{format_of}
 use Rattle.h264_units.specs.UnitHeader.{is_slice}
 use Rattle.h264_verify.specs.Units.{slice_unit}
+use Rattle.h264_rbsp.specs.Emulation.{IsFault}
+use Rattle.h264_verify.specs.declared.state.Extent.{Extent}
+use Rattle.h264_verify.specs.Content.{Content}
+use Rattle.h264_verify.specs.Order.{course_to_data}
+use Rattle.h264_verify.specs.Steps.{Runs}
+use Rattle.h264_verify.specs.Telling.{Told}
 
 -- in Units slices are passed over
 abbrev pub reads_slices : Depth → Bool
@@ -66,3 +72,9 @@ pub record ChangesFormat (depth : Depth) (before : History) (unit : NalUnit) : T
   pub full : depth ≡ depths.Full
   pub slice : is_slice (nal_unit_type (header_of unit)) ≡ true
   pub begins : BeginsAnotherFormat before unit
+
+-- These calls are all that is told of this unit up to its slice data, and every rule before them is met.
+pub record ReachesData (extent : Extent) (before : History) (unit : NalUnit) (calls : List Told) : Type 0 where
+  pub sound : (place : ℕ) → IsFault unit.body place → ⊥
+  pub found : Content
+  pub runs : Runs (body_of unit) (course_to_data extent before unit) calls (Ok found)

@@ -196,6 +196,15 @@ unit_course extent before unit =
     ++ (needs (closing_at (nal_unit_type (header_of unit)) before) ++ frames_at extent.depth (nal_unit_type (header_of unit)) before))
     (content_course extent before unit)))
 
+-- The same up to slice data, with which memory may be wanting: what is in the unit is read, and its rules are met.
+abbrev pub course_to_data : Extent → History → NalUnit → Course
+course_to_data extent before unit =
+    Takes (needs (header_demands (8 * unit.from) (header_of unit)))
+    (Takes (step.Tells (Said (unit_call unit.from (header_of unit) (length unit.body))) ∷ [])
+    (Takes (whole_at extent.depth (nal_unit_type (header_of unit)) before
+    ++ (needs (closing_at (nal_unit_type (header_of unit)) before) ++ frames_at extent.depth (nal_unit_type (header_of unit)) before))
+    (Reads (content extent (nal_unit_type (header_of unit)) before unit) 0 (λ found bit. Takes (content_steps extent.depth before unit found) (Ends found)))))
+
 -- ---- the end of the input
 
 -- The end of the input, at this bit: the last picture ends, there is one, and all frames that wait are written.

@@ -62,7 +62,7 @@ pub record Goes {State Summary S : Type 0} (j : Judging State Summary) (w : Sink
 pub data LacksNext {State Summary : Type 0} (j : Judging State Summary) (state : State) (units : List NalUnit) (calls : List Told) (place : ℕ)
     (left : List ℕ) : Type 0 where
   ForBytes : calls ≡ [] → IsMore place left → LacksNext j state units calls place left
-  ForUnit : (unit : NalUnit) (later : List NalUnit) → units ≡ unit ∷ later → j.grows state unit → LacksNext j state units calls place left
+  ForUnit : (unit : NalUnit) (later : List NalUnit) → units ≡ unit ∷ later → j.grows state unit calls → LacksNext j state units calls place left
 
 -- The first of the units of these bytes were judged, and then memory was wanting.
 pub record Lacks {State Summary : Type 0} (j : Judging State Summary) (at : ℕ) (state : State) (bytes : List ℕ) (units : List NalUnit)

@@ -26,8 +26,15 @@ use Rattle.h264_verify.specs.Order.{closing_at}
 use Rattle.h264_verify.specs.Order.{whole_at}
 use Rattle.h264_verify.specs.Units.{unit_call, slice_unit, summary_of}
 use Rattle.h264_units.specs.UnitHeader.{is_slice}
-use Rattle.h264_verify.specs.Order.{content_steps, data_course, frames_at, unit_course, end_steps}
+use Rattle.h264_verify.specs.Order.{content as unit_content, content_steps, data_course, frames_at, unit_course, end_steps}
 use Rattle.h264_verify.specs.StepOutcome.{course_outcome, steps_outcome, structure_from}
+
+-- what is in a unit is judged, up to what stands after it
+abbrev pub to_data : Depth → History → NalUnit → Outcome (Content × ℕ) → Outcome Content
+to_data depth before unit content = do
+  x ← content
+  _ ← steps_outcome (content_steps depth before unit x.0)
+  gives x.0
 
 -- a parameter set is read
 unfoldable pub sps_outcome : Target → NalUnit → Outcome Content
@@ -67,6 +74,14 @@ header_content before unit = ◌bind◌ (header (sets_of (maps_of before)) (slic
 unfoldable pub whole_slice : History → NalUnit → Outcome History
 whole_slice before unit = joined_on depths.Full before unit (structure_from (header_content before unit) (body_of unit) 0)
 
+-- it without its slice data
+unfoldable pub slice_to_data : History → NalUnit → Outcome Content
+slice_to_data before unit = to_data depths.Full before unit (structure_from (header_content before unit) (body_of unit) 0)
+
+unfoldable pub joined_to_data : Extent → History → NalUnit → Outcome Content
+joined_to_data extent before unit =
+    to_data extent.depth before unit (structure_from (unit_content extent (nal_unit_type (header_of unit)) before unit) (body_of unit) 0)
+
 -- a unit that is no parameter set: slices are read unless they are passed over
 unfoldable pub joined_other : Depth → ℕ → History → NalUnit → Outcome History
 joined_other depths.Units kind before unit = joined depths.Units before unit (gives contents.Passed)
@@ -90,6 +105,16 @@ unit_by_steps extent before unit = do
   _ ← steps_outcome (whole_at extent.depth (nal_unit_type (header_of unit)) before
       ++ (needs (closing_at (nal_unit_type (header_of unit)) before) ++ frames_at extent.depth (nal_unit_type (header_of unit)) before))
   joined_by extent (nal_unit_type (header_of unit)) before unit
+
+-- the course of a unit up to its slice data, step by step
+unfoldable pub unit_to_data : Extent → History → NalUnit → Outcome Content
+unit_to_data extent before unit = do
+  _ ← answers (emulation_checked unit.from unit.body)
+  _ ← answers (judged (header_demands (8 * unit.from) (header_of unit)))
+  _ ← tells (Said (unit_call unit.from (header_of unit) (length unit.body)))
+  _ ← steps_outcome (whole_at extent.depth (nal_unit_type (header_of unit)) before
+      ++ (needs (closing_at (nal_unit_type (header_of unit)) before) ++ frames_at extent.depth (nal_unit_type (header_of unit)) before))
+  joined_to_data extent before unit
 
 -- what comes of a unit: it joins those before it, once its course has come to its end
 unfoldable pub unit_outcome : Extent → History → NalUnit → Outcome History

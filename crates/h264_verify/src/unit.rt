@@ -25,11 +25,12 @@ ghost use Rattle.h264_verify.specs.KeepingUnits.{Keeps, KeepsWithin, KeepsSome};
 ghost use Rattle.h264_verify.specs.Keeping.{WhereMade, FillsFrames, HasWritten, KeepsSomeGap, IsLeft, ended_pictures, ended_in};
 ghost use Rattle.h264_verify.specs.Pictures.{CodedPicture, goes_on, runs_of};
 ghost use Rattle.h264_units.specs.UnitHeader.{ends_picture};
-ghost use Rattle.h264_verify.specs.Turning.{Turns, Joins, EndsAll};
+ghost use Rattle.h264_verify.specs.Turning.{Turns, Joins, Pauses, EndsAll};
 ghost use Rattle.h264_verify.specs.Units.{unit_call, slice_unit_of, has_pictures};
 ghost use Rattle.h264_verify.specs.Memory.{bytes_of, BeginsAnotherFormat, ChangesFormat};
 ghost use Rattle.h264_verify.specs.StepOutcome.{steps_outcome};
 ghost use Rattle.h264_verify.specs.UnitOutcome.{sps_outcome, pps_outcome, slice_outcome, whole_slice, joined, joined_by};
+ghost use Rattle.h264_verify.specs.UnitOutcome.{slice_to_data, joined_to_data, unit_to_data};
 ghost use Rattle.h264_verify.specs.declared.state.Depth.{Depth};
 ghost use Rattle.h264_verify.specs.declared.state.Depth.TheVariants as depths;
 
@@ -255,6 +256,8 @@ fn join_read<S: FrameSink>(
     ensures pictures { OnOk result (state.new.slices.pictures ≤ state.new.units) }
     ensures no_memory { (frames : Family) (before : History) → KeepsWithin depths.Full frames before (ends_picture (nal_unit_type header)) state.old →
         IsErrOf result Stop.Memory → BeginsAnotherFormat before unit.now }
+    ensures pauses { (frames : Family) (before : History) → KeepsWithin depths.Full frames before (ends_picture (nal_unit_type header)) state.old →
+        IsErrOf result Stop.Memory → Pauses (frame_span S.took S.failures frames sink.old sink.new) (ended_in before) (slice_to_data before unit.now) }
     ensures kept { OnOk result (IsQuiet S.failures sink.old sink.new) }
 {
     let slice_unit = slice_unit(header);
@@ -305,6 +308,8 @@ fn join_whole_slice<S: FrameSink>(
     ensures pictures { OnOk result (state.new.slices.pictures ≤ state.new.units) }
     ensures no_memory { (frames : Family) (before : History) → KeepsWithin depths.Full frames before (ends_picture (nal_unit_type header)) state.old →
         IsErrOf result Stop.Memory → BeginsAnotherFormat before unit.now }
+    ensures pauses { (frames : Family) (before : History) → KeepsWithin depths.Full frames before (ends_picture (nal_unit_type header)) state.old →
+        IsErrOf result Stop.Memory → Pauses (frame_span S.took S.failures frames sink.old sink.new) (ended_in before) (slice_to_data before unit.now) }
     ensures kept { OnOk result (IsQuiet S.failures sink.old sink.new) }
 {
     let mut bits = Bits::new(rbsp);
@@ -346,6 +351,11 @@ fn join<S: FrameSink>(
     ensures no_memory { (frames : Family) (before : History) →
         KeepsWithin extent.depth frames before (ends_picture (nal_unit_type bytes.now.header)) state.old →
         IsErrOf result Stop.Memory → ChangesFormat extent.depth before bytes.now.unit.now }
+    ensures pauses { (frames : Family) (before : History) →
+        KeepsWithin extent.depth frames before (ends_picture (nal_unit_type bytes.now.header)) state.old → IsErrOf result Stop.Memory →
+        Pauses (frame_span S.took S.failures frames sink.old sink.new)
+        (length (ended_pictures (goes_on before) (ends_picture (nal_unit_type bytes.now.header)) (runs_of before)))
+        (joined_to_data extent before bytes.now.unit.now) }
     ensures kept { OnOk result (IsQuiet S.failures sink.old sink.new) }
 {
     let UnitBytes { unit, header, rbsp } = *bytes;
@@ -368,7 +378,8 @@ fn join<S: FrameSink>(
 /// those before it. The allocator is lent to a picture of another format alone.
 ///
 /// Err: the first check of the unit's course that fails, with its bit; Memory where a growth was refused, which is only where a slice
-/// begins a picture of another format than the one before it; Write where the sink failed. After an Err what is kept is of no use.
+/// begins a picture of another format than the one before it, before the first element of its data; Write where the sink failed. After an Err what is
+/// kept is of no use.
 pub fn judge_unit<S: FrameSink>(
     alloc: Global,
     extent: Extent,
@@ -388,6 +399,8 @@ pub fn judge_unit<S: FrameSink>(
     ensures pictures { OnOk result (state.new.slices.pictures ≤ state.new.units) }
     ensures no_memory { (frames : Family) (before : History) → Keeps extent.depth frames before state.old → IsErrOf result Stop.Memory →
         ChangesFormat extent.depth before unit.now }
+    ensures pauses { (frames : Family) (before : History) → Keeps extent.depth frames before state.old → IsErrOf result Stop.Memory →
+        Pauses (frame_span S.took S.failures frames sink.old sink.new) (ended_in before) (unit_to_data extent before unit.now) }
     ensures kept { OnOk result (IsQuiet S.failures sink.old sink.new) }
 {
     check_emulation(unit)?;

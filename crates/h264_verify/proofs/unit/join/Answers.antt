@@ -1,4 +1,4 @@
-use Rattle.std.proofs.Common.{◌≡◌, ℕ, Bool, true, false, List, Option, Some, None, Result, length, ap, refl, sym, subst, ◌∙◌}
+use Rattle.std.proofs.Common.{◌≡◌, ◌==◌, ℕ, Bool, true, false, List, Option, Some, None, Result, length, ap, refl, sym, subst, ◌∙◌}
 use Rattle.std.proofs.lemmas.Bool.{ne_eqb}
 use Rattle.h264_verify.specs.declared.state.Depth.{Depth}
 use Rattle.h264_verify.specs.declared.state.Depth.TheVariants as depths
@@ -22,7 +22,9 @@ use Rattle.h264_verify.specs.declared.decoder.Decoder.{Decoder}
 use Rattle.h264_verify.specs.Keeping.{WhereMade}
 use Rattle.h264_verify.proofs.Made.{some-made, none-made}
 use Rattle.h264_verify.specs.KeepingUnits.{KeepsWithin, KeepsSome}
-use Rattle.h264_verify.specs.Turning.{Joins}
+use Rattle.h264_verify.specs.Turning.{Joins, Pauses}
+use Rattle.h264_verify.specs.Content.{Content}
+use Rattle.h264_verify.proofs.Pausing.{slice-is}
 use Rattle.h264_base.specs.Body.{Body}
 use Rattle.h264_units.specs.UnitHeader.{is_slice}
 use Rattle.h264_verify.specs.Memory.{reads_slices, bytes_of}
@@ -190,3 +192,36 @@ returns-in-Some-decoder-clause-no_memory g c = λ frames before k m.
       slice = subst (λ (b : ℕ). is_slice (nal_unit_type b) ≡ true) c.requires.header here.0;
       begins = c.join_whole_slice.ensures.no_memory frames before kept m;
     }
+
+pub returns-in-SequenceSet-clause-pauses : goal.returns-in-SequenceSet-clause-pauses
+returns-in-SequenceSet-clause-pauses g c = λ frames before k m. absurd (c.join_sps.ensures.no_memory m)
+
+pub returns-in-PictureSet-clause-pauses : goal.returns-in-PictureSet-clause-pauses
+returns-in-PictureSet-clause-pauses g c = λ frames before k m. absurd (c.join_pps.ensures.no_memory m)
+
+pub returns-in-None-clause-pauses : goal.returns-in-None-clause-pauses
+returns-in-None-clause-pauses g c = λ frames before k m. absurd (c.join_slice.ensures.no_memory m)
+
+-- where no picture ends
+pauses-here : {S : Type 0} (took : S → List Call → Type 0) (failures : S → ℕ) (frames : Family) (before : History) (ends : Bool) (o p : Outcome Content)
+    (s s' : S) → ends ≡ false → o ≡ p → Pauses (frame_span took failures frames s s') (ended_in before) o →
+    Pauses (frame_span took failures frames s s') (length (ended_pictures (goes_on before) ends (runs_of before))) p
+pauses-here took failures frames before ends o p s s' e f j =
+    subst (λ (b : Bool). Pauses (frame_span took failures frames s s') (length (ended_pictures (goes_on before) b (runs_of before))) p) (sym e)
+    (subst (λ (q : Outcome Content). Pauses (frame_span took failures frames s s') (ended_in before) q) f j)
+
+pub returns-in-Some-decoder-clause-pauses : goal.returns-in-Some-decoder-clause-pauses
+returns-in-Some-decoder-clause-pauses g c = λ frames before k m.
+    let here = slice-here c.args.extent.depth c.args.bytes.now.unit.now c.args.bytes.now.header c.args.bytes.now.rbsp.now _ c.requires.header c.requires.bytes
+    c.in-Some.is (is-not _ types.SequenceSet _ c.of-kind.ensures c.in_default-kind.not-SequenceSet)
+    (is-not _ types.PictureSet _ c.of-kind.ensures c.in_default-kind.not-PictureSet) in
+    let depth = (some-made _ c.args.extent.depth c.args.state.now.decoder _ c.in-Some-decoder.is c.requires.kept.keeps.decoder).0 in
+    let kept = subst (λ q. KeepsWithin q frames before (ends_picture (nal_unit_type c.args.bytes.now.header)) c.args.state.now) depth k in
+    let byte = c.requires.header in
+    pauses-here _ _ frames before (ends_picture (nal_unit_type c.args.bytes.now.header)) _ _ _ _
+    (slice-goes-on (nal_unit_type c.args.bytes.now.header) here.0)
+    (slice-is c.args.extent before c.args.bytes.now.unit.now depth
+    (subst (λ (b : ℕ). (nal_unit_type b == 7) ≡ false) byte (ne_eqb _ _ (is-not _ types.SequenceSet _ c.of-kind.ensures c.in_default-kind.not-SequenceSet)))
+    (subst (λ (b : ℕ). (nal_unit_type b == 8) ≡ false) byte (ne_eqb _ _ (is-not _ types.PictureSet _ c.of-kind.ensures c.in_default-kind.not-PictureSet)))
+    (subst (λ (b : ℕ). is_slice (nal_unit_type b) ≡ true) byte here.0))
+    (c.join_whole_slice.ensures.pauses frames before kept m)

@@ -31,6 +31,7 @@ use Rattle.h264_verify.specs.Sound.{NamesSet}
 use Rattle.h264_verify.proofs.Standing.{later-set}
 use Rattle.h264_verify.proofs.Marked.{read-marked}
 use Rattle.h264_verify.proofs.Memory.{answers-memory, is-another, begins-another}
+use Rattle.h264_verify.proofs.Pausing.{slice-pauses}
 use Rattle.h264_verify.proofs.unit.join_read.Goals as goal
 
 pub place_slice-requires-clause-kept : goal.place_slice-requires-clause-kept
@@ -110,6 +111,7 @@ returns-in_err-read_header g c =
       counts = tt;
       pictures = tt;
       no_memory = λ frames before k m. absurd (answers-memory _ _ _ _ _ _ _ _ _ c.in_err-read_header.ensures.meets c.in_err-read_header.ensures.answers m);
+      pauses = λ frames before k m. absurd (answers-memory _ _ _ _ _ _ _ _ _ c.in_err-read_header.ensures.meets c.in_err-read_header.ensures.answers m);
       kept = tt;
     })
 
@@ -134,6 +136,7 @@ returns-in_err-place_slice g c =
       counts = tt;
       pictures = tt;
       no_memory = λ frames before k m. absurd (c.in_err-place_slice.ensures.no_memory m);
+      pauses = λ frames before k m. absurd (c.in_err-place_slice.ensures.no_memory m);
       kept = tt;
     })
 
@@ -164,6 +167,7 @@ returns-in_err-judge_rules g c =
       counts = tt;
       pictures = tt;
       no_memory = λ frames before k m. absurd (c.in_err-judge_rules.ensures.no_memory m);
+      pauses = λ frames before k m. absurd (c.in_err-judge_rules.ensures.no_memory m);
       kept = tt;
     })
 
@@ -239,3 +243,26 @@ returns-clause-no_memory g c = λ frames before k m.
     c.requires.first c.in_ok-read_header.ensures.meets c.in_ok-read_header.ensures.answers sets named (sym b ∙ begun)
     (is-another frames (goes_on before) (runs_of before) c.args.state.now.decoder c.in-Some.decoder sets.1 kept.decoder
     (ap format_in (sym c.in-Some.is) ∙ c.in_ok-judge_rules.ensures.format ∙ c.in_ok-place_slice.ensures.format) (λ f. c.read_data.ensures.stands f m))
+
+pub returns-clause-pauses : goal.returns-clause-pauses
+returns-clause-pauses g c = λ frames before k m.
+    let h = c.read_header.new.header in
+    let same = ap (λ (s : Slice). s.header) c.in_ok-place_slice.ensures.slice in
+    let unit = c.args.unit.now in
+    let kept = subst (λ (b : Bool). KeepsWithin depths.Full frames before b c.args.state.now) c.requires.goes_on k in
+    let b = begins-as before h c.args.state.now.slices _ kept.slices c.begins-begins.ensures in
+    let begun = subst (λ (x : Header). c.begins-begins.result ≡ begins_at before x) (sym same) b in
+    let placed = c.in_ok-place_slice.ensures.placed depths.Full frames before kept.slices kept.decoder in
+    let named = sets-after c.args.state.now.sets _ h _ c.in_ok-place_slice.ensures.sets (rw same at c.sets_named.ensures.sets) in
+    let plays = rw same at (c.in_ok-judge_rules.ensures.plays depths.Full placed.closes.made before placed.ended begun placed.closes.keeps) in
+    let enters = rw same at (c.in_ok-judge_rules.ensures.frames depths.Full placed.closes.made before placed.ended begun placed.closes.keeps) in
+    let j = judges-rules depths.Full _ _ frames before unit h c.begins-begins.result _ _ _ _ placed _ _ k.sets named b c.judge_rules.new.decoder _ _ plays
+    enters in
+    let read = header-read j.made _ _ before unit c.args.header _ _ h _ _ _ _ _ k.sets c.requires.header c.slice_unit-slice_unit.ensures c.requires.first
+    c.in_ok-read_header.ensures.meets c.in_ok-read_header.ensures.answers in
+    rw (c.read_data.ensures.untold m) (record {
+      made = j.made;
+      same = j.same;
+      found = contents.OfSlice h [];
+      plays = slice-pauses _ _ before unit h _ _ _ _ _ _ read j.plays;
+    })

@@ -29,6 +29,7 @@ use Rattle.h264_verify.proofs.Memory.{named-memory}
 use Rattle.h264_verify.proofs.Slicing.{err-named}
 use Rattle.h264_verify.proofs.Standing.{first-met}
 use Rattle.h264_verify.proofs.Courses.{plays-course, ended-grows, closing-all}
+use Rattle.h264_verify.proofs.Pausing.{unit-pauses}
 use Rattle.h264_verify.proofs.unit.judge_unit.Goals as goal
 use Rattle.h264_cavlc.proofs.Loops.{quiet-after}
 
@@ -244,3 +245,39 @@ returns-clause-no_memory g c =
     let e = closes c.args.extent.depth frames before k.slices k.decoder in
     joins e.made before (within {depth = c.args.extent.depth} {frames = frames} {made = e.made} {before = before} c.args.state.now c.close_if.new.slices
     c.close_if.new.decoder k slices e.keeps) m
+
+pub returns-in_err-check_emulation-clause-pauses : goal.returns-in_err-check_emulation-clause-pauses
+returns-in_err-check_emulation-clause-pauses g c =
+    let p = err_from_is_err_and c.from_residual.result c.from_residual.ensures.1 in
+    let n = c.in_err-check_emulation.ensures.err in
+    rw (p.1, p.2) (λ frames before k m. absurd (named-memory _ (named-by _ _ _ n.1) m))
+
+pub returns-in_err-check_header-clause-pauses : goal.returns-in_err-check_header-clause-pauses
+returns-in_err-check_header-clause-pauses g c =
+    let p = err_from_is_err_and c.from_residual-in_err-check_header.result c.from_residual-in_err-check_header.ensures.1 in
+    let header = rw (c.from-from.ensures.value, c.body-body.ensures.value) at c.in_err-check_header.ensures in
+    rw (p.1, p.2) (λ frames before k m. absurd
+    (named-memory _ (err-named (header_demands (8 * c.args.unit.now.from) (header_of c.args.unit.now)) _ (sym header)) m))
+
+pub returns-in_err-tell_unit-clause-pauses : goal.returns-in_err-tell_unit-clause-pauses
+returns-in_err-tell_unit-clause-pauses g c =
+    let p = err_from_is_err_and c.from_residual-in_err-tell_unit.result c.from_residual-in_err-tell_unit.ensures.1 in
+    rw (p.1, p.2) (λ frames before k m. absurd (c.in_err-tell_unit.ensures.no_memory m))
+
+pub returns-in_err-close_if-clause-pauses : goal.returns-in_err-close_if-clause-pauses
+returns-in_err-close_if-clause-pauses g c =
+    let p = err_from_is_err_and c.from_residual-in_err-close_if.result c.from_residual-in_err-close_if.ensures.1 in
+    rw (p.1, p.2) (λ frames before k m. absurd (c.in_err-close_if.ensures.no_memory m))
+
+pub returns-clause-pauses : goal.returns-clause-pauses
+returns-clause-pauses g c =
+    let header = rw (c.from-from.ensures.value, c.body-body.ensures.value) at c.in_ok-check_header.ensures in
+    let says = rw (c.from-from.ensures.value, c.body-body.ensures.value) at c.in_ok-tell_unit.ensures.plays in
+    let closes = rw (c.ends_picture-ends.ensures, c.of.ensures, c.body-body.ensures.value) at c.in_ok-close_if.ensures.closes in
+    let joins = rw c.body-body.ensures.value at c.join.ensures.pauses in
+    λ frames before k m.
+    let slices = rw (c.ends_picture-ends.ensures, c.of.ensures, c.body-body.ensures.value) at (c.in_ok-close_if.ensures.ended before k.slices) in
+    let e = closes c.args.extent.depth frames before k.slices k.decoder in
+    let j = joins e.made before (within {depth = c.args.extent.depth} {frames = frames} {made = e.made} {before = before} c.args.state.now c.close_if.new.slices
+    c.close_if.new.decoder k slices e.keeps) m in
+    unit-pauses c.args.extent _ _ frames before c.args.unit.now _ _ _ _ _ _ _ _ _ c.in_ok-check_emulation.ensures.value header says e j
