@@ -44,8 +44,8 @@ fn is_alike(one: &Skipped, other: &Skipped) -> bool
         && one.motion.vector.y == other.motion.vector.y
 }
 
-/// Whether a skipped macroblock is the one that stands still in this slice, so that the next one of its row, if it is skipped, is alike (8.4.1.1). `qp` is QP_Y of the
-/// macroblock before that one.
+/// Whether a skipped macroblock is the one that stands still in this slice, so that the next one of its row, if it is skipped, is alike (8.4.1.1).
+/// `qp` is QP_Y of the macroblock before that one.
 #[inline]
 pub fn is_repeated(slice: &SliceContext, skipped: &Skipped, qp: u8) -> bool
     ensures same { result ≡ true → skipped.now.slice ≡ slice.now.number }

@@ -106,6 +106,8 @@ impl Work {
         ensures serves { (width size : ℕ) → Serves width size self.old → Serves width size self.new }
         ensures holds { (width size : ℕ) (picture : List CodedMacroblock) → HoldsMacroblocks width size picture self.old →
             HoldsMacroblocks width size picture self.new }
+        ensures samples { (width size : ℕ) (making : Making) (picture : List CodedMacroblock) → HoldsSamples width size making picture self.old →
+            HoldsSamples width size making picture self.new }
         ensures purpose { purpose_of self.new ≡ purpose_of self.old }
     {
         self.older = None;
@@ -206,8 +208,7 @@ impl Work {
     /// Ok: the elements that the sink was told are the one derivation of the slice data, with every rule met, and the work holds
     /// the picture with the slice's macroblocks, and with their samples where it held those of the macroblocks before. No: the first rule
     /// that they break, at its stream bit. Write: the sink failed. After an Err the reader may have moved, and nothing is said of what the
-    /// work holds; but no frame changes other than that of the picture that is begun. Takes no memory; where no sequence is active it has
-    /// none, and answers so.
+    /// work holds; but no frame changes other than that of the picture that is begun. Allocates nothing.
     pub fn slice<S: Elements>(
         &mut self,
         bits: &mut Bits,
@@ -215,6 +216,7 @@ impl Work {
         samples: &SliceSamples,
         sink: &mut S,
     ) -> Result<(), Stop>
+        requires active { 0 < places_of self.old }
         requires usable { Usable slice.now }
         requires qp { slice.now.qp ≤ 51 }
         requires room { HasRoom S.failures sink.old }
@@ -242,7 +244,7 @@ impl Work {
     {
         let base = self.base;
         match &mut self.active {
-            None => Err(Stop::Memory),
+            None => unreachable!(),
             Some(sequence) => sequence.slice(bits, slice, samples, base, sink),
         }
     }

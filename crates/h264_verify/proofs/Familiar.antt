@@ -14,25 +14,29 @@ use Rattle.h264_verify.proofs.Ways.{next-some}
 use Rattle.h264_verify.specs.declared.state.State.{State}
 use Rattle.h264_base.specs.declared.summary.Summary.{Summary}
 use Rattle.h264_verify.specs.Outcome.{Plays}
+use Rattle.h264_verify.specs.Content.{Content}
+use Rattle.h264_verify.proofs.Stepping.{outcome}
+use Rattle.h264_verify.proofs.Pausing.{unit-first, reaches}
 use Rattle.h264_verify.specs.Telling.{Told, took_with, Agree, AreOf, frame_span, Family}
 use Rattle.h264_verify.specs.Judging.{Judging, judging}
 use Rattle.h264_verify.specs.Session.{Standing, Goes, Fed, StopsBy, stretch, standing}
 use Rattle.h264_verify.specs.History.{History}
 use Rattle.h264_verify.specs.KeepingUnits.{Keeps, KeepsSome}
 use Rattle.h264_verify.specs.Keeping.{ended_in}
-use Rattle.h264_verify.specs.UnitOutcome.{unit_outcome, end_outcome}
-use Rattle.h264_verify.specs.Turning.{Turns, EndsAll}
+use Rattle.h264_verify.specs.UnitOutcome.{unit_outcome, unit_to_data, end_outcome}
+use Rattle.h264_verify.specs.Turning.{Turns, Pauses, EndsAll}
 use Rattle.h264_verify.specs.Feeding.{standing_after, GoesOn, StopsOn, FinishesOn}
 use Rattle.h264_verify.specs.Verdict.{SameTold}
 use Rattle.h264_verify.proofs.AgreeingUnits.{agree-none, agree-less, agree-then, of-more, of-both, calls-agree, decoded-told-agree, tells-agree, plays-agree}
-use Rattle.h264_verify.specs.Memory.{is_read, ChangesFormat}
+use Rattle.h264_verify.specs.Memory.{is_read, ChangesFormat, ReachesData}
 use Rattle.h264_units.specs.UnitHeader.{is_slice}
 use Rattle.h264_units.specs.UnitHeader.{header_of, nal_unit_type}
 use Rattle.h264_verify.specs.declared.state.Depth.{Depth}
 use Rattle.h264_verify.specs.Progress.{LastIsRead}
 use Rattle.h264_verify.proofs.Growing.{unit-grows}
-use Rattle.h264_verify.proofs.Finishing.{finish-unit, finish-bytes}
-use Rattle.h264_verify.proofs.Feeding.{memory-stops, goes-push, goes-unit, goes-none-taken, goes-both, goes-none, stops-after}
+use Rattle.h264_verify.proofs.Finishing.{finish-unit, finish-bytes, finish-unit-stops}
+use Rattle.h264_verify.proofs.Feeding.{GrowsBy, memory-stops, stops-unit, goes-push, goes-unit, goes-none-taken, goes-both, goes-none}
+use Rattle.h264_verify.proofs.Feeding.{stops-after}
 use Rattle.h264_verify.proofs.Sources.{goes-more}
 
 pub not-less : (n : ℕ) → n ≤ n
@@ -215,6 +219,72 @@ finishes-both {X} {extent} {took} {failures} {frames} {before} {unit} {s} {s'} {
       finishes = finish-unit (judging extent) (took_with last.made took) failures (λ (y : X). turn.after) old mid new before unit s s' s'' end x r f t first n
           quiet ends;
     }
+
+-- ---- a unit stops the session
+
+module _ {S : Type 0} (extent : Extent) (took : S → List Call → Type 0) (failures : S → ℕ) (frames : Family) (before : History) (unit : NalUnit) (s s' : S)
+  where
+    -- memory is wanting for it, after what is told of it up to its slice data
+    abbrev pub MayPause : Type 0
+    MayPause = ChangesFormat extent.depth before unit
+        × Pauses (frame_span took failures frames s s') (ended_in before) (unit_to_data extent before unit)
+
+    pause-plays : (p : Pauses (frame_span took failures frames s s') (ended_in before) (unit_to_data extent before unit)) →
+        Plays {X = Unit {0}} (span (took_with p.made took) failures s s') (λ (x : Unit {0}). []) (unit_outcome extent before unit) (Err Memory)
+    pause-plays p = let first = unit-first extent before unit in record {
+      plays = (record { front = (unit_to_data extent before unit).calls; rest = first.0; whole = first.1; tells = p.plays.plays.1 }, p.plays.plays.2);
+    }
+
+    pause-reaches : (p : Pauses (frame_span took failures frames s s') (ended_in before) (unit_to_data extent before unit)) →
+        ReachesData extent before unit (unit_to_data extent before unit).calls
+    pause-reaches p = let o = unit_to_data extent before unit in
+        reaches extent before unit o.calls p.found (ap (λ (a : Result Content Stop). outcome o.calls a) p.plays.plays.0)
+
+    module _ {old mid new : Splitting} {piece : List ℕ} {n : ℕ} (pushed : Pushed old mid piece n) (taken : Taken mid new unit) (live : IsFalse mid.ended) where
+      stopped : (made : Family) → Agree (ended_in before) frames made → (after : History) (stop : Stop)
+          (p : Plays {X = Unit {0}} (span (took_with made took) failures s s') (λ (x : Unit {0}). after) (unit_outcome extent before unit) (Err stop)) →
+          GrowsBy {X = Unit {0}} (judging extent) (took_with made took) failures (λ (x : Unit {0}). after) before unit s s' stop p.plays →
+          StopsOn extent (frame_span took failures frames s s') (standing_after old before) piece stop
+      stopped made same after stop p grows = record {
+        made = made;
+        same = same;
+        stops = stops-after (judging extent) (took_with made took) failures (standing_after old before) (standing_after mid before) piece (drop n piece) s s s'
+            stop (goes-push (judging extent) (took_with made took) old mid before piece n s pushed) refl
+            (stops-unit (judging extent) (took_with made took) failures (λ (x : Unit {0}). after) mid new before unit (drop n piece) s s' stop taken live p
+            grows);
+      }
+
+      pub unit-stop : (state : State) (stop : Stop) → Turns {X = Unit {0}} extent (frame_span took failures frames s s') before unit state (Err stop) →
+          (stop ≡ Memory → MayPause) → StopsOn extent (frame_span took failures frames s s') (standing_after old before) piece stop
+      unfolding pause-plays unit_to_data
+      unit-stop state (No bit rule) t g = stopped t.made t.same t.after (No bit rule) t.plays tt
+      unit-stop state (Outside bit feature) t g = stopped t.made t.same t.after (Outside bit feature) t.plays tt
+      unit-stop state Memory t g = let h = g refl in stopped h.1.made h.1.same [] Memory (pause-plays h.1) (h.0, pause-reaches h.1)
+      unit-stop state Read t g = stopped t.made t.same t.after Read t.plays tt
+      unit-stop state Write t g = stopped t.made t.same t.after Write t.plays tt
+
+    -- the last one does
+    module _ {old mid new : Splitting} (finished : Finished old mid) (taken : Taken mid new unit) where
+      ended : (made : Family) → Agree (ended_in before) frames made → (after : History) (stop : Stop)
+          (p : Plays {X = Unit {0}} (span (took_with made took) failures s s') (λ (x : Unit {0}). after) (unit_outcome extent before unit) (Err stop)) →
+          GrowsBy {X = Unit {0}} (judging extent) (took_with made took) failures (λ (x : Unit {0}). after) before unit s s' stop p.plays →
+          FinishesOn extent (frame_span took failures frames s s') (standing_after old before) (Err stop)
+      ended made same after stop p grows = record {
+        made = made;
+        same = same;
+        finishes =
+            finish-unit-stops (judging extent) (took_with made took) failures (λ (x : Unit {0}). after) old mid new before unit s s' stop finished taken p
+            grows;
+      }
+
+      pub last-stop : (state : State) (stop : Stop) → Turns {X = Unit {0}} extent (frame_span took failures frames s s') before unit state (Err stop) →
+          (stop ≡ Memory → MayPause) → FinishesOn extent (frame_span took failures frames s s') (standing_after old before) (Err stop)
+      unfolding pause-plays unit_to_data
+      last-stop state (No bit rule) t g = ended t.made t.same t.after (No bit rule) t.plays tt
+      last-stop state (Outside bit feature) t g = ended t.made t.same t.after (Outside bit feature) t.plays tt
+      last-stop state Memory t g = let h = g refl in ended h.1.made h.1.same [] Memory (pause-plays h.1) (h.0, pause-reaches h.1)
+      last-stop state Read t g = ended t.made t.same t.after Read t.plays tt
+      last-stop state Write t g = ended t.made t.same t.after Write t.plays tt
 
 -- ---- want of memory
 

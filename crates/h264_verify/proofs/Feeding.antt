@@ -162,13 +162,22 @@ unit-first j old new state unit more o t live c =
     let f = taken-judged j old new state unit more o t live c in
     record { next = λ s. units_outcome j s f.units f.tail (past unit + length (new.rest ++ more)); is = f.is }
 
+-- where memory was wanting for a unit, it may be after what was told of it
+abbrev pub GrowsBy : {State Summary S X : Type 0} (j : Judging State Summary) (took : S → List Told → Type 0) (failures : S → ℕ) (view : X → State)
+    (state : State) (unit : NalUnit) (s s' : S) (stop : Stop) → PlaysBy {X = X} (span took failures s s') view (j.unit state unit) (Err stop) → Type 0
+GrowsBy j took failures view state unit s s' (No bit rule) q = Unit {0}
+GrowsBy j took failures view state unit s s' (Outside bit feature) q = Unit {0}
+GrowsBy j took failures view state unit s s' Memory q = j.grows state unit q.0.front
+GrowsBy j took failures view state unit s s' Read q = Unit {0}
+GrowsBy j took failures view state unit s s' Write q = Unit {0}
+
 -- a unit stopped the session
 pub stops-unit : {State Summary : Type 0} (j : Judging State Summary) {S X : Type 0} (took : S → List Told → Type 0) (failures : S → ℕ) (view : X → State)
     (old new : Splitting) (state : State) (unit : NalUnit) (left : List ℕ) (s s' : S) (stop : Stop) → Taken old new unit → IsFalse old.ended →
-    (stop ≡ Memory → j.grows state unit) → Plays {X = X} (span took failures s s') view (j.unit state unit) (Err stop) →
+    (p : Plays {X = X} (span took failures s s') view (j.unit state unit) (Err stop)) → GrowsBy {X = X} j took failures view state unit s s' stop p.plays →
     Stops j (span took failures s s') (record { split = old; state = state }) left stop
 unfolding ◌>>=◌
-stops-unit {State} {Summary} j {S} {X} took failures view old new state unit left s s' stop t live grows p = by stop grows p.plays
+stops-unit {State} {Summary} j {S} {X} took failures view old new state unit left s s' stop t live p grows = by stop p.plays grows
   where
     ends : (e : Stop) → (j.unit state unit).answer ≡ Err e → Tells took s s' (j.unit state unit).calls →
         Ends j (span took failures s s') (record { split = old; state = state }) left e
@@ -193,19 +202,20 @@ stops-unit {State} {Summary} j {S} {X} took failures view old new state unit lef
     first more units tail sp = let f = splits-first old.at (old.rest ++ (left ++ more)) unit (new.rest ++ (left ++ more)) units tail
         (t.decided live (left ++ more)) sp in (f.0, f.1)
 
-    by : (stop : Stop) → (stop ≡ Memory → j.grows state unit) → PlaysBy {X = X} (span took failures s s') view (j.unit state unit) (Err stop) →
+    by : (stop : Stop) → (q : PlaysBy {X = X} (span took failures s s') view (j.unit state unit) (Err stop)) →
+        GrowsBy {X = X} j took failures view state unit s s' stop q →
         Stops j (span took failures s s') (record { split = old; state = state }) left stop
-    by (No bit rule) g p = record { stops = (ends (No bit rule) p.0 p.1, p.2) }
-    by (Outside bit feature) g p = record { stops = (ends (Outside bit feature) p.0 p.1, p.2) }
-    by Memory g p = record {
+    by (No bit rule) p g = record { stops = (ends (No bit rule) p.0 p.1, p.2) }
+    by (Outside bit feature) p g = record { stops = (ends (Outside bit feature) p.0 p.1, p.2) }
+    by Memory p g = record {
       stops = (
         front p.0,
         p.1,
-        λ more. lacks-unit j took old.at state (old.rest ++ (left ++ more)) s s' unit p.0.front (g refl) p.0.tells (first more),
+        λ more. lacks-unit j took old.at state (old.rest ++ (left ++ more)) s s' unit p.0.front g p.0.tells (first more),
       );
     }
-    by Read g p = absurd p
-    by Write g p = record { stops = (front p.0, p.1) }
+    by Read p g = absurd p
+    by Write p g = record { stops = (front p.0, p.1) }
 
 pub with-both : {A : Type 0} (xs ys : List Told) (o : Outcome A) → with_calls (xs ++ ys) o ≡ with_calls xs (with_calls ys o)
 with-both {A} xs ys o = ap (λ (l : List Told). let q : Outcome A = record { calls = l; answer = o.answer } in q) (append_assoc xs ys o.calls)

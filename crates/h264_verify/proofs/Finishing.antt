@@ -14,7 +14,7 @@ use Rattle.h264_verify.specs.Judging.{Judging, tail_outcome, units_outcome, Come
 use Rattle.h264_verify.specs.Session.{Standing, ToCome, Lacking, Finishes}
 use Rattle.h264_verify.proofs.Ways.{splits-first}
 use Rattle.h264_verify.proofs.Lacking.{same-stop, lacks-bytes, lacks-unit}
-use Rattle.h264_verify.proofs.Feeding.{tail-answer, tail-stops, first-judged}
+use Rattle.h264_verify.proofs.Feeding.{GrowsBy, tail-answer, tail-stops, first-judged}
 use Rattle.h264_verify.proofs.Playing.{err-as, memory-plays, plays-stops, plays-on, plays-not-read, plays-write, answers-plays}
 
 nothing-more : {State Summary : Type 0} (j : Judging State Summary) (p : Standing State) (o : Outcome Summary) → ToCome j p [] o →
@@ -121,16 +121,16 @@ last-judged j old mid new state unit o f t c =
 
 pub finish-unit-stops : {State Summary : Type 0} (j : Judging State Summary) {S X : Type 0} (took : S → List Told → Type 0) (failures : S → ℕ)
     (view : X → State) (old mid new : Splitting) (state : State) (unit : NalUnit) (s s' : S) (stop : Stop) → Finished old mid → Taken mid new unit →
-    (stop ≡ Memory → j.grows state unit) → Plays {X = X} (span took failures s s') view (j.unit state unit) (Err stop) →
+    (p : Plays {X = X} (span took failures s s') view (j.unit state unit) (Err stop)) → GrowsBy {X = X} j took failures view state unit s s' stop p.plays →
     Finishes j (span took failures s s') (record { split = old; state = state }) (Err stop)
-finish-unit-stops {State} {Summary} j {S} {X} took failures view old mid new state unit s s' stop f t grows p = record {
+finish-unit-stops {State} {Summary} j {S} {X} took failures view old mid new state unit s s' stop f t p grows = record {
   finishes = λ o c.
       subst (λ r. Plays {X = Summary} (span took failures s s') (λ (x : Summary). x) r (Err stop)) (sym (last-judged j old mid new state unit o f t c))
       (plays-stops took failures view (λ (x : Summary). x) (j.unit state unit) _ s s' stop p);
   no_read = λ e. plays-not-read {X = X} took failures view _ s s' (Err stop) p (err-as {A = Summary} {B = X} stop Read e);
   write = λ e. plays-write {X = X} took failures view _ s s' (Err stop) p (err-as {A = Summary} {B = X} stop Write e);
   write_told = told-as {X = X} {Y = Summary} stop (told-by {X = X} took failures view _ s s' (Err stop) p.plays);
-  lacks = λ e. by stop grows p.plays (same-stop {X = Summary} stop Memory e);
+  lacks = λ e. by stop p.plays grows (same-stop {X = Summary} stop Memory e);
 }
   where
     first : (units : List NalUnit) (tail : Tail) → Splits old.at (old.rest ++ []) units tail → (later : List NalUnit) × (units ≡ unit ∷ later)
@@ -139,13 +139,14 @@ finish-unit-stops {State} {Summary} j {S} {X} took failures view old mid new sta
         let r = splits-first old.at old.rest unit new.rest units tail n (subst (λ (l : List ℕ). Splits old.at l units tail) (append-nil old.rest) sp) in
         (r.0, r.1)
 
-    by : (e : Stop) → (e ≡ Memory → j.grows state unit) → PlaysBy {X = X} (span took failures s s') view (j.unit state unit) (Err e) → e ≡ Memory →
+    by : (e : Stop) → (q : PlaysBy {X = X} (span took failures s s') view (j.unit state unit) (Err e)) →
+        GrowsBy {X = X} j took failures view state unit s s' e q → e ≡ Memory →
         Lacking j (span took failures s s') old.at state (old.rest ++ [])
-    by (No bit rule) g q e = cc
-    by (Outside bit feature) g q e = cc
-    by Memory g q e = lacks-unit j took old.at state (old.rest ++ []) s s' unit q.0.front (g refl) q.0.tells first
-    by Read g q e = cc
-    by Write g q e = cc
+    by (No bit rule) q g e = cc
+    by (Outside bit feature) q g e = cc
+    by Memory q g e = lacks-unit j took old.at state (old.rest ++ []) s s' unit q.0.front g q.0.tells first
+    by Read q g e = cc
+    by Write q g e = cc
 
 pub finish-unit : {State Summary : Type 0} (j : Judging State Summary) {S X : Type 0} (took : S → List Told → Type 0) (failures : S → ℕ) (view : X → State)
     (old mid new : Splitting) (state : State) (unit : NalUnit) (s s' s'' : S) (end : ℕ) (x : X) (r : Result Summary Stop) → Finished old mid →

@@ -1,5 +1,10 @@
 -- What is kept of the frames, by the mode.
-use Rattle.std.proofs.Common.{◌≡◌, true, false, Bool, ◌∷◌, [], List, Option, length}
+use Rattle.std.proofs.Common.{◌≡◌, ◌<◌, ℕ, true, false, Bool, ◌∷◌, [], List, Option, Some, None, length, arith}
+use Rattle.std.specs.Option.{option_map_or}
+use Rattle.h264_near.specs.Coded.{CodedMacroblock}
+use Rattle.h264_picture.specs.declared.sequence.Sequence.{Sequence}
+use Rattle.h264_picture.specs.Holds.{IsActive, HoldsMacroblocks}
+use Rattle.h264_picture.specs.Places.{places}
 use Rattle.h264_verify.specs.declared.state.Depth.{Depth}
 use Rattle.h264_verify.specs.declared.decoder.Decoder.{Decoder}
 use Rattle.h264_verify.specs.Pictures.{CodedSlice, CodedPicture, open_of, begins_after}
@@ -41,3 +46,11 @@ holds-newest on pictures h true work b k = tt
 holds-newest on [] h false work b k = cc
 holds-newest true (p ∷ ps) h false work b k = k
 holds-newest false (p ∷ ps) h false work b k = cc
+
+-- a sequence that is active has places
+some-places : (P : Sequence → Type 0) (o : Option Sequence) → IsActive P o → 0 < option_map_or (λ (s : Sequence). s.places) o 0
+some-places P None h = absurd h
+some-places P (Some s) h = let r = s.room in omega arith
+
+pub has-places : (width size : ℕ) (picture : List CodedMacroblock) (work : Work) → HoldsMacroblocks width size picture work → 0 < places work
+has-places width size picture work h = some-places _ work.active h

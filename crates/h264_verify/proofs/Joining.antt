@@ -30,10 +30,11 @@ use Rattle.h264_header.specs.declared.header.Header.{Header}
 use Rattle.h264_base.specs.Grammar.{Grammar}
 use Rattle.h264_rbsp.specs.Rbsp.{body_of}
 use Rattle.h264_verify.specs.declared.state.Extent.{Extent}
-use Rattle.h264_verify.specs.Order.{content, content_steps, data_course}
+use Rattle.h264_verify.specs.Order.{content, content_steps, slice_steps, data_course}
 use Rattle.h264_verify.specs.Steps.{Course, Takes, Ends}
 use Rattle.h264_verify.specs.StepOutcome.{steps_outcome, structure_from, course_outcome}
-use Rattle.h264_verify.specs.Turning.{Joins, is_ending, ended_before}
+use Rattle.h264_verify.specs.Turning.{Joins, Pauses, is_ending, ended_before}
+use Rattle.h264_verify.specs.UnitOutcome.{content_to_data}
 use Rattle.h264_verify.proofs.Courses.{takes-on, takes-stops, reads-on, reads-stops, ends-on}
 use Rattle.h264_verify.proofs.Playing.{gives-plays}
 use Rattle.h264_verify.proofs.Entering.{IsNoSlice, EndsBefore, passed-keeps}
@@ -111,6 +112,26 @@ module _ {S : Type 0} (extent : Extent) (frames : Family) (took : S → List Cal
           (course_outcome (body_of unit) q >>= join) (Ok tt)) (sym none)
           (ends-on (took_with made took) failures (body_of unit) join (λ (u : Unit {0}). one_more (view x).0) (view x).0 s2 s2 (Ok tt)
           (gives-plays (took_with made took) failures (λ (u : Unit {0}). one_more (view x).0) tt s2))) k
+
+-- memory is wanting for a slice whose rules are met
+pub slice-pauses : {S : Type 0} (extent : Extent) (frames : Family) (took : S → List Call → Type 0) (failures : S → ℕ) (before : History) (unit : NalUnit)
+    (made : Family) → Agree (ended_before before unit) frames made → (h : Header) (bit : ℕ) (s s1 s2 : S) (x y : Unit {0}) →
+    Plays (span (took_with made took) failures s s1) (λ (u : Unit {0}). (contents.OfSlice h [], bit))
+    (structure_from (content extent (nal_unit_type (header_of unit)) before unit) (body_of unit) 0) (Ok x) →
+    Plays (span (took_with made took) failures s1 s2) (λ (u : Unit {0}). u) (steps_outcome (slice_steps extent.depth before unit h)) (Ok y) →
+    Pauses (frame_span took failures frames s s2) (ended_before before unit) (content_to_data extent before unit)
+slice-pauses extent frames took failures before unit made same h bit s s1 s2 x y read met =
+    let view : Unit {0} → Content = λ u. contents.OfSlice h [] in
+    let next : Content → Outcome Content = λ found. gives found in
+    let t = took_with made took in
+    record {
+      made = made;
+      same = same;
+      found = contents.OfSlice h [];
+      plays = reads-on t failures (body_of unit) next _ 0 _ (λ (u : Unit {0}). (contents.OfSlice h [], bit)) view s s1 s2 x (Ok tt) read
+          (takes-on t failures (body_of unit) next (content_steps extent.depth before unit (contents.OfSlice h [])) (Ends (contents.OfSlice h [])) view s1 s2 s2
+          y (Ok tt) met (ends-on t failures (body_of unit) next view (contents.OfSlice h []) s2 s2 (Ok tt) (gives-plays t failures view tt s2)));
+    }
 
 -- nothing follows a slice's header where no frames are made
 pub headers-end : (depth : Depth) (before : History) (unit : NalUnit) (h : Header) (ms : List CodedMacroblock) (bit : ℕ) → MakesNone depth →

@@ -8,8 +8,8 @@ use Rattle.h264_verify.specs.Telling.{Told, Tells}
 use Rattle.h264_verify.proofs.Tellings.{tells-none, tells-both}
 use Rattle.h264_verify.specs.Judging.{Judging}
 use Rattle.h264_verify.specs.Session.{Standing, Goes, StopsBy, ForBytes, ForUnit, Lacking, stretch}
-use Rattle.h264_verify.specs.Memory.{LeavesAfter, IsMore}
-use Rattle.h264_verify.proofs.Ways.{splits-shown, leads-both, leaves-shown, leaves-both}
+use Rattle.h264_verify.specs.Memory.{BeginWith, IsMore}
+use Rattle.h264_verify.proofs.Ways.{splits-shown, leads-both, begin-shown, begin-both}
 
 pub same-stop : {X : Type 0} (a b : Stop) → (let r : Result X Stop = Err a in r ≡ Err b) → a ≡ b
 same-stop a b e = cc
@@ -38,7 +38,7 @@ lacks-bytes j took at state bytes s more = record {
 
 -- for the first unit
 pub lacks-unit : {State Summary : Type 0} (j : Judging State Summary) {S : Type 0} (took : S → List Told → Type 0) {failures : S → ℕ} (at : ℕ) (state : State)
-    (bytes : List ℕ) (s s' : S) (unit : NalUnit) (calls : List Told) → j.grows state unit → Tells took s s' calls →
+    (bytes : List ℕ) (s s' : S) (unit : NalUnit) (calls : List Told) → j.grows state unit calls → Tells took s s' calls →
     ((units : List NalUnit) (tail : Tail) → Splits at bytes units tail → (later : List NalUnit) × (units ≡ unit ∷ later)) →
     Lacking j (span took failures s s') at state bytes
 lacks-unit j took at state bytes s s' unit calls g t first = record {
@@ -73,10 +73,10 @@ lacks-after j took old mid piece left more s0 s1 s2 g b = record {
       let w = splits-shown old.split.at (old.split.rest ++ piece) g.way.units mid.split.at (mid.split.rest ++ left) more units tail g.way.shown
       (subst (λ (l : List ℕ). Splits old.split.at l units tail) (sym (append_assoc old.split.rest piece more)) sp) in
       let l = b.lacks w.0 tail (subst (λ (x : List ℕ). Splits mid.split.at x w.0 tail) (append_assoc mid.split.rest left more) w.2) in
-      let shown = subst (λ (x : List ℕ). LeavesAfter old.split.at x g.way.units mid.split.at (mid.split.rest ++ (left ++ more)))
-      (append_assoc old.split.rest piece more) (subst (λ (x : List ℕ). LeavesAfter old.split.at ((old.split.rest ++ piece) ++ more) g.way.units
+      let shown = subst (λ (x : List ℕ). BeginWith old.split.at x g.way.units mid.split.at (mid.split.rest ++ (left ++ more)))
+      (append_assoc old.split.rest piece more) (subst (λ (x : List ℕ). BeginWith old.split.at ((old.split.rest ++ piece) ++ more) g.way.units
       mid.split.at x) (append_assoc mid.split.rest left more)
-      (leaves-shown old.split.at (old.split.rest ++ piece) g.way.units mid.split.at (mid.split.rest ++ left) more g.way.shown)) in
+      (begin-shown old.split.at (old.split.rest ++ piece) g.way.units mid.split.at (mid.split.rest ++ left) more g.way.shown)) in
       record {
         judged = g.way.units ++ l.judged;
         later = l.later;
@@ -87,7 +87,7 @@ lacks-after j took old mid piece left more s0 s1 s2 g b = record {
         led = leads-both j old.state mid.state l.mid g.way.units l.judged g.calls l.first g.way.led l.led;
         place = l.place;
         left = l.left;
-        stands = leaves-both old.split.at (old.split.rest ++ (piece ++ more)) g.way.units l.judged mid.split.at l.place
+        stands = begin-both old.split.at (old.split.rest ++ (piece ++ more)) g.way.units l.judged mid.split.at l.place
             (mid.split.rest ++ (left ++ more)) l.left shown l.stands;
         lacks = l.lacks;
         calls_are = ap (λ (x : List Told). g.calls ++ x) l.calls_are ∙ sym (append_assoc g.calls l.first l.last);

@@ -43,6 +43,7 @@ pub mod Holding
 pub mod Made
 pub mod Ways
 pub mod Lacking
+pub mod Pausing
 pub mod Feeding
 pub mod Finishing
 pub mod Familiar

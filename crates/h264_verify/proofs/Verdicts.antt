@@ -47,8 +47,8 @@ use Rattle.h264_verify.proofs.Sources.{judges-memory, piece-more, pieces-stop, p
 use Rattle.h264_verify.proofs.Stepping.{outcome, met-is, stop-is, either, bound, bind-stop, runs-outcome, SomeRun, some-run}
 use Rattle.h264_verify.proofs.Stepping as stepping
 use Rattle.h264_verify.proofs.Bounds.{are-decodable}
-use Rattle.h264_verify.proofs.Ways.{splits-shown, way-none, shows-as, shows-both, shows-more, leaves-shown, leaves-both}
-use Rattle.h264_verify.specs.Memory.{LeavesAfter}
+use Rattle.h264_verify.proofs.Ways.{splits-shown, way-none, shows-as, shows-both, shows-more, begin-shown, begin-both}
+use Rattle.h264_verify.specs.Memory.{BeginWith}
 
 -- A legal unit comes to its calls, and joins those before it.
 pub legal-unit : (extent : Extent) (before : History) (r : ReadUnit) (calls : List Told) → IsLegal extent before r calls →
@@ -307,11 +307,11 @@ in-order (r ∷ h) us = in-order h (r.unit ∷ us) ∙ sym (append_assoc (in_ord
 wants-after : (extent : Extent) (before : History) (units : List NalUnit) (calls : List Told) (place : ℕ) (left : List ℕ) →
     LacksNext (judging extent) before units calls place left → IsWanting extent before units calls place left
 wants-after extent before units calls place left (lacking.ForBytes e more) = BeforeNext e more
-wants-after extent before units calls place left (lacking.ForUnit unit later e g) = ForPicture unit later e g
+wants-after extent before units calls place left (lacking.ForUnit unit later e g) = ForPicture unit later e g.0 g.1
 
 wants-at : (extent : Extent) (bytes : List ℕ) (before : History) (told : List Told) (all units : List NalUnit) (tail : Tail) (calls : List Told) (at : ℕ)
     (rest : List ℕ) → AreLegal extent before told → Splits 0 bytes all tail → all ≡ in_order before [] ++ units →
-    LeavesAfter 0 bytes (in_order before []) at rest → Lacks (judging extent) at before rest units calls → WantsAt extent bytes (told ++ calls)
+    BeginWith 0 bytes (in_order before []) at rest → Lacks (judging extent) at before rest units calls → WantsAt extent bytes (told ++ calls)
 wants-at extent bytes before told all units tail calls at rest l s e b k =
     let legal = leads-legal extent k.mid before k.judged k.first told k.led l in
     record {
@@ -326,8 +326,8 @@ wants-at extent bytes before told all units tail calls at rest l s e b k =
       legal = legal.0;
       place = k.place;
       left = k.left;
-      stands = subst (λ us. LeavesAfter 0 bytes us k.place k.left) (sym (in-order before k.judged) ∙ sym legal.1)
-          (leaves-both 0 bytes (in_order before []) k.judged at k.place rest k.left b k.stands);
+      stands = subst (λ us. BeginWith 0 bytes us k.place k.left) (sym (in-order before k.judged) ∙ sym legal.1)
+          (begin-both 0 bytes (in_order before []) k.judged at k.place rest k.left b k.stands);
       wants = wants-after extent k.mid k.later k.last k.place k.left k.lacks;
       calls_are = ap (λ c. told ++ c) k.calls_are ∙ sym (append_assoc told k.first k.last);
     }
@@ -335,7 +335,7 @@ wants-at extent bytes before told all units tail calls at rest l s e b k =
 wanting : {S : Type 0} (extent : Extent) (took : S → List Told → Type 0) (failures : S → ℕ) (bytes : List ℕ) (before : History) (told : List Told) (at : ℕ)
     (rest : List ℕ) (s s' : S) → AreLegal extent before told →
     ((all : List NalUnit) (tail : Tail) → Splits 0 bytes all tail → (units : List NalUnit) × (all ≡ in_order before [] ++ units) ×
-    Splits at rest units tail) → LeavesAfter 0 bytes (in_order before []) at rest → Lacking (judging extent) (span took failures s s') at before rest →
+    Splits at rest units tail) → BeginWith 0 bytes (in_order before []) at rest → Lacking (judging extent) (span took failures s s') at before rest →
     Wanting extent (span took failures s s') bytes told
 wanting extent took failures bytes before told at rest s s' l cut b k =
     let all = some-split 0 bytes (omega arith) in
@@ -507,7 +507,7 @@ fed-stop terms took failures old bytes piece frames told s s' stop w p later =
           p.stops.stops f.1)
           (λ e. wanting (extent_by terms) (took_with p.made took) failures (bytes ++ (piece ++ later)) w.before told old.split.at
           (old.split.rest ++ (piece ++ later)) s s' w.legal cut
-          (leaves-shown 0 bytes (in_order w.before []) old.split.at old.split.rest (piece ++ later) w.shown)
+          (begin-shown 0 bytes (in_order w.before []) old.split.at old.split.rest (piece ++ later) w.shown)
           (stops-lacks (judging (extent_by terms)) (took_with p.made took) failures (standing_after old.split w.before) piece later s s' stop p.stops.stops
           (same-stop stop Memory e)));
     })
@@ -531,7 +531,7 @@ fed-end terms took failures session bytes frames told s s' r w q =
       judged = judged-by (extent_by terms) (took_with p.made took) failures (bytes ++ []) told f.0 s s' f.2 r
           (plays-rans (took_with p.made took) failures f.0 s s' r (p.finishes.finishes f.0 f.1))
           (λ e. wanting (extent_by terms) (took_with p.made took) failures (bytes ++ []) w.before told session.split.at (session.split.rest ++ []) s s'
-          w.legal cut (leaves-shown 0 bytes (in_order w.before []) session.split.at session.split.rest [] w.shown)
+          w.legal cut (begin-shown 0 bytes (in_order w.before []) session.split.at session.split.rest [] w.shown)
           (p.finishes.lacks e));
     })
 

@@ -8,7 +8,7 @@ use Rattle.h264_units.proofs.Streams.{same-first, first-not-tail, splits-after, 
 use Rattle.h264_units.specs.Splitting.{Splitting, Pushed, Taken}
 use Rattle.h264_verify.specs.Outcome.{Outcome}
 use Rattle.h264_verify.specs.Judging.{Judging}
-use Rattle.h264_verify.specs.Memory.{LeavesAfter}
+use Rattle.h264_verify.specs.Memory.{BeginWith}
 use Rattle.h264_verify.specs.Session.{Standing, ShowsUnits, Leads, Way, stretch}
 
 -- the same bytes, and the same rest
@@ -31,16 +31,16 @@ shows-more at bytes (u ∷ us) end rest more a =
     moved at u bytes left more later n = subst (λ l. Next at l u ((left ++ more) ++ later)) (sym (append_assoc bytes more later))
         (subst (λ l. Next at (bytes ++ (more ++ later)) u l) (sym (append_assoc left more later)) n)
 
--- they leave that rest, however the bytes go on
-pub leaves-shown : (at : ℕ) (bytes : List ℕ) (us : List NalUnit) (end : ℕ) (rest more : List ℕ) → ShowsUnits at bytes us end rest →
-    LeavesAfter at (bytes ++ more) us end (rest ++ more)
-leaves-shown at bytes [] end rest more a = (a.0, ap (λ l. l ++ more) a.1)
-leaves-shown at bytes (u ∷ us) end rest more a = (a.0 ++ more, a.1 more, leaves-shown (past u) a.0 us end rest more a.2)
+-- the bytes begin with those that were shown, however they go on
+pub begin-shown : (at : ℕ) (bytes : List ℕ) (us : List NalUnit) (end : ℕ) (rest more : List ℕ) → ShowsUnits at bytes us end rest →
+    BeginWith at (bytes ++ more) us end (rest ++ more)
+begin-shown at bytes [] end rest more a = (a.0, ap (λ l. l ++ more) a.1)
+begin-shown at bytes (u ∷ us) end rest more a = (a.0 ++ more, a.1 more, begin-shown (past u) a.0 us end rest more a.2)
 
-pub leaves-both : (at : ℕ) (bytes : List ℕ) (us vs : List NalUnit) (mid end : ℕ) (left rest : List ℕ) → LeavesAfter at bytes us mid left →
-    LeavesAfter mid left vs end rest → LeavesAfter at bytes (us ++ vs) end rest
-leaves-both at bytes [] vs mid end left rest a b = subst (λ l. LeavesAfter at l vs end rest) a.1 (subst (λ n. LeavesAfter n left vs end rest) a.0 b)
-leaves-both at bytes (u ∷ us) vs mid end left rest a b = (a.0, a.1, leaves-both (past u) a.0 us vs mid end left rest a.2 b)
+pub begin-both : (at : ℕ) (bytes : List ℕ) (us vs : List NalUnit) (mid end : ℕ) (left rest : List ℕ) → BeginWith at bytes us mid left →
+    BeginWith mid left vs end rest → BeginWith at bytes (us ++ vs) end rest
+begin-both at bytes [] vs mid end left rest a b = subst (λ l. BeginWith at l vs end rest) a.1 (subst (λ n. BeginWith n left vs end rest) a.0 b)
+begin-both at bytes (u ∷ us) vs mid end left rest a b = (a.0, a.1, begin-both (past u) a.0 us vs mid end left rest a.2 b)
 
 -- the bytes of a unit are some
 pub next-some : (at : ℕ) (bytes : List ℕ) (unit : NalUnit) (rest : List ℕ) → Next at bytes unit rest → 0 < length bytes

@@ -6,15 +6,16 @@ use Rattle.h264_units.specs.Stream.{NalUnit, Tail, Splits, tail_stop}
 use Rattle.h264_verify.specs.Outcome.{Outcome, ◌>>=◌, answers}
 use Rattle.h264_verify.specs.History.{History}
 use Rattle.h264_base.specs.declared.summary.Summary.{Summary}
-use Rattle.h264_verify.specs.Memory.{ChangesFormat}
+use Rattle.h264_verify.specs.Memory.{ChangesFormat, ReachesData}
+use Rattle.h264_verify.specs.Telling.{Told}
 use Rattle.h264_verify.specs.UnitOutcome.{unit_outcome, end_outcome}
 
 -- What comes of a unit, in the state that the units before it left, and of the end of the input at this bit; and which units want
--- memory beside that for their bytes.
+-- memory beside that for their bytes, after which calls.
 pub record Judging (State Summary : Type 0) : Type 1 where
   pub unit : State → NalUnit → Outcome State
   pub end : State → ℕ → Outcome Summary
-  pub grows : State → NalUnit → Type 0
+  pub grows : State → NalUnit → List Told → Type 0
 
 -- an outcome, unless there is a stop
 abbrev pub unless : {A : Type 0} → Option Stop → Outcome A → Outcome A
@@ -39,4 +40,8 @@ pub record Comes {State Summary : Type 0} (j : Judging State Summary) (at : ℕ)
 
 -- the units of a stream judged by these terms, after one another
 abbrev pub judging : Extent → Judging History Summary
-judging extent = record { unit = unit_outcome extent; end = end_outcome extent.depth; grows = ChangesFormat extent.depth }
+judging extent = record {
+  unit = unit_outcome extent;
+  end = end_outcome extent.depth;
+  grows = λ before unit calls. ChangesFormat extent.depth before unit × ReachesData extent before unit calls;
+}

@@ -1,6 +1,6 @@
--- Where judging a unit may want memory: for the bytes of one that is read, and for a picture of another format than the one before it. To be read beside the
--- standard.
-use Rattle.std.specs.Prelude.{◌≡◌, ◌≢◌, ℕ, ◌<◌, length, ◌==◌, ◌&&◌, ◌||◌, Bool, true, false, Option, Some, None, List, [], ◌∷◌, if◌then◌else◌}
+-- Where judging may want memory: for bytes that are left, those of a unit that is read among them, and for a picture of another format than the one
+-- before it. To be read beside the standard.
+use Rattle.std.specs.Prelude.{◌≡◌, ◌≢◌, ℕ, ◌<◌, length, ◌==◌, ◌&&◌, ◌||◌, Bool, true, false, Option, Some, None, List, [], ◌∷◌, Ok, if◌then◌else◌}
 use Rattle.h264_verify.specs.declared.state.Depth.{Depth}
 use Rattle.h264_verify.specs.declared.state.Depth.TheVariants as depths
 use Rattle.h264_base.specs.Body.{Body}
@@ -19,6 +19,12 @@ use Rattle.h264_picture.specs.Buffer.{buffer_size}
 use Rattle.h264_verify.specs.declared.decoder.Format.{Format}
 use Rattle.h264_units.specs.UnitHeader.{is_slice}
 use Rattle.h264_verify.specs.Units.{slice_unit}
+use Rattle.h264_rbsp.specs.Emulation.{IsFault}
+use Rattle.h264_verify.specs.declared.state.Extent.{Extent}
+use Rattle.h264_verify.specs.Content.{Content}
+use Rattle.h264_verify.specs.Order.{course_to_data}
+use Rattle.h264_verify.specs.Steps.{Runs}
+use Rattle.h264_verify.specs.Telling.{Told}
 
 -- in Units slices are passed over
 abbrev pub reads_slices : Depth → Bool
@@ -37,10 +43,10 @@ is_read depth unit = is_kind_read depth (nal_unit_type (header_of unit))
 abbrev pub bytes_of : Depth → NalUnit → Option Body
 bytes_of depth unit = if is_read depth unit then Some (body_of unit) else None
 
--- From this place on these bytes begin with these units, and after them these are left, from that place on.
-abbrev pub LeavesAfter : ℕ → List ℕ → List NalUnit → ℕ → List ℕ → Type 0
-LeavesAfter at bytes [] place left = (place ≡ at) × (left ≡ bytes)
-LeavesAfter at bytes (unit ∷ units) place left = (rest : List ℕ) × Next at bytes unit rest × LeavesAfter (past unit) rest units place left
+-- These are the first units of the bytes at this place, and what is left of the bytes after them.
+abbrev pub BeginWith : (at : ℕ) → (bytes : List ℕ) → List NalUnit → (after : ℕ) → (left : List ℕ) → Type 0
+BeginWith at bytes [] after left = (after ≡ at) × (left ≡ bytes)
+BeginWith at bytes (unit ∷ units) after left = (rest : List ℕ) × Next at bytes unit rest × BeginWith (past unit) rest units after left
 
 -- bytes are left to be judged, unless no unit was judged before them
 abbrev pub IsMore : ℕ → List ℕ → Type 0
@@ -71,3 +77,9 @@ pub record ChangesFormat (depth : Depth) (before : History) (unit : NalUnit) : T
   pub full : depth ≡ depths.Full
   pub slice : is_slice (nal_unit_type (header_of unit)) ≡ true
   pub begins : BeginsAnotherFormat before unit
+
+-- These calls are all that is told of this unit up to its slice data, and every rule before them is met.
+pub record ReachesData (extent : Extent) (before : History) (unit : NalUnit) (calls : List Told) : Type 0 where
+  pub sound : (place : ℕ) → IsFault unit.body place → ⊥
+  pub found : Content
+  pub runs : Runs (body_of unit) (course_to_data extent before unit) calls (Ok found)

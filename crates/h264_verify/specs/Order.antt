@@ -183,22 +183,34 @@ data_course depths.Full before unit (contents.OfSlice h macroblocks) bit =
     Reads (slice_data_at before unit h >>= (λ ms. Done (contents.OfSlice h ms))) bit (λ whole end. Ends whole)
 data_course depth before unit contents.Passed bit = Ends contents.Passed
 
--- After the unit's first byte: its elements, the rules on what they give, and the elements after these.
-abbrev pub content_course : Extent → History → NalUnit → Course
-content_course extent before unit =
+-- After the unit's first byte: its elements, the rules on what they give, and the rest.
+abbrev pub content_then : Extent → History → NalUnit → (Content → ℕ → Course) → Course
+content_then extent before unit rest =
     Reads (content extent (nal_unit_type (header_of unit)) before unit) 0 (λ found bit.
     Takes (content_steps extent.depth before unit found)
-    (data_course extent.depth before unit found bit))
+    (rest found bit))
+
+-- With slice data after a slice's header.
+abbrev pub content_course : Extent → History → NalUnit → Course
+content_course extent before unit = content_then extent before unit (data_course extent.depth before unit)
 
 -- The course of a unit whose bytes are sound. A fault in its bytes is judged before all else (7.4.1, `AtBytes` of Verdict). Then come the rules
 -- of its first byte; the sink is told of it; a picture ends before it; and last comes what is in it.
-abbrev pub unit_course : Extent → History → NalUnit → Course
-unit_course extent before unit =
+abbrev pub unit_then : Extent → History → NalUnit → (Content → ℕ → Course) → Course
+unit_then extent before unit rest =
     Takes (needs (header_demands (8 * unit.from) (header_of unit)))
     (Takes (step.Tells (Said (unit_call unit.from (header_of unit) (length unit.body))) ∷ [])
     (Takes (whole_at extent.depth (nal_unit_type (header_of unit)) before
     ++ (needs (closing_at (nal_unit_type (header_of unit)) before) ++ frames_at extent.depth (nal_unit_type (header_of unit)) before))
-    (content_course extent before unit)))
+    (content_then extent before unit rest)))
+
+-- To its end.
+abbrev pub unit_course : Extent → History → NalUnit → Course
+unit_course extent before unit = unit_then extent before unit (data_course extent.depth before unit)
+
+-- Up to slice data, where memory may be wanting for a picture.
+abbrev pub course_to_data : Extent → History → NalUnit → Course
+course_to_data extent before unit = unit_then extent before unit (λ found bit. Ends found)
 
 -- ---- the end of the input
 

@@ -8,7 +8,7 @@ use Rattle.h264_units.specs.Stream.{NalUnit, Next, past, Tail, Splits}
 use Rattle.h264_units.specs.Splitting.{Splitting}
 use Rattle.h264_verify.specs.Outcome.{Outcome, with_calls, Plays}
 use Rattle.h264_verify.specs.Judging.{Judging, Comes}
-use Rattle.h264_verify.specs.Memory.{LeavesAfter, IsMore}
+use Rattle.h264_verify.specs.Memory.{BeginWith, IsMore}
 
 -- where a session stands: what its splitter holds, and the state that the units taken left
 pub record Standing (State : Type 0) : Type 0 where
@@ -62,7 +62,7 @@ pub record Goes {State Summary S : Type 0} (j : Judging State Summary) (w : Sink
 pub data LacksNext {State Summary : Type 0} (j : Judging State Summary) (state : State) (units : List NalUnit) (calls : List Told) (place : ℕ)
     (left : List ℕ) : Type 0 where
   ForBytes : calls ≡ [] → IsMore place left → LacksNext j state units calls place left
-  ForUnit : (unit : NalUnit) (later : List NalUnit) → units ≡ unit ∷ later → j.grows state unit → LacksNext j state units calls place left
+  ForUnit : (unit : NalUnit) (later : List NalUnit) → units ≡ unit ∷ later → j.grows state unit calls → LacksNext j state units calls place left
 
 -- The first of the units of these bytes were judged, and then memory was wanting.
 pub record Lacks {State Summary : Type 0} (j : Judging State Summary) (at : ℕ) (state : State) (bytes : List ℕ) (units : List NalUnit)
@@ -76,7 +76,7 @@ pub record Lacks {State Summary : Type 0} (j : Judging State Summary) (at : ℕ)
   pub led : Leads j state judged first mid
   pub place : ℕ
   pub left : List ℕ
-  pub stands : LeavesAfter at bytes judged place left
+  pub stands : BeginWith at bytes judged place left
   pub lacks : LacksNext j mid later last place left
   pub calls_are : calls ≡ first ++ last
 

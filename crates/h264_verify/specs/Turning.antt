@@ -1,5 +1,5 @@
 -- What was judged of a unit, and of the end of the input, and what the sink was told of it. A working form.
-use Rattle.std.specs.Prelude.{ℕ, Bool, length, OnOk, Result}
+use Rattle.std.specs.Prelude.{ℕ, Bool, length, OnOk, Result, Ok}
 use Rattle.h264_verify.specs.declared.state.Depth.{Depth}
 use Rattle.h264_base.specs.declared.stop.Stop.{Stop}
 use Rattle.h264_units.specs.Stream.{NalUnit}
@@ -7,7 +7,8 @@ use Rattle.h264_verify.specs.declared.state.State.{State}
 use Rattle.h264_base.specs.declared.summary.Summary.{Summary}
 use Rattle.h264_verify.specs.declared.state.Extent.{Extent}
 use Rattle.h264_verify.specs.Telling.{FrameSpan, with_frames, Agree, Family}
-use Rattle.h264_verify.specs.Outcome.{Plays}
+use Rattle.h264_verify.specs.Content.{Content}
+use Rattle.h264_verify.specs.Outcome.{Outcome, Plays}
 use Rattle.h264_verify.specs.History.{History}
 use Rattle.h264_verify.specs.KeepingUnits.{Keeps}
 use Rattle.h264_units.specs.UnitHeader.{header_of, nal_unit_type, ends_picture}
@@ -39,6 +40,13 @@ pub record Joins {S X : Type 0} (extent : Extent) (w : FrameSpan S) (before : Hi
   pub after : History
   pub plays : Plays (with_frames made w.sink) (λ (x : X). after) (content_outcome extent before unit) result
   pub keeps : OnOk result (Keeps extent.depth made after new)
+
+-- What comes of a unit up to its slice data was told, with every rule before them met, and no more.
+pub record Pauses {S : Type 0} (w : FrameSpan S) (ended : ℕ) (o : Outcome Content) : Type 0 where
+  pub made : Family
+  pub same : Agree ended w.frames made
+  pub found : Content
+  pub plays : Plays {X = Unit {0}} (with_frames made w.sink) (λ (x : Unit {0}). found) o (Ok tt)
 
 -- The end of the input was judged, and the sink was told what comes of it.
 pub record EndsAll {S X : Type 0} (depth : Depth) (w : FrameSpan S) (before : History) (bit : ℕ) (view : X → Summary) (result : Result X Stop) : Type 0 where

@@ -10,7 +10,8 @@ use Rattle.h264_verify.specs.Content.{Content}
 use Rattle.h264_verify.specs.Outcome.{Outcome, ◌>>=◌, answers, gives}
 use Rattle.h264_verify.specs.History.{History}
 use Rattle.h264_verify.specs.Units.{summary_of}
-use Rattle.h264_verify.specs.Order.{content_course, unit_course, end_steps}
+use Rattle.h264_verify.specs.Steps.{Ends}
+use Rattle.h264_verify.specs.Order.{content_then, content_course, unit_course, course_to_data, end_steps}
 use Rattle.h264_verify.specs.StepOutcome.{course_outcome, steps_outcome}
 
 -- a unit joins those before it, once what is in it has been judged
@@ -26,6 +27,16 @@ unfoldable pub unit_outcome : Extent → History → NalUnit → Outcome History
 unit_outcome extent before unit = do
   _ ← answers (emulation_checked unit.from unit.body)
   joined before unit (course_outcome (body_of unit) (unit_course extent before unit))
+
+-- what comes of what is in it, and of the unit, up to slice data
+abbrev pub content_to_data : Extent → History → NalUnit → Outcome Content
+content_to_data extent before unit = course_outcome (body_of unit) (content_then extent before unit (λ found bit. Ends found)) >>= λ found. gives found
+
+unfoldable pub unit_to_data : Extent → History → NalUnit → Outcome Content
+unit_to_data extent before unit = do
+  _ ← answers (emulation_checked unit.from unit.body)
+  found ← course_outcome (body_of unit) (course_to_data extent before unit)
+  gives found
 
 -- the end of the input, at this bit: the picture that may go on ends, and then the stream
 unfoldable pub end_outcome : Depth → History → ℕ → Outcome Summary

@@ -17,7 +17,7 @@ use Rattle.h264_base.specs.declared.summary.Summary.{Summary}
 use Rattle.h264_verify.specs.Steps.{AreMet, IsFirstStop, Runs}
 use Rattle.h264_verify.specs.History.{History, ReadUnit}
 use Rattle.h264_verify.specs.Pictures.{runs_of}
-use Rattle.h264_verify.specs.Memory.{ChangesFormat, LeavesAfter, IsMore}
+use Rattle.h264_verify.specs.Memory.{ChangesFormat, ReachesData, BeginWith, IsMore}
 use Rattle.h264_verify.specs.Units.{summary_of, extent_by}
 use Rattle.h264_verify.specs.Order.{unit_course, end_steps}
 use Rattle.h264_verify.specs.Decodable.{AreDecodable}
@@ -120,11 +120,12 @@ pub record Front {S : Type 0} (extent : Extent) (w : SinkSpan S Told) (bytes : L
 
 -- Memory is wanting after legal units, where these bytes are left from this place on: before anything is told of the next, for its bytes, of which there
 -- are some, or at the beginning for the places of parameter sets; or in the next, whose slice begins a picture of another format than that of the
--- picture before it. So a slice of a picture that has begun wants memory for its bytes alone, and the end of the input wants none.
+-- picture before it, once the rules of the slice are met, and before the first element of its data. So a slice of a picture that has begun wants
+-- memory for its bytes alone, and the end of the input wants none.
 pub data IsWanting (extent : Extent) (before : History) (units : List NalUnit) (calls : List Told) (place : ℕ) (left : List ℕ) : Type 0 where
   BeforeNext : calls ≡ [] → IsMore place left → IsWanting extent before units calls place left
   ForPicture : (unit : NalUnit) (later : List NalUnit) → units ≡ unit ∷ later → ChangesFormat extent.depth before unit →
-      IsWanting extent before units calls place left
+      ReachesData extent before unit calls → IsWanting extent before units calls place left
 
 -- The units before are legal, and then memory is wanting.
 pub record WantsAt (extent : Extent) (bytes : List ℕ) (calls : List Told) : Type 0 where
@@ -137,7 +138,7 @@ pub record WantsAt (extent : Extent) (bytes : List ℕ) (calls : List Told) : Ty
   pub legal : AreLegal extent before first
   pub place : ℕ
   pub left : List ℕ
-  pub stands : LeavesAfter 0 bytes (in_order before []) place left
+  pub stands : BeginWith 0 bytes (in_order before []) place left
   pub wants : IsWanting extent before units last place left
   pub calls_are : calls ≡ first ++ last
 

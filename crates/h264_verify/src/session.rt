@@ -7,7 +7,9 @@ ghost use Rattle.std.specs.Prelude.{drop, false, IsFalse, IfSome, Some, IsErrOf}
 ghost use Rattle.h264_units.specs.Stream.{IsUndecided};
 ghost use Rattle.h264_verify.specs.Session.{stretch, standing};
 ghost use Rattle.h264_verify.specs.Memory.{bytes_of, ChangesFormat};
-ghost use Rattle.h264_verify.specs.Turning.{Turns};
+ghost use Rattle.h264_verify.specs.Turning.{Turns, Pauses};
+ghost use Rattle.h264_verify.specs.UnitOutcome.{unit_to_data};
+ghost use Rattle.h264_verify.specs.Keeping.{ended_in};
 ghost use Rattle.h264_verify.specs.Progress.{IsFresh, LastIsRead};
 ghost use Rattle.h264_plane.specs.declared.frame.Frame.{Frame};
 ghost use Rattle.h264_verify.specs.Telling.{Told, IsFamilyFor, frame_span, Family};
@@ -51,6 +53,8 @@ fn judge_next<S: FrameSink>(
     ensures pictures { OnOk result (state.new.slices.pictures ≤ state.new.units) }
     ensures no_memory { (frames : Family) (before : History) → Keeps extent.depth frames before state.old → IsErrOf result Stop.Memory →
         ChangesFormat extent.depth before unit.now }
+    ensures pauses { (frames : Family) (before : History) → Keeps extent.depth frames before state.old → IsErrOf result Stop.Memory →
+        Pauses (frame_span S.took S.failures frames sink.old sink.new) (ended_in before) (unit_to_data extent before unit.now) }
     ensures kept { OnOk result (IsQuiet S.failures sink.old sink.new) }
 {
     match judge_unit(alloc, extent, state, unit, rbsp, sink) {

@@ -17,10 +17,11 @@ ghost use Rattle.h264_dpb.specs.Turns.{Turn, last_turn};
 ghost use Rattle.h264_verify.specs.Telling.{Said, with_frames, frame_span, Family};
 ghost use Rattle.h264_verify.specs.Buffering.{told_frames, after_all, frames_written};
 ghost use Rattle.h264_verify.specs.KeepingUnits.{Keeps, KeepsWithin, KeepsSome};
-ghost use Rattle.h264_verify.specs.Keeping.{WhereMade, FillsFrames, HasWritten, KeepsSomeGap, KeepsSomeSlice, IsLeft};
+ghost use Rattle.h264_verify.specs.Keeping.{WhereMade, FillsFrames, HasWritten, KeepsSomeGap, KeepsSomeSlice, IsLeft, ended_in};
 ghost use Rattle.h264_verify.specs.Pictures.{CodedPicture};
 ghost use Rattle.h264_units.specs.UnitHeader.{ends_picture};
-ghost use Rattle.h264_verify.specs.Turning.{Turns, Joins, EndsAll, is_ending};
+ghost use Rattle.h264_verify.specs.Turning.{Turns, Joins, Pauses, EndsAll, is_ending, ended_before};
+ghost use Rattle.h264_verify.specs.UnitOutcome.{content_to_data, unit_to_data};
 ghost use Rattle.h264_verify.specs.Units.{unit_call, slice_unit_of, has_pictures};
 ghost use Rattle.h264_verify.specs.Memory.{bytes_of, reads_slices, ChangesFormat};
 ghost use Rattle.h264_verify.specs.StepOutcome.{steps_outcome};
@@ -174,6 +175,9 @@ fn join_slice<S: FrameSink>(
     ensures pictures { OnOk result (state.new.slices.pictures ≤ state.new.units) }
     ensures no_memory { (depth : Depth) (frames : Family) (before : History) → KeepsWithin depth frames before (is_ending unit.now) state.old →
         IsErrOf result Stop.Memory → ChangesFormat depth before unit.now }
+    ensures pauses { (extent : Extent) (frames : Family) (before : History) → reads_slices extent.depth ≡ true →
+        KeepsWithin extent.depth frames before (is_ending unit.now) state.old → IsErrOf result Stop.Memory →
+        Pauses (frame_span S.took S.failures frames sink.old sink.new) (ended_before before unit.now) (content_to_data extent before unit.now) }
     ensures kept { OnOk result (IsQuiet S.failures sink.old sink.new) }
 {
     let slice_unit = slice_unit(header);
@@ -232,6 +236,9 @@ fn join<S: FrameSink>(
     ensures pictures { OnOk result (state.new.slices.pictures ≤ state.new.units) }
     ensures no_memory { (frames : Family) (before : History) → KeepsWithin extent.depth frames before (is_ending bytes.now.unit.now) state.old →
         IsErrOf result Stop.Memory → ChangesFormat extent.depth before bytes.now.unit.now }
+    ensures pauses { (frames : Family) (before : History) → KeepsWithin extent.depth frames before (is_ending bytes.now.unit.now) state.old →
+        IsErrOf result Stop.Memory → Pauses (frame_span S.took S.failures frames sink.old sink.new) (ended_before before bytes.now.unit.now)
+        (content_to_data extent before bytes.now.unit.now) }
     ensures kept { OnOk result (IsQuiet S.failures sink.old sink.new) }
 {
     let UnitBytes { unit, header, rbsp } = *bytes;
@@ -254,7 +261,8 @@ fn join<S: FrameSink>(
 /// those before it. The allocator is lent to a picture of another format alone.
 ///
 /// Err: the first check of the unit's course that fails, with its bit; Memory where a growth was refused, which is only where a slice
-/// begins a picture of another format than the one before it; Write where the sink failed. After an Err what is kept is of no use.
+/// begins a picture of another format than the one before it, before the first element of its data; Write where the sink failed. After an Err
+/// what is kept is of no use.
 pub fn judge_unit<S: FrameSink>(
     alloc: Global,
     extent: Extent,
@@ -274,6 +282,8 @@ pub fn judge_unit<S: FrameSink>(
     ensures pictures { OnOk result (state.new.slices.pictures ≤ state.new.units) }
     ensures no_memory { (frames : Family) (before : History) → Keeps extent.depth frames before state.old → IsErrOf result Stop.Memory →
         ChangesFormat extent.depth before unit.now }
+    ensures pauses { (frames : Family) (before : History) → Keeps extent.depth frames before state.old → IsErrOf result Stop.Memory →
+        Pauses (frame_span S.took S.failures frames sink.old sink.new) (ended_in before) (unit_to_data extent before unit.now) }
     ensures kept { OnOk result (IsQuiet S.failures sink.old sink.new) }
 {
     check_emulation(unit)?;

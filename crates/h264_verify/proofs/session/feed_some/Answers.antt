@@ -2,8 +2,8 @@ use Rattle.std.proofs.Common.{Err, refl, ap, ◌∙◌}
 use Rattle.std.proofs.lemmas.Result.{err_from_is_err_and}
 use Rattle.h264_verify.specs.Judging.{judging}
 use Rattle.h264_verify.proofs.AgreeingUnits.{agree-none}
-use Rattle.h264_verify.proofs.Familiar.{on-push, on-unit, on-bytes}
-use Rattle.h264_verify.proofs.Feeding.{stops-push, goes-push, stops-unit, stops-after}
+use Rattle.h264_verify.proofs.Familiar.{on-push, on-unit, on-bytes, unit-stop}
+use Rattle.h264_verify.proofs.Feeding.{stops-push}
 use Rattle.h264_verify.proofs.session.feed_some.Goals as goal
 
 pub returns-in_err-n : goal.returns-in_err-n
@@ -52,15 +52,10 @@ returns-in_err-judge_next-in-Some g c =
       pictures = tt;
       undecided = tt;
       kept = tt;
-      stops = λ frames before k. let t = c.in_err-judge_next-in-Some.ensures.turns frames before k in
-          record {
-            made = t.made;
-            same = t.same;
-            stops =
-                stops-after (judging c.args.extent) _ _ _ _ _ _ _ _ _ _ (goes-push (judging c.args.extent) _ _ _ _ _ _ _ c.in_ok-n.ensures.ok) refl
-                (stops-unit (judging c.args.extent) _ _ (λ x. t.after) _ c.take_unit.new.self _ _ _ _ _ _ c.in-Some.ensures.some
-                (c.in_ok-n.ensures.ok.ended_is ∙ c.requires.runs.2) (λ e. c.in_err-judge_next-in-Some.ensures.no_memory frames before k (ap Err e)) t.plays);
-          };
+      stops = λ frames before k.
+          let judged = c.in_err-judge_next-in-Some.ensures in
+          unit-stop c.args.extent _ _ frames before _ _ _ c.in_ok-n.ensures.ok c.in-Some.ensures.some (c.in_ok-n.ensures.ok.ended_is ∙ c.requires.runs.2) _ _
+          (judged.turns frames before k) (λ e. (judged.no_memory frames before k (ap Err e), judged.pauses frames before k (ap Err e)));
     })
 
 pub returns-in_ok-judge_next-in-Some-clause-goes : goal.returns-in_ok-judge_next-in-Some-clause-goes

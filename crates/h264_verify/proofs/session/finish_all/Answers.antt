@@ -4,8 +4,8 @@ use Rattle.h264_base.specs.declared.stop.Stop.TheVariants.{Memory}
 use Rattle.h264_verify.specs.Judging.{judging}
 use Rattle.h264_verify.proofs.Lacking.{same-stop}
 use Rattle.h264_verify.proofs.AgreeingUnits.{agree-none}
-use Rattle.h264_verify.proofs.Familiar.{finishes-both, finishes-bytes, last-read, last-some, changes-read}
-use Rattle.h264_verify.proofs.Finishing.{finish-stops, finish-end, finish-unit-stops, not-waiting, named-not-memory}
+use Rattle.h264_verify.proofs.Familiar.{finishes-both, finishes-bytes, last-read, last-some, last-stop, changes-read}
+use Rattle.h264_verify.proofs.Finishing.{finish-stops, finish-end, not-waiting, named-not-memory}
 use Rattle.h264_verify.proofs.session.finish_all.Goals as goal
 
 pub returns-in_err-finish : goal.returns-in_err-finish
@@ -46,14 +46,9 @@ returns-in_err-judge_next-in-Some g c =
     let p = err_from_is_err_and c.from_residual-in_err-judge_next-in-Some.result c.from_residual-in_err-judge_next-in-Some.ensures.1 in
     rw (p.1, p.2) (record {
       finishes = λ frames before k.
-          let t = c.in_err-judge_next-in-Some.ensures.turns frames before k in
-          record {
-            made = t.made;
-            same = t.same;
-            finishes =
-                finish-unit-stops (judging c.args.extent) _ _ (λ x. t.after) _ _ c.take_unit.new.self _ _ _ _ _ c.in_ok-finish.ensures.ok c.in-Some.ensures.some
-                (λ e. c.in_err-judge_next-in-Some.ensures.no_memory frames before k (ap Err e)) t.plays;
-          };
+          let judged = c.in_err-judge_next-in-Some.ensures in
+          last-stop c.args.extent _ _ frames before _ _ _ c.in_ok-finish.ensures.ok c.in-Some.ensures.some _ _
+          (judged.turns frames before k) (λ e. (judged.no_memory frames before k (ap Err e), judged.pauses frames before k (ap Err e)));
       memory = λ e. let k = c.requires.keeps in
           last-read _ _ _ _ _ c.in_ok-finish.ensures.ok c.in-Some.ensures.some
           (changes-read _ _ _ (c.in_err-judge_next-in-Some.ensures.no_memory k.frames k.before k.keeps (ap Err (same-stop _ Memory e))));

@@ -50,6 +50,12 @@ returns-in-SequenceSet-clause-no_memory g c = λ frames before k m. absurd (c.jo
 pub returns-in-PictureSet-clause-no_memory : goal.returns-in-PictureSet-clause-no_memory
 returns-in-PictureSet-clause-no_memory g c = λ frames before k m. absurd (c.join_pps.ensures.no_memory m)
 
+pub returns-in-SequenceSet-clause-pauses : goal.returns-in-SequenceSet-clause-pauses
+returns-in-SequenceSet-clause-pauses g c = λ frames before k m. absurd (c.join_sps.ensures.no_memory m)
+
+pub returns-in-PictureSet-clause-pauses : goal.returns-in-PictureSet-clause-pauses
+returns-in-PictureSet-clause-pauses g c = λ frames before k m. absurd (c.join_pps.ensures.no_memory m)
+
 -- ---- slices
 
 -- a unit whose RBSP was made, and that is no set
@@ -77,6 +83,12 @@ join_slice-requires-clause-kept g c =
 
 pub returns-in_default-kind-clause-joins : goal.returns-in_default-kind-clause-joins
 returns-in_default-kind-clause-joins g c = λ frames before k. c.join_slice.ensures.joins c.args.extent frames before
+    (slice-here c.args.extent.depth c.args.bytes.now.unit.now c.args.bytes.now.header c.args.bytes.now.rbsp.now _ c.requires.header c.requires.bytes
+    c.in-Some.is (is-not _ types.SequenceSet _ c.of-kind.ensures c.in_default-kind.not-SequenceSet)
+    (is-not _ types.PictureSet _ c.of-kind.ensures c.in_default-kind.not-PictureSet)).1 k
+
+pub returns-in_default-kind-clause-pauses : goal.returns-in_default-kind-clause-pauses
+returns-in_default-kind-clause-pauses g c = λ frames before k. c.join_slice.ensures.pauses c.args.extent frames before
     (slice-here c.args.extent.depth c.args.bytes.now.unit.now c.args.bytes.now.header c.args.bytes.now.rbsp.now _ c.requires.header c.requires.bytes
     c.in-Some.is (is-not _ types.SequenceSet _ c.of-kind.ensures c.in_default-kind.not-SequenceSet)
     (is-not _ types.PictureSet _ c.of-kind.ensures c.in_default-kind.not-PictureSet)).1 k

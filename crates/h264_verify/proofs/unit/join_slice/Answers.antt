@@ -23,7 +23,7 @@ use Rattle.h264_marking.specs.Ended.{numbering_of}
 use Rattle.h264_verify.specs.Lists.{list_of}
 use Rattle.h264_verify.proofs.Reading.{listed}
 use Rattle.h264_verify.proofs.Entering.{begins-as}
-use Rattle.h264_verify.proofs.Joining.{headers-end, joins-stops, joins-broken, joins-on, joins-after, none-ends, goes-newest}
+use Rattle.h264_verify.proofs.Joining.{headers-end, joins-stops, joins-broken, joins-on, joins-after, slice-pauses, none-ends, goes-newest}
 use Rattle.h264_verify.proofs.Made.{full-made, some-made, none-made, quiet-made}
 use Rattle.h264_verify.proofs.ReadingUnits.{header-read, data-joins, placed as placed-first, data-there}
 use Rattle.h264_sets.specs.Sets.{Maps}
@@ -97,6 +97,8 @@ returns-in_err-read_header g c =
       pictures = tt;
       no_memory = λ depth frames before k m. absurd
           (answers-memory _ _ _ _ _ _ _ _ _ c.in_err-read_header.ensures.meets c.in_err-read_header.ensures.answers m);
+      pauses = λ extent frames before reads k m. absurd
+          (answers-memory _ _ _ _ _ _ _ _ _ c.in_err-read_header.ensures.meets c.in_err-read_header.ensures.answers m);
       kept = tt;
     })
 
@@ -116,6 +118,7 @@ returns-in_err-place_slice g c =
       counts = tt;
       pictures = tt;
       no_memory = λ depth frames before k m. absurd (c.in_err-place_slice.ensures.no_memory m);
+      pauses = λ extent frames before reads k m. absurd (c.in_err-place_slice.ensures.no_memory m);
       kept = tt;
     })
 
@@ -141,6 +144,7 @@ returns-in_err-judge_rules g c =
       counts = tt;
       pictures = tt;
       no_memory = λ depth frames before k m. absurd (c.in_err-judge_rules.ensures.no_memory m);
+      pauses = λ extent frames before reads k m. absurd (c.in_err-judge_rules.ensures.no_memory m);
       kept = tt;
     })
 
@@ -247,3 +251,21 @@ returns-in-Some-clause-no_memory g c = λ depth frames before k m.
           (ap format_in (sym c.in-Some.is) ∙ c.in_ok-judge_rules.ensures.format ∙ c.in_ok-place_slice.ensures.format)
           (λ f. c.read_data.ensures.stands f m));
     }
+
+pub returns-in-Some-clause-pauses : goal.returns-in-Some-clause-pauses
+returns-in-Some-clause-pauses g c = λ extent frames before reads k m.
+    let h = c.read_header.new.header in
+    let unit = c.args.unit.now in
+    let same = ap (λ (s : Slice). s.header) c.in_ok-place_slice.ensures.slice in
+    let kept = rw (slice-goes _ c.requires.slice) at k in
+    let b = begins-as before h c.args.state.now.slices _ kept.slices c.begins-begins.ensures in
+    let begun = subst (λ (x : Header). c.begins-begins.result ≡ begins_at before x) (sym same) b in
+    let placed = c.in_ok-place_slice.ensures.placed extent.depth frames before kept.slices kept.decoder in
+    let named = sets-after c.args.state.now.sets _ h _ c.in_ok-place_slice.ensures.sets (rw same at c.sets_named.ensures.sets) in
+    let plays = rw same at (c.in_ok-judge_rules.ensures.plays extent.depth placed.closes.made before placed.ended begun placed.closes.keeps) in
+    let made = placed.closes.made in
+    rw (c.read_data.ensures.untold m) (slice-pauses extent frames _ _ before unit made
+    (none-ends frames made before unit (slice-goes (kind unit) c.requires.slice) placed.closes.same) h _ _ _ _ _ _
+    (header-read extent made _ _ before unit c.args.header _ _ h _ _ _ _ _ reads c.requires.slice k.sets c.requires.header
+    c.slice_unit-slice_unit.ensures c.requires.first c.in_ok-read_header.ensures.meets c.in_ok-read_header.ensures.answers)
+    (slice-plays extent.depth _ _ frames before unit h c.begins-begins.result _ _ _ _ placed _ _ k.sets named b _ _ plays))

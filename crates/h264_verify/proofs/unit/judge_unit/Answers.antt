@@ -7,7 +7,7 @@ use Rattle.h264_verify.proofs.Joining.{within}
 use Rattle.h264_verify.proofs.Memory.{named-memory}
 use Rattle.h264_verify.proofs.Slicing.{err-named}
 use Rattle.h264_verify.proofs.Standing.{first-met}
-use Rattle.h264_verify.proofs.Turning.{is-unsound, stops-header, stops-told, stops-closing, turns-on}
+use Rattle.h264_verify.proofs.Turning.{is-unsound, stops-header, stops-told, stops-closing, turns-on, pauses-on}
 use Rattle.h264_verify.proofs.unit.judge_unit.Goals as goal
 use Rattle.h264_cavlc.proofs.Loops.{quiet-after}
 
@@ -114,3 +114,38 @@ returns-clause-no_memory g c =
     let e = closes c.args.extent.depth frames before k.slices k.decoder in
     c.join.ensures.no_memory e.made before (within {depth = c.args.extent.depth} {frames = frames} {made = e.made} {before = before} c.args.state.now
     c.close_if.new.slices c.close_if.new.decoder k slices e.keeps) m
+
+pub returns-in_err-check_emulation-clause-pauses : goal.returns-in_err-check_emulation-clause-pauses
+returns-in_err-check_emulation-clause-pauses g c =
+    let p = err_from_is_err_and c.from_residual.result c.from_residual.ensures.1 in
+    let n = c.in_err-check_emulation.ensures.err in
+    rw (p.1, p.2) (λ frames before k m. absurd (named-memory _ (named-by _ _ _ n.1) m))
+
+pub returns-in_err-check_header-clause-pauses : goal.returns-in_err-check_header-clause-pauses
+returns-in_err-check_header-clause-pauses g c =
+    let p = err_from_is_err_and c.from_residual-in_err-check_header.result c.from_residual-in_err-check_header.ensures.1 in
+    let header = rw (c.from-from.ensures.value, c.body-body.ensures.value) at c.in_err-check_header.ensures in
+    rw (p.1, p.2) (λ frames before k m. absurd
+    (named-memory _ (err-named (header_demands (8 * c.args.unit.now.from) (header_of c.args.unit.now)) _ (sym header)) m))
+
+pub returns-in_err-tell_unit-clause-pauses : goal.returns-in_err-tell_unit-clause-pauses
+returns-in_err-tell_unit-clause-pauses g c =
+    let p = err_from_is_err_and c.from_residual-in_err-tell_unit.result c.from_residual-in_err-tell_unit.ensures.1 in
+    rw (p.1, p.2) (λ frames before k m. absurd (c.in_err-tell_unit.ensures.no_memory m))
+
+pub returns-in_err-close_if-clause-pauses : goal.returns-in_err-close_if-clause-pauses
+returns-in_err-close_if-clause-pauses g c =
+    let p = err_from_is_err_and c.from_residual-in_err-close_if.result c.from_residual-in_err-close_if.ensures.1 in
+    rw (p.1, p.2) (λ frames before k m. absurd (c.in_err-close_if.ensures.no_memory m))
+
+pub returns-clause-pauses : goal.returns-clause-pauses
+returns-clause-pauses g c =
+    let header = rw (c.from-from.ensures.value, c.body-body.ensures.value) at c.in_ok-check_header.ensures in
+    let says = rw (c.from-from.ensures.value, c.body-body.ensures.value) at c.in_ok-tell_unit.ensures.plays in
+    let closes = rw (c.ends_picture-ends.ensures, c.of.ensures, c.body-body.ensures.value) at c.in_ok-close_if.ensures.closes in
+    λ frames before k m.
+    let slices = rw (c.ends_picture-ends.ensures, c.of.ensures, c.body-body.ensures.value) at (c.in_ok-close_if.ensures.ended before k.slices) in
+    let e = closes c.args.extent.depth frames before k.slices k.decoder in
+    pauses-on c.args.extent _ _ before c.args.unit.now frames c.args.state.now _ _ c.in_ok-check_emulation.ensures.value _ header _ _ says _ _ _ e _
+    (c.join.ensures.pauses e.made before (within {depth = c.args.extent.depth} {frames = frames} {made = e.made} {before = before} c.args.state.now
+    c.close_if.new.slices c.close_if.new.decoder k slices e.keeps) m)

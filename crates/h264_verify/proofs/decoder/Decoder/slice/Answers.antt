@@ -4,11 +4,16 @@ use Rattle.h264_picture.specs.Places.{MakesFrames}
 use Rattle.h264_verify.proofs.Purposes.{some-of, some-map}
 use Rattle.h264_verify.specs.declared.decoder.Decoder.{Decoder}
 use Rattle.h264_verify.proofs.Lengthening.{slice-adds}
+use Rattle.h264_verify.proofs.Holding.{has-places}
 use Rattle.h264_verify.proofs.Making.{begun-on, is-slice, reads-slice, number-is, making-before}
 use Rattle.h264_verify.proofs.decoder.Decoder.slice.Goals as goal
 
 pub places-places-requires : goal.places-places-requires
 places-places-requires g c = c.requires.kept.named
+
+-- a sequence is active, and it has places
+pub slice-requires-clause-active : goal.slice-requires-clause-active
+slice-requires-clause-active g c = has-places _ _ _ c.args.self.now.work c.requires.kept.holds
 
 pub returns-clause-no_memory : goal.returns-clause-no_memory
 returns-clause-no_memory g c = c.slice.ensures.no_memory _ _ _ c.requires.kept.holds c.requires.kept.next
