@@ -14,7 +14,7 @@ use Rattle.h264_units.specs.Stream.{IsInner, started, unit_limit, input_limit, S
 use Rattle.h264_units.specs.Splitting.{Refused}
 use Rattle.h264_units.specs.Scanned.{third, ending, rest_of, IsSound, IsOpen, is_open, IsInUnit, IsRunning, waits, kept_of, gained, zeros_gained, Scans}
 use Rattle.h264_units.specs.Scanned.{added, Plans}
-use Rattle.h264_units.proofs.Streams.{code-zeros, started-append, length-started}
+use Rattle.h264_units.proofs.Streams.{code-zeros, not-zeros, started-append, length-started}
 use Rattle.h264_units.proofs.Scans.{inner-append}
 
 -- what is refused stays so when more bytes come
@@ -431,3 +431,45 @@ least-taken phase lead body piece plan p w = by plan.phase p.runs p.sound p.rest
         })
     by (Last zeros) r s e n w = absurd r
     by Over r s e n w = absurd r
+
+-- the front of zeros is zeros
+zeros-front : (a b : List ℕ) (n : ℕ) → a ++ b ≡ replicate n 0 → a ≡ replicate (length a) 0
+zeros-front [] b n e = refl
+zeros-front (x ∷ a) b zero e = cc
+zeros-front (x ∷ a) b (suc n) e =
+    let head : x ≡ 0 = cc in
+    let tail : a ++ b ≡ replicate n 0 = cc in
+    cc (head, zeros-front a b n tail)
+
+started-some : (m n : ℕ) (x : List ℕ) → started m x ≡ replicate n 0 → ⊥
+started-some m n x e = not-zeros (m + 2) n 1 x (λ h. cc) (sym (code-zeros m x) ∙ e)
+
+-- where zeros alone come nothing is kept
+pub grows-some : (phase : Phase) (lead : ℕ) (body piece : List ℕ) (plan : Plan) → Plans phase lead body piece plan → 0 < plan.zeros + plan.kept →
+    (n : ℕ) → rest_of phase lead body ++ piece ≡ replicate n 0 → ⊥
+grows-some phase lead body piece plan p some n e = by plan.phase p.sound p.rest_is
+  where
+    front : rest_of phase lead body ++ take plan.taken piece ≡ replicate (length (rest_of phase lead body ++ take plan.taken piece)) 0
+    front = zeros-front (rest_of phase lead body ++ take plan.taken piece) (drop plan.taken piece) n
+        (append_assoc (rest_of phase lead body) (take plan.taken piece) (drop plan.taken piece)
+        ∙ ap (λ l. rest_of phase lead body ++ l) (take-append-drop plan.taken piece) ∙ e)
+
+    none : body ++ added plan piece ≡ [] → ⊥
+    none h =
+        let a = length-append body (replicate plan.zeros 0 ++ take plan.kept (drop plan.start piece)) in
+        let b = length-append (replicate plan.zeros 0) (take plan.kept (drop plan.start piece)) in
+        let z : length {A = ℕ} (replicate plan.zeros 0) ≡ plan.zeros = length-replicate plan.zeros 0 in
+        let k : length (take plan.kept (drop plan.start piece)) ≡ min plan.kept (length (drop plan.start piece)) =
+        length-take plan.kept (drop plan.start piece) in
+        let d : length (drop plan.start piece) ≡ length piece - plan.start = length-drop plan.start piece in
+        let w : plan.start + plan.kept ≤ length piece = p.adds_within in
+        let l : length (body ++ (replicate plan.zeros 0 ++ take plan.kept (drop plan.start piece))) ≡ 0 = ap length h in
+        omega arith
+
+    by : (q : Phase) → IsSound q (body ++ added plan piece) →
+        rest_of q plan.lead (body ++ added plan piece) ≡ rest_of phase lead body ++ take plan.taken piece → ⊥
+    by Between s r = none s
+    by (Inside zeros) s r = started-some plan.lead _ _ (r ∙ front)
+    by (Waiting code) s r = started-some plan.lead _ _ (r ∙ front)
+    by (Last zeros) s r = started-some plan.lead _ _ (r ∙ front)
+    by Over s r = none s

@@ -1,5 +1,5 @@
 -- What a splitter is to its callers, and what its calls do. A working form.
-use Rattle.std.specs.Prelude.{◌≡◌, ℕ, ◌+◌, ◌-◌, ◌<◌, ◌≤◌, ◌⊎◌, Bool, false, IsTrue, IsFalse, List, [], ◌++◌, length, take, Option, Some, None}
+use Rattle.std.specs.Prelude.{◌≡◌, ℕ, ◌+◌, ◌-◌, ◌<◌, ◌≤◌, ◌⊎◌, Bool, false, IsTrue, IsFalse, List, [], ◌++◌, length, take, replicate, Option, Some, None}
 use Rattle.h264_base.specs.declared.stop.Stop.{Stop}
 use Rattle.h264_base.specs.declared.stop.Stop.TheVariants.{No, Outside, Memory, Read, Write}
 use Rattle.h264_units.specs.Stream.{NalUnit, past, input_limit, Next, Tail, Zeros, HasTail, IsUndecided, tail_stop}
@@ -48,9 +48,13 @@ pub record Pushed (old new : Splitting) (piece : List ℕ) (n : ℕ) : Type 0 wh
 abbrev pub TakesNone : Splitting → List ℕ → Type 0
 TakesNone old piece = IsTrue old.waiting ⊎ (IsTrue old.ended ⊎ (length piece ≡ 0))
 
--- No byte was taken. After a lack of memory nothing has changed.
+-- some byte is no 00
+abbrev pub HasNonZero : List ℕ → Type 0
+HasNonZero bytes = (zeros : ℕ) → bytes ≡ replicate zeros 0 → ⊥
+
+-- No byte was taken. After a lack of memory, which comes only where there are bytes other than 00, nothing has changed.
 abbrev pub PushStops : Splitting → Splitting → List ℕ → Stop → Type 0
-PushStops old new piece Memory = new ≡ old
+PushStops old new piece Memory = (new ≡ old) × HasNonZero (old.rest ++ piece)
 PushStops old new piece (No bit rule) = Refused old.at (old.rest ++ piece) (No bit rule) × (new ≡ stopped_by (No bit rule) old)
 PushStops old new piece (Outside bit feature) = Refused old.at (old.rest ++ piece) (Outside bit feature) × (new ≡ stopped_by (Outside bit feature) old)
 PushStops old new piece Read = ⊥

@@ -228,6 +228,7 @@ pub(crate) fn extend(body: &mut Vec<u8>, plan: Plan, piece: &[u8]) -> Result<(),
     requires few { plan.zeros < 3 }
     ensures ok { OnOk result (body.new.items ≡ body.old.items ++ added plan piece.now) }
     ensures err { OnErr result (body.new.items ≡ body.old.items) }
+    ensures grows { OnErr result (0 < plan.zeros + plan.kept) }
 {
     body.reserve(usize::from(plan.zeros) + plan.kept)?;
     push_zeros(body, plan.zeros);

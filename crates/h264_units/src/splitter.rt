@@ -75,7 +75,8 @@ impl Splitter {
     /// Takes bytes from the front of a piece, up to the end of the next whole unit, and says how many: none while a unit
     /// waits or after `finish`. What is left of the piece is to be pushed again, once the unit was taken.
     ///
-    /// After `Memory` nothing has changed. Any other stop stands however the input goes on, and is repeated by each later call.
+    /// After `Memory`, which comes only where there are bytes of a unit to keep, nothing has changed. Any other stop stands however the input goes on,
+    /// and is repeated by each later call.
     pub fn push(&mut self, piece: &[u8]) -> Result<usize, Stop>
         ensures ok { IfOk result (Pushed self.old self.new piece.now) }
         ensures some { IfOk result (λ n. IsFalse self.old.waiting → IsFalse self.old.ended → 0 < length piece.now → 0 < n) }
