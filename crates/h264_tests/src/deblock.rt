@@ -1,5 +1,10 @@
+ghost use Rattle.std.specs.Prelude.{◌≡◌, IfOk};
+
 use crate::macroblocks::INTRA;
-use h264_deblock::{Coded, CodedSkip, Deblocking, SliceFilter, filter_coded, filter_skipped};
+use h264_deblock::{
+    Coded, CodedSkip, Deblocking, SliceFilter, edge, edge_pair, filter_coded, filter_skipped,
+    level_of,
+};
 use h264_near::{Motion, Near, Skipped, Vector};
 use h264_plane::{Component, Frame};
 use std::alloc::{AllocError, Global};
@@ -22,14 +27,23 @@ const SKIPPED: Skipped = Skipped {
     },
 };
 
-/// The first frame of a stream that public decoders agree on, whose luma is 128 in the left macroblock and 131 in the right one, with the right one filtered,
-/// as a coded or as a skipped one.
-fn filtered(alloc: Global, near: &Near, is_coded: bool) -> Result<Frame, AllocError> {
+/// The first frame of a stream that public decoders agree on, as it is constructed: its luma is 128 in the left macroblock and 131 in the right one.
+fn constructed(alloc: Global) -> Result<Frame, AllocError>
+    ensures y { IfOk result (λ f. (f.y.width ≡ 32) × (f.y.height ≡ 16)) }
+    ensures cb { IfOk result (λ f. (f.cb.width ≡ 16) × (f.cb.height ≡ 8)) }
+    ensures cr { IfOk result (λ f. (f.cr.width ≡ 16) × (f.cr.height ≡ 8)) }
+{
     let mut frame = Frame::new(alloc, 32, 16)?;
     frame.put_block::<16, 16>(Component::Y, 0, 0, &[128; 256]);
     frame.put_block::<16, 16>(Component::Y, 16, 0, &[131; 256]);
     frame.put_block::<8, 8>(Component::Cb, 0, 0, &[100; 64]);
     frame.put_block::<8, 8>(Component::Cb, 8, 0, &[103; 64]);
+    Ok(frame)
+}
+
+/// This frame with its right macroblock filtered, as a coded or as a skipped one.
+fn filtered(alloc: Global, near: &Near, is_coded: bool) -> Result<Frame, AllocError> {
+    let mut frame = constructed(alloc)?;
     if is_coded {
         let coded = Coded {
             near,
@@ -74,5 +88,16 @@ fn filters_a_macroblock(rt: HostRuntime) -> Result<(), AllocError> {
         let frame = filtered(rt.alloc(), &near, is_coded)?;
         assert!(rt; is_filtered(&frame, third));
     }
+    Ok(())
+}
+
+/// The edge at 16 alone, with bS 4: the samples from 19 on stay.
+#[test]
+fn filters_an_edge(rt: HostRuntime) -> Result<(), AllocError> {
+    let mut frame = constructed(rt.alloc())?;
+    let level = level_of(SKIPPED.qp, SKIPPED.qp, &ALL_EDGES);
+    edge::<true>(&mut frame.y, 0, 16, &level, &[4; 4]);
+    edge_pair::<true>(&mut frame.cb, &mut frame.cr, 0, 8, &level, &[4; 4]);
+    assert!(rt; is_filtered(&frame, 131));
     Ok(())
 }
