@@ -1,7 +1,13 @@
 pub mod Json
+pub mod Html
 pub mod Pages
 pub mod Entries
 pub mod SurveyedSets
 pub mod SurveyedPictures
 pub mod Surveyed
 pub mod SurveyedCalls
+pub mod Places
+pub mod Profiles
+pub mod Reasons
+pub mod Findings
+pub mod Rates

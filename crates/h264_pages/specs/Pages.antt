@@ -1,6 +1,9 @@
 -- Texts that are made piece by piece, and the fields of a verdict's object. To be read beside docs/OUTPUT.md.
-use Rattle.std.specs.Prelude.{◌≡◌, ℕ, Bool, false, List, [], ◌++◌, codes, string_bytes, Result, Ok, Err}
-use Rattle.std.specs.Fmt.{decimal}
+use Rattle.std.specs.Prelude.{◌≡◌, ℕ, ◌+◌, ◌/◌, ◌%◌, ◌==◌, ℤ, Bool, false, List, [], ◌∷◌, ◌++◌, codes, string_bytes, Option, None, Some, Result, Ok, Err}
+use Rattle.std.specs.Prelude.{if◌then◌else◌}
+use Rattle.std.specs.Char.{encode_utf8}
+use Rattle.std.specs.Str.{chars}
+use Rattle.std.specs.Fmt.{decimal, signed_decimal}
 use Rattle.h264_base.specs.declared.stop.Stop.{Stop}
 use Rattle.h264_base.specs.declared.stop.Stop.TheVariants.{No, Outside, Memory, Read, Write}
 use Rattle.h264_base.specs.Rule.{label_of, clause_of}
@@ -30,6 +33,25 @@ AddsFirst old new text = is_cut new ≡ false → (is_cut old ≡ false) × ((mo
 abbrev pub Grows : Page → Page → Type 0
 Grows old new = is_cut new ≡ false → (is_cut old ≡ false) × ((text : List ℕ) × (text_on new ≡ text_on old ++ text))
 
+-- ---- numbers and lines
+
+-- the three digits of a number below 1000
+abbrev pub three_digits : ℕ → List ℕ
+three_digits n = (48 + n / 100) ∷ (48 + n / 10 % 10) ∷ (48 + n % 10) ∷ []
+
+-- a number of thousandths, with three decimals
+abbrev pub thousandths : ℕ → List ℕ
+thousandths n = decimal (n / 1000) ++ (codes "." ++ three_digits (n % 1000))
+
+-- characters that follow one: before each that follows a line end stands a prefix
+abbrev pub prefixed_after : List ℕ → ℕ → List ℕ → List ℕ
+prefixed_after prefix before [] = []
+prefixed_after prefix before (c ∷ cs) = (if before == 10 then prefix else []) ++ (encode_utf8 c ++ prefixed_after prefix c cs)
+
+-- a text of lines, with a prefix before each of them
+unfoldable pub prefixed : List ℕ → List ℕ → List ℕ
+prefixed prefix text = prefixed_after prefix 10 (chars text)
+
 -- ---- fields of JSON
 
 -- "TEXT", escaped
@@ -43,6 +65,19 @@ named name = codes "," ++ (quoted name ++ codes ":")
 -- ,"NAME":N
 abbrev pub number_field : List ℕ → ℕ → List ℕ
 number_field name value = named name ++ decimal value
+
+-- ,"NAME":N, of a number that may be negative
+abbrev pub signed_field : List ℕ → ℤ → List ℕ
+signed_field name value = named name ++ signed_decimal value
+
+-- ,"NAME":N where there is a number, else no text
+abbrev pub maybe_field : List ℕ → Option ℕ → List ℕ
+maybe_field name None = []
+maybe_field name (Some value) = number_field name value
+
+-- ,"NAME":true or ,"NAME":false
+abbrev pub bool_field : List ℕ → Bool → List ℕ
+bool_field name value = named name ++ (if value then codes "true" else codes "false")
 
 -- ,"NAME":"TEXT"
 abbrev pub text_field : List ℕ → List ℕ → List ℕ

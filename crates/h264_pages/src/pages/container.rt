@@ -1,10 +1,13 @@
 //! What is kept of an input: its first bytes, which may be those of a container, and its first parameter sets.
 #![tactic(auto)]
 
+ghost use Rattle.std.specs.Prelude.{◌≡◌};
+ghost use Rattle.h264_pages.specs.Reasons.{container_name, container_title};
+
 use crate::pages::first_sets::FirstSets;
 
 /// A file that holds streams between other bytes, or another kind of stream.
-#[derive(Clone, Copy, PartialEq, Eq)]
+#[derive(Clone, Copy)]
 pub enum Container {
     /// ISO base media: MP4 and MOV.
     Mp4,
@@ -42,7 +45,9 @@ const HEVC_LAYER: u8 = 1;
 
 impl Container {
     /// What it is, for a sentence.
-    pub fn title(self) -> &'static str {
+    pub fn title(self) -> &'static str
+        ensures { result.now ≡ container_title self }
+    {
         match self {
             Container::Mp4 => "an MP4 or MOV file",
             Container::Mkv => "a Matroska or WebM file",
@@ -53,7 +58,9 @@ impl Container {
     }
 
     /// Its name, which is that of a file's ending.
-    pub fn name(self) -> &'static str {
+    pub fn name(self) -> &'static str
+        ensures { result.now ≡ container_name self }
+    {
         match self {
             Container::Mp4 => "mp4",
             Container::Mkv => "mkv",

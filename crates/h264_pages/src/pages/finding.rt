@@ -1,6 +1,14 @@
 //! Where a verdict stands, and what was found there.
 #![tactic(auto)]
 
+ghost use Rattle.std.specs.Prelude.{◌≡◌, ◌/◌, ◌&&◌, None, Some, IfSome, is_some, option_map, option_and_then, find, reverse};
+ghost use Rattle.circular_buffer.specs.Buffer.{last_item};
+ghost use Rattle.h264_pages.specs.declared.pages.finding.Finding.{Finding};
+ghost use Rattle.h264_lines.specs.declared.trail.Element.{Element};
+ghost use Rattle.h264_pages.specs.Findings.{rule_in, macroblock_at, macroblock_in, frame_num_in};
+ghost use Rattle.h264_pages.specs.Places.{bit_in};
+ghost use Rattle.h264_pages.specs.Surveyed.{begins_at};
+
 use crate::pages::container::Start;
 use crate::pages::reason::Reason;
 use crate::rules::{entry_of, entry_of_feature};
@@ -54,7 +62,10 @@ pub struct Finding {
 pub(crate) const BITS_A_BYTE: u64 = 8;
 
 /// What is said to a reader of an answer: of its rule or feature.
-pub fn guide_of(answer: Answer) -> Option<Guide<'static>> {
+pub fn guide_of(answer: Answer) -> Option<Guide<'static>>
+    ensures said { is_some result ≡ is_some (bit_in answer) }
+    ensures file { IfSome result (λ guide. guide.file ≡ None) }
+{
     match answer {
         Err(Stop::No { rule, .. }) => {
             let entry = entry_of(rule);
@@ -77,7 +88,10 @@ pub fn guide_of(answer: Answer) -> Option<Guide<'static>> {
 }
 
 /// What is said to a reader of an answer on a file of this name.
-pub fn guide_on(answer: Answer, file: &str) -> Option<Guide<'_>> {
+pub fn guide_on(answer: Answer, file: &str) -> Option<Guide<'_>>
+    ensures said { is_some result ≡ is_some (bit_in answer) }
+    ensures file { IfSome result (λ guide. guide.file ≡ Some file.entry) }
+{
     let Guide { breaks, cause, .. } = guide_of(answer)?;
     Some(Guide {
         breaks,
@@ -92,12 +106,16 @@ pub(crate) fn file_in(guide: Option<Guide<'_>>) -> Option<&'_ str> {
 }
 
 /// Why the input is no stream for this program, where a finding says so.
-pub(crate) fn reason_in(finding: Option<Finding>) -> Option<Reason> {
+pub(crate) fn reason_in(finding: Option<Finding>) -> Option<Reason>
+    ensures { result ≡ option_and_then (λ (f : Finding). f.reason) finding }
+{
     finding?.reason
 }
 
 /// The rule that an answer names.
-fn rule_of(answer: Answer) -> Option<Rule> {
+fn rule_of(answer: Answer) -> Option<Rule>
+    ensures { result ≡ rule_in answer }
+{
     match answer {
         Err(Stop::No { rule, .. }) => Some(rule),
         _ => None,
@@ -105,7 +123,9 @@ fn rule_of(answer: Answer) -> Option<Rule> {
 }
 
 /// The bit that an answer names.
-pub(crate) fn bit_of(answer: Answer) -> Option<u64> {
+pub(crate) fn bit_of(answer: Answer) -> Option<u64>
+    ensures { result ≡ bit_in answer }
+{
     match answer {
         Err(Stop::No { bit, .. }) => Some(bit),
         Err(Stop::Outside { bit, .. }) => Some(bit),
@@ -114,7 +134,9 @@ pub(crate) fn bit_of(answer: Answer) -> Option<u64> {
 }
 
 /// The macroblock of an address in a frame of this width in macroblocks.
-fn macroblock_of(address: u64, width: u64) -> Macroblock {
+fn macroblock_of(address: u64, width: u64) -> Macroblock
+    ensures { result ≡ macroblock_at address width }
+{
     if width == 0 {
         return Macroblock {
             address,
@@ -130,7 +152,9 @@ fn macroblock_of(address: u64, width: u64) -> Macroblock {
 }
 
 /// The macroblock that was begun last in the slice that is read.
-fn macroblock_read(survey: &Survey) -> Option<Macroblock> {
+fn macroblock_read(survey: &Survey) -> Option<Macroblock>
+    ensures { result ≡ macroblock_in survey.now }
+{
     let address = survey.macroblock()?;
     let set = survey.sequence()?;
     Some(macroblock_of(address, set.width))
@@ -148,7 +172,9 @@ fn picture_read(survey: &Survey, rule: Option<Rule>) -> Option<u64> {
 }
 
 /// The frame_num of the slice that is read.
-fn frame_num_read(survey: &Survey) -> Option<u64> {
+fn frame_num_read(survey: &Survey) -> Option<u64>
+    ensures { result ≡ frame_num_in survey.now.slice }
+{
     let slice = survey.slice?;
     slice.frame_num
 }
@@ -166,7 +192,15 @@ fn slice_read(survey: &Survey) -> Option<u64> {
 
 impl Finding {
     /// Where an answer stands, if it is a no or an outside. `ended` says whether the source had ended when the unit was judged.
-    pub fn of(answer: Answer, survey: &Survey, start: &Start, ended: bool) -> Option<Finding> {
+    pub fn of(answer: Answer, survey: &Survey, start: &Start, ended: bool) -> Option<Finding>
+        ensures bit { option_map (λ (f : Finding). f.bit) result ≡ bit_in answer }
+        ensures element { IfSome result (λ f. f.element ≡ find (begins_at f.bit) (reverse survey.now.elements.items)) }
+        ensures last { IfSome result (λ f. f.last ≡ last_item survey.now.elements.items) }
+        ensures frame_num { IfSome result (λ f. f.frame_num ≡ frame_num_in survey.now.slice) }
+        ensures macroblock { IfSome result (λ f. f.macroblock ≡ macroblock_in survey.now) }
+        ensures ends_in_unit { IfSome result (λ f. f.ends_in_unit ≡ (ended && is_some survey.now.unit)) }
+        ensures reason { rule_in answer ≡ None → IfSome result (λ f. f.reason ≡ None) }
+    {
         let bit = bit_of(answer)?;
         let rule = rule_of(answer);
         let reason = match rule {
@@ -187,12 +221,16 @@ impl Finding {
     }
 
     /// The byte of the input with that bit.
-    pub fn byte(&self) -> u64 {
+    pub fn byte(&self) -> u64
+        ensures { result ≡ self.now.bit / 8 }
+    {
         self.bit / BITS_A_BYTE
     }
 
     /// The name of the element at the bit.
-    pub fn element_name(&self) -> Option<ElementName> {
+    pub fn element_name(&self) -> Option<ElementName>
+        ensures { result ≡ option_map (λ (e : Element). e.name) self.now.element }
+    {
         match self.element {
             Some(element) => Some(element.name),
             None => None,

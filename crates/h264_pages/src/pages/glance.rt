@@ -1,6 +1,11 @@
 //! What the first parameter sets of a byte stream say of it, whatever its profile is: for a reader, and for no verdict.
 #![tactic(auto)]
 
+ghost use Rattle.std.specs.Prelude.{◌≡◌, false};
+ghost use Rattle.h264_pages.specs.Pages.{Adds};
+ghost use Rattle.h264_pages.specs.Reasons.{size_text, size_after, profile_declared, profile_text, level_after, coding_text, declared_text};
+ghost use Rattle.h264_pages.specs.Reasons.{is_known, is_main, may_suit_main};
+
 use crate::pages::container::Start;
 use crate::pages::info::{shown_height, shown_width};
 use crate::pages::page::Page;
@@ -9,7 +14,7 @@ use crate::survey::{ParameterSet, Sequence, Survey};
 use h264_base::ElementName;
 
 /// What is shown of a frame, in luma samples.
-#[derive(Clone, Copy, PartialEq, Eq)]
+#[derive(Clone, Copy)]
 pub struct Size {
     pub width: u64,
     pub height: u64,
@@ -17,7 +22,9 @@ pub struct Size {
 
 impl Size {
     /// Adds the width and the height.
-    pub fn put(self, page: &mut Page) {
+    pub fn put(self, page: &mut Page)
+        ensures { Adds page.old page.new (size_text self) }
+    {
         page.number(self.width);
         page.put("x");
         page.number(self.height);
@@ -25,7 +32,7 @@ impl Size {
 }
 
 /// What a stream says of itself in its first parameter sets.
-#[derive(Clone, Copy, PartialEq, Eq)]
+#[derive(Clone, Copy)]
 pub struct Declared {
     pub profile_idc: u64,
     pub constraint_set1: bool,
@@ -303,6 +310,27 @@ fn size_read(survey: &Survey, set: &Sequence) -> Option<Size> {
     })
 }
 
+/// Adds a size after a text, where it is known.
+fn put_size_after(page: &mut Page, before: &str, size: Option<Size>)
+    ensures { Adds page.old page.new (size_after before.now size) }
+{
+    if let Some(size) = size {
+        page.put(before);
+        size.put(page);
+    }
+}
+
+/// Adds the entropy coding after a comma, where it is known.
+fn put_coding(page: &mut Page, cabac: Option<bool>)
+    ensures { Adds page.old page.new (coding_text cabac) }
+{
+    match cabac {
+        Some(true) => page.put(", CABAC"),
+        Some(false) => page.put(", CAVLC"),
+        None => {}
+    }
+}
+
 impl Declared {
     /// What was read of a set.
     fn of_read(survey: &Survey, set: &Sequence) -> Declared {
@@ -353,27 +381,39 @@ impl Declared {
     }
 
     /// The name of the profile.
-    pub fn profile(&self) -> &'static str {
+    pub fn profile(&self) -> &'static str
+        ensures { result.now ≡ profile_declared self.now }
+    {
         profile_name(self.profile_idc, self.constraint_set1)
     }
 
     /// Whether the profile is Main.
-    pub fn is_main(&self) -> bool {
+    pub fn is_main(&self) -> bool
+        ensures { result ≡ is_main self.now }
+    {
         self.profile_idc == MAIN
     }
 
     /// Whether the set says that there may be fields.
-    pub fn has_fields(&self) -> bool {
-        self.frame_mbs_only == Some(false)
+    pub fn has_fields(&self) -> bool
+        ensures { result ≡ is_known self.now.frame_mbs_only false }
+    {
+        matches!(self.frame_mbs_only, Some(false))
     }
 
     /// Whether the target main-ip may judge it: Main with CAVLC and without fields.
-    pub fn may_suit_main(&self) -> bool {
-        self.is_main() && self.frame_mbs_only == Some(true) && self.cabac == Some(false)
+    pub fn may_suit_main(&self) -> bool
+        ensures { result ≡ may_suit_main self.now }
+    {
+        self.is_main()
+            && matches!(self.frame_mbs_only, Some(true))
+            && matches!(self.cabac, Some(false))
     }
 
     /// Adds the level after a text, where it is known.
-    pub fn put_level(&self, page: &mut Page, before: &str) {
+    pub fn put_level(&self, page: &mut Page, before: &str)
+        ensures { Adds page.old page.new (level_after before.now self.now self.now.level_idc) }
+    {
         if let Some(level_idc) = self.level_idc {
             page.put(before);
             put_level_of(page, self.profile_idc, level_idc, self.constraint_set3);
@@ -381,23 +421,25 @@ impl Declared {
     }
 
     /// Adds the profile, and level, size and entropy coding where they are known, with commas between them.
-    pub fn put(&self, page: &mut Page) {
+    pub fn put(&self, page: &mut Page)
+        ensures { Adds page.old page.new (declared_text self.now) }
+    {
+        self.put_profile(page);
+        self.put_level(page, ", level ");
+        put_size_after(page, ", ", self.size);
+        put_coding(page, self.cabac);
+    }
+
+    /// Adds the profile, by its number where it has no name here.
+    fn put_profile(&self, page: &mut Page)
+        ensures { Adds page.old page.new (profile_text self.now) }
+    {
         if self.profile() == "unknown" {
             page.put("profile_idc ");
             page.number(self.profile_idc);
         } else {
             page.put(self.profile());
             page.put(" profile");
-        }
-        self.put_level(page, ", level ");
-        if let Some(size) = self.size {
-            page.put(", ");
-            size.put(page);
-        }
-        match self.cabac {
-            Some(true) => page.put(", CABAC"),
-            Some(false) => page.put(", CAVLC"),
-            None => {}
         }
     }
 }

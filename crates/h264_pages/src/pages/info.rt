@@ -1,6 +1,9 @@
 //! What a stream has: its sets, pictures and macroblocks.
 #![tactic(auto)]
 
+ghost use Rattle.std.specs.Prelude.{◌≡◌, ◌+◌, ◌-◌, ◌*◌, ◌^◌, ◌<◌};
+ghost use Rattle.h264_pages.specs.Rates.{rate_in};
+
 use crate::pages::container::Start;
 use crate::pages::finding::{Finding, reason_in};
 use crate::pages::glance::Declared;
@@ -40,7 +43,10 @@ pub fn count_pictures(pictures: &[Picture]) -> PictureCounts {
 }
 
 /// The width of what is shown, in luma samples.
-pub fn shown_width(set: &Sequence) -> u64 {
+pub fn shown_width(set: &Sequence) -> u64
+    ensures { 16 * set.now.width < 2 ^ 64 → 2 * (set.now.cropping.left + set.now.cropping.right) < 2 ^ 64 →
+        result ≡ 16 * set.now.width - 2 * (set.now.cropping.left + set.now.cropping.right) }
+{
     let cut = set.cropping.left.saturating_add(set.cropping.right);
     set.width
         .saturating_mul(SIDE)
@@ -48,7 +54,10 @@ pub fn shown_width(set: &Sequence) -> u64 {
 }
 
 /// The height of what is shown, in luma samples.
-pub fn shown_height(set: &Sequence) -> u64 {
+pub fn shown_height(set: &Sequence) -> u64
+    ensures { 16 * set.now.height < 2 ^ 64 → 2 * (set.now.cropping.top + set.now.cropping.bottom) < 2 ^ 64 →
+        result ≡ 16 * set.now.height - 2 * (set.now.cropping.top + set.now.cropping.bottom) }
+{
     let cut = set.cropping.top.saturating_add(set.cropping.bottom);
     set.height
         .saturating_mul(SIDE)
@@ -56,7 +65,9 @@ pub fn shown_height(set: &Sequence) -> u64 {
 }
 
 /// The frame rate in thousandths of a frame a second; none where no timing is given (E.2.1).
-pub fn rate_of(set: &Sequence) -> Option<u64> {
+pub fn rate_of(set: &Sequence) -> Option<u64>
+    ensures { result ≡ rate_in set.now.timing }
+{
     let timing = set.timing?;
     let ticks = timing.num_units_in_tick.saturating_mul(2);
     if ticks == 0 {

@@ -1,16 +1,19 @@
 //! The fields of JSON of a verdict.
 #![tactic(auto)]
 
-ghost use Rattle.std.specs.Prelude.{◌≡◌, ◌++◌, codes};
-ghost use Rattle.h264_pages.specs.Pages.{word_text, found_fields, answer_fields, Adds, AddsFirst, Grows};
+ghost use Rattle.std.specs.Prelude.{◌≡◌, ◌++◌, [], None, Some, false, codes, if◌then◌else◌};
+ghost use Rattle.h264_pages.specs.Pages.{text_on, is_cut, word_text, found_fields, answer_fields, Adds, AddsFirst, Grows};
 ghost use Rattle.h264_pages.specs.Pages as pages;
+ghost use Rattle.h264_pages.specs.Places.{bit_in, bit_fields, named_bit_fields, unit_fields, picture_fields, element_fields};
+ghost use Rattle.h264_pages.specs.Places.{finding_fields, guide_fields, bare_fields};
+ghost use Rattle.h264_pages.specs.Reasons.{size_fields, cabac_field, declared_fields, input_fields, reason_fields};
 
 use crate::pages::allowed::put_allowed;
 use crate::pages::finding::{Answer, BITS_A_BYTE, Finding, Guide, bit_of, file_in, reason_in};
 use crate::pages::glance::{Declared, Size};
 use crate::pages::page::Page;
 use crate::pages::reason::{Reason, put_remedy, put_sentence};
-use crate::survey::Survey;
+use crate::survey::{Survey, Unit};
 use h264_base::{Stop, Summary};
 use h264_lines::answer::answer_status;
 use h264_lines::trail::Element;
@@ -66,7 +69,7 @@ pub fn put_answer_fields(page: &mut Page, answer: Answer)
 
 /// Adds the fields of an element.
 fn put_element(page: &mut Page, element: Element)
-    ensures { Grows page.old page.new }
+    ensures { Adds page.old page.new (element_fields (Some element) None) }
 {
     page.text_field("element", element.name.text());
     page.signed_field("value", element.value);
@@ -74,7 +77,7 @@ fn put_element(page: &mut Page, element: Element)
 
 /// Adds the fields of a size, where it is known.
 pub(crate) fn put_size(page: &mut Page, size: Option<Size>)
-    ensures { Grows page.old page.new }
+    ensures { Adds page.old page.new (size_fields size) }
 {
     if let Some(size) = size {
         page.number_field("width", size.width);
@@ -84,20 +87,28 @@ pub(crate) fn put_size(page: &mut Page, size: Option<Size>)
 
 /// Adds the fields of what a stream says of itself.
 fn put_declared(page: &mut Page, declared: Declared)
-    ensures { Grows page.old page.new }
+    ensures { Adds page.old page.new (declared_fields declared) }
 {
     page.text_field("profile", declared.profile());
     page.number_field("profile_idc", declared.profile_idc);
     page.maybe_field("level_idc", declared.level_idc);
     put_size(page, declared.size);
-    if let Some(is_cabac) = declared.cabac {
+    put_cabac(page, declared.cabac);
+}
+
+/// Adds the field of the entropy coding, where it is known.
+fn put_cabac(page: &mut Page, cabac: Option<bool>)
+    ensures { Adds page.old page.new (cabac_field cabac) }
+{
+    if let Some(is_cabac) = cabac {
         page.bool_field("cabac", is_cabac);
     }
 }
 
 /// Adds a field of a text that was made apart, where it is to be there. Where memory was wanting for the text, it is wanting for the page.
 fn put_part(page: &mut Page, name: &str, is_there: bool, text: &Page)
-    ensures { Grows page.old page.new }
+    ensures text { Adds page.old page.new (if is_there then pages.text_field name.now (text_on text.now) else []) }
+    ensures whole { is_cut page.new ≡ false → is_cut text.now ≡ false }
 {
     if text.is_short() {
         page.give_up();
@@ -108,16 +119,23 @@ fn put_part(page: &mut Page, name: &str, is_there: bool, text: &Page)
     }
 }
 
-/// Adds the fields of the reason, and of what to do about it.
-fn put_reason(alloc: Global, page: &mut Page, reason: Reason, file: Option<&str>)
-    ensures { Grows page.old page.new }
+/// Adds the fields of what the input is, by its reason.
+fn put_input(page: &mut Page, reason: Reason)
+    ensures { Adds page.old page.new (input_fields reason) }
 {
-    page.text_field("reason", reason.name());
     match reason {
         Reason::Container(container) => page.text_field("container", container.name()),
         Reason::OtherProfile(declared) => put_declared(page, declared),
         Reason::Hevc | Reason::Cabac => {}
     }
+}
+
+/// Adds the fields of the reason, and of what to do about it.
+fn put_reason(alloc: Global, page: &mut Page, reason: Reason, file: Option<&str>)
+    ensures { AddsFirst page.old page.new (reason_fields reason) }
+{
+    page.text_field("reason", reason.name());
+    put_input(page, reason);
     let mut remedy = Page::new(alloc);
     let has_remedy = put_remedy(&mut remedy, reason, file);
     put_part(page, "remedy", has_remedy, &remedy);
@@ -125,11 +143,18 @@ fn put_reason(alloc: Global, page: &mut Page, reason: Reason, file: Option<&str>
 
 /// Adds the fields of a bit and of the unit that it is in.
 fn put_bit(page: &mut Page, survey: &Survey, finding: &Finding)
-    ensures { Grows page.old page.new }
+    ensures { Adds page.old page.new (bit_fields finding.now.bit ++ unit_fields survey.now.unit) }
 {
     page.number_field("bit", finding.bit);
     page.number_field("byte", finding.byte());
-    if let Some(unit) = survey.unit {
+    put_unit(page, survey.unit);
+}
+
+/// Adds the fields of the unit that was told last.
+fn put_unit(page: &mut Page, unit: Option<Unit>)
+    ensures { Adds page.old page.new (unit_fields unit) }
+{
+    if let Some(unit) = unit {
         page.number_field("unit", unit.byte);
         page.number_field("nal_unit_type", u64::from(unit.nal_unit_type.number()));
     }
@@ -137,7 +162,7 @@ fn put_bit(page: &mut Page, survey: &Survey, finding: &Finding)
 
 /// Adds the fields of a picture, a slice and a macroblock.
 fn put_picture(page: &mut Page, finding: &Finding)
-    ensures { Grows page.old page.new }
+    ensures { Adds page.old page.new (picture_fields finding.now) }
 {
     page.maybe_field("picture", finding.picture);
     page.maybe_field("frame_num", finding.frame_num);
@@ -151,7 +176,7 @@ fn put_picture(page: &mut Page, finding: &Finding)
 
 /// Adds the fields of the element that breaks a rule, or of the last one before.
 fn put_element_found(page: &mut Page, finding: &Finding)
-    ensures { Grows page.old page.new }
+    ensures { Adds page.old page.new (element_fields finding.now.element finding.now.last) }
 {
     if let Some(element) = finding.element {
         put_element(page, element);
@@ -168,7 +193,7 @@ fn put_finding(
     finding: &Finding,
     file: Option<&str>,
 )
-    ensures { Grows page.old page.new }
+    ensures { AddsFirst page.old page.new (finding_fields survey.now.unit (Some finding.now)) }
 {
     put_bit(page, survey, finding);
     put_picture(page, finding);
@@ -206,7 +231,7 @@ fn put_place(
     finding: Option<Finding>,
     file: Option<&str>,
 )
-    ensures { Grows page.old page.new }
+    ensures { AddsFirst page.old page.new (finding_fields survey.now.unit finding) }
 {
     if let Some(finding) = finding {
         put_finding(alloc, page, survey, &finding, file);
@@ -216,7 +241,8 @@ fn put_place(
 
 /// Adds the field of the cause: what the input is, where it is no stream for this program; else what usually causes it.
 fn put_cause(alloc: Global, page: &mut Page, reason: Option<Reason>, guide: Guide<'_>)
-    ensures { Grows page.old page.new }
+    ensures grows { Grows page.old page.new }
+    ensures usual { reason ≡ None → Adds page.old page.new (pages.text_field (codes "cause") guide.entry.cause.now) }
 {
     let mut cause = Page::new(alloc);
     match reason {
@@ -228,7 +254,8 @@ fn put_cause(alloc: Global, page: &mut Page, reason: Option<Reason>, guide: Guid
 
 /// Adds the fields of what is said of the rule or feature.
 fn put_guide(alloc: Global, page: &mut Page, finding: Option<Finding>, guide: Guide<'_>)
-    ensures { Grows page.old page.new }
+    ensures grows { Grows page.old page.new }
+    ensures usual { finding ≡ None → Adds page.old page.new (guide_fields (Some guide.entry)) }
 {
     page.text_field("breaks", guide.breaks);
     put_cause(alloc, page, reason_in(finding), guide);
@@ -236,7 +263,7 @@ fn put_guide(alloc: Global, page: &mut Page, finding: Option<Finding>, guide: Gu
 
 /// Adds the fields of the bit that an answer names, where it names one.
 fn put_bare_bit(page: &mut Page, answer: Answer)
-    ensures { Grows page.old page.new }
+    ensures { Adds page.old page.new (named_bit_fields (bit_in answer)) }
 {
     if let Some(bit) = bit_of(answer) {
         page.number_field("bit", bit);
@@ -251,7 +278,8 @@ pub fn put_bare_verdict_fields(
     answer: Answer,
     guide: Option<Guide<'_>>,
 )
-    ensures { AddsFirst page.old page.new (answer_fields answer) }
+    ensures answer { AddsFirst page.old page.new (answer_fields answer) }
+    ensures whole { Adds page.old page.new (bare_fields answer guide.entry) }
 {
     put_answer_fields(page, answer);
     put_bare_bit(page, answer);
@@ -269,7 +297,8 @@ pub fn put_verdict_fields(
     finding: Option<Finding>,
     guide: Option<Guide<'_>>,
 )
-    ensures { AddsFirst page.old page.new (answer_fields answer) }
+    ensures answer { AddsFirst page.old page.new (answer_fields answer) }
+    ensures place { AddsFirst page.old page.new (answer_fields answer ++ finding_fields survey.now.unit finding) }
 {
     put_answer_fields(page, answer);
     put_place(alloc, page, answer, survey, finding, file_in(guide));

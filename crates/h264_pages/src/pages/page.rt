@@ -5,7 +5,8 @@ ghost use Rattle.std.specs.Prelude.{◌≡◌, ◌++◌, [], true, false, codes}
 ghost use Rattle.std.specs.Char.{encode_utf8};
 ghost use Rattle.std.specs.Fmt.{decimal, signed_decimal};
 ghost use Rattle.h264_pages.specs.Pages as pages;
-ghost use Rattle.h264_pages.specs.Pages.{text_on, is_cut, Adds, Grows};
+ghost use Rattle.h264_pages.specs.Html as html;
+ghost use Rattle.h264_pages.specs.Pages.{text_on, is_cut, Adds};
 
 use crate::json::put_escaped_character;
 use std::alloc::Global;
@@ -61,15 +62,15 @@ impl Page {
 
     /// Adds a text of lines, with this text before each of them.
     pub fn put_lines(&mut self, prefix: &str, text: &str)
-        ensures { Grows self.old self.new }
+        ensures { Adds self.old self.new (pages.prefixed prefix.now text.now) }
     {
-        let mut at_start = true;
+        let mut before = '\n';
         for c in text.chars() {
-            if at_start {
+            if before == '\n' {
                 self.put(prefix);
             }
             self.character(c);
-            at_start = c == '\n';
+            before = c;
         }
     }
 
@@ -93,7 +94,7 @@ impl Page {
 
     /// Adds a number with three decimals: so many thousandths.
     pub fn thousandths(&mut self, value: u64)
-        ensures { Grows self.old self.new }
+        ensures { Adds self.old self.new (pages.thousandths value) }
     {
         let whole = value / 1000;
         let rest = value % 1000;
@@ -126,7 +127,7 @@ impl Page {
 
     /// Adds a text as HTML writes it between tags and in attributes.
     pub fn escaped(&mut self, text: &str)
-        ensures { Grows self.old self.new }
+        ensures { Adds self.old self.new (html.escaped text.now) }
     {
         for c in text.chars() {
             match c {
@@ -158,7 +159,7 @@ impl Page {
 
     /// Adds a field of JSON that is a number which may be negative.
     pub fn signed_field(&mut self, name: &str, value: i64)
-        ensures { Grows self.old self.new }
+        ensures { Adds self.old self.new (pages.signed_field name.now value) }
     {
         self.name(name);
         self.signed(value);
@@ -174,7 +175,7 @@ impl Page {
 
     /// Adds a field of JSON that is true or false.
     pub fn bool_field(&mut self, name: &str, value: bool)
-        ensures { Grows self.old self.new }
+        ensures { Adds self.old self.new (pages.bool_field name.now value) }
     {
         self.name(name);
         self.put(if value { "true" } else { "false" });
@@ -182,7 +183,7 @@ impl Page {
 
     /// Adds a field of JSON that is a number, where there is one.
     pub fn maybe_field(&mut self, name: &str, value: Option<u64>)
-        ensures { Grows self.old self.new }
+        ensures { Adds self.old self.new (pages.maybe_field name.now value) }
     {
         if let Some(value) = value {
             self.number_field(name, value);

@@ -1,6 +1,14 @@
 //! Why an input is no stream for this program: a container, HEVC, or H.264 that is not judged; and what to do about it.
 #![tactic(auto)]
 
+ghost use Rattle.std.specs.Prelude.{◌≡◌};
+ghost use Rattle.std.specs.List.{list_all, list_any};
+ghost use Rattle.std.specs.Option.{option_copied};
+ghost use Rattle.std.specs.Str.{chars};
+ghost use Rattle.h264_pages.specs.Pages.{Adds};
+ghost use Rattle.h264_pages.specs.Reasons.{is_plain, is_shown_as_it_is, is_colon, reason_name, refusal, sentence, remedy, has_remedy};
+ghost use Rattle.h264_pages.specs.Reasons.{file_word, file_name, shell_word, shell_quoted};
+
 use crate::pages::container::{Container, Start};
 use crate::pages::glance::Declared;
 use crate::pages::page::Page;
@@ -8,7 +16,7 @@ use crate::survey::Survey;
 use h264_base::{ElementName, Rule};
 
 /// Why an input is no stream for this program, beside the rule that it breaks.
-#[derive(Clone, Copy, PartialEq, Eq)]
+#[derive(Clone, Copy)]
 pub enum Reason {
     /// It is a file that holds streams.
     Container(Container),
@@ -22,7 +30,9 @@ pub enum Reason {
 
 impl Reason {
     /// Its name in the field `reason`.
-    pub fn name(self) -> &'static str {
+    pub fn name(self) -> &'static str
+        ensures { result.now ≡ reason_name self }
+    {
         match self {
             Reason::Container(_) => "container",
             Reason::Hevc => "hevc",
@@ -57,12 +67,15 @@ fn asks_for_cabac(survey: &Survey) -> bool {
 
 impl Declared {
     /// Adds why it is not judged, as a sentence.
-    fn put_refusal(&self, page: &mut Page) {
+    #[tactic(auto, unfolding(crate::specs::Reasons::refusal))]
+    fn put_refusal(&self, page: &mut Page)
+        ensures { Adds page.old page.new (refusal self.now) }
+    {
         if self.may_suit_main() {
             page.put(
                 " The target baseline does not judge this profile. --target main-ip judges it, unless it has B slices.",
             );
-        } else if self.is_main() && self.cabac == Some(true) {
+        } else if self.is_main() && matches!(self.cabac, Some(true)) {
             page.put(" h264v does not judge CABAC.");
         } else if self.is_main() && self.has_fields() {
             page.put(" h264v does not judge fields.");
@@ -75,7 +88,9 @@ impl Declared {
 }
 
 /// Adds what an input is and that it is not judged, in two sentences.
-pub fn put_sentence(page: &mut Page, reason: Reason) {
+pub fn put_sentence(page: &mut Page, reason: Reason)
+    ensures { Adds page.old page.new (sentence reason) }
+{
     match reason {
         Reason::Container(container) => {
             page.put("The input is ");
@@ -98,7 +113,10 @@ pub fn put_sentence(page: &mut Page, reason: Reason) {
 }
 
 /// Adds the command that extracts the stream of a file, where the input is a container. Whether there is one.
-pub fn put_remedy(page: &mut Page, reason: Reason, file: Option<&str>) -> bool {
+pub fn put_remedy(page: &mut Page, reason: Reason, file: Option<&str>) -> bool
+    ensures text { Adds page.old page.new (remedy reason (option_copied file.entry)) }
+    ensures is_there { result ≡ has_remedy reason }
+{
     match reason {
         Reason::Container(_) => {
             page.put("ffmpeg -i ");
@@ -111,35 +129,76 @@ pub fn put_remedy(page: &mut Page, reason: Reason, file: Option<&str>) -> bool {
 }
 
 /// Whether a line has a character of a name as it is (docs/OUTPUT.md, Names).
-fn is_shown_as_it_is(c: char) -> bool {
+fn is_shown_as_it_is(c: char) -> bool
+    ensures { result ≡ is_shown_as_it_is c }
+{
     c != '\\' && !c.is_control()
 }
 
 /// Adds a file's name as a word of a command for ffmpeg; FILE where it is not known, or where a line can't have it as it is. Before a colon ffmpeg looks for a
 /// protocol, which is `file` here.
-fn put_file(page: &mut Page, file: Option<&str>) {
+fn put_file(page: &mut Page, file: Option<&str>)
+    ensures { Adds page.old page.new (file_word (option_copied file.entry)) }
+{
     match file {
-        Some(name) if name.chars().all(|c| is_shown_as_it_is(c)) => {
-            if name.contains(':') {
-                page.put("file:");
-            }
-            put_shell_word(page, name);
-        }
+        Some(name) if is_shown_whole(name) => put_name(page, name),
         _ => page.put("FILE"),
     }
 }
 
+/// Adds a file's name as a word of a command for ffmpeg.
+fn put_name(page: &mut Page, name: &str)
+    ensures { Adds page.old page.new (file_name name.now) }
+{
+    if has_colon(name) {
+        page.put("file:");
+    }
+    put_shell_word(page, name);
+}
+
+/// Whether a line has a name as it is.
+fn is_shown_whole(name: &str) -> bool
+    ensures { result ≡ list_all is_shown_as_it_is (chars name.now) }
+{
+    name.chars().all(|c| is_shown_as_it_is(c))
+}
+
+/// Whether a name has a colon.
+fn has_colon(name: &str) -> bool
+    ensures { result ≡ list_any is_colon (chars name.now) }
+{
+    name.chars().any(|c| c == ':')
+}
+
 /// Whether a shell takes this character as it is.
-fn is_plain(c: char) -> bool {
+fn is_plain(c: char) -> bool
+    ensures { result ≡ is_plain c }
+{
     c.is_ascii_alphanumeric() || c == '/' || c == '.' || c == '_' || c == '-'
 }
 
+/// Whether a shell takes a text as it is.
+fn is_plain_whole(text: &str) -> bool
+    ensures { result ≡ list_all is_plain (chars text.now) }
+{
+    text.chars().all(|c| is_plain(c))
+}
+
 /// Adds a text as one word of a POSIX shell.
-fn put_shell_word(page: &mut Page, text: &str) {
-    if text != "" && text.chars().all(|c| is_plain(c)) {
+fn put_shell_word(page: &mut Page, text: &str)
+    ensures { Adds page.old page.new (shell_word text.now) }
+{
+    if !text.is_empty() && is_plain_whole(text) {
         page.put(text);
         return;
     }
+    put_quoted(page, text);
+}
+
+/// Adds a text between single quotation marks of a POSIX shell.
+fn put_quoted(page: &mut Page, text: &str)
+    ensures { Adds page.old page.new (shell_quoted text.now) }
+{
     page.put("'");
     for c in text.chars() {
         if c == '\'' {

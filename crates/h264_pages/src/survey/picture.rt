@@ -2,7 +2,7 @@
 #![tactic(auto)]
 
 /// What a picture is predicted from.
-#[derive(Clone, Copy, PartialEq, Eq)]
+#[derive(Clone, Copy)]
 pub enum PictureKind {
     /// An instantaneous decoding refresh picture: nal_unit_type 5.
     Idr,
