@@ -73,8 +73,8 @@ module _ {S : Type 0} (extent : Extent) (frames : Family) (took : S → List Cal
     module _ (s s1 : S) (x : X) (read : Plays (span (took_with made took) failures s s1) view (structure_from what_is_in (body_of unit) 0) (Ok x)) where
       -- a rule on it is broken
       pub joins-broken : (s2 : S) (e : Stop) →
-          Plays {X = Unit {0}} (span (took_with made took) failures s1 s2) (λ u. u) (steps_outcome (content_steps extent.depth before unit (view x).0)) (Err e) →
-          Joined s s2 (Err e)
+          Plays {X = Unit {0}} (span (took_with made took) failures s1 s2) (λ u. u) (steps_outcome (content_steps extent.depth before unit (view x).0))
+          (Err e) → Joined s s2 (Err e)
       joins-broken s2 e p = record {
         made = made;
         same = same;
