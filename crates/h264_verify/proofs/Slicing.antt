@@ -1,5 +1,5 @@
 -- Rules one after another, and the sets of a slice.
-use Rattle.std.proofs.Common.{OnOk, IsTrue, IsFalse, ◌⊎◌, inl, inr, IfNone, ◌≡◌, ℕ, ◌*◌, Bool, true, false, List, [], ◌∷◌, ◌++◌, Option, Some, None, Result}
+use Rattle.std.proofs.Common.{OnOk, IsTrue, IsFalse, ◌⊎◌, inl, inr, IfNone, ◌≡◌, ℕ, ◌*◌, Bool, true, false, List, [], ◌∷◌, ◌++◌, Option, Some, None, Result, zero, suc}
 use Rattle.std.proofs.Common.{Ok, Err, refl, ap, sym, ◌∙◌, subst, append_assoc, ◌||◌, if◌then◌else◌}
 use Rattle.std.specs.Option.{is_some, option_map}
 use Rattle.h264_base.specs.Call.{span}
@@ -93,6 +93,28 @@ stop-one d ds e h = stop-at (d ∷ []) ds e h
 
 pub pass-one : (d : Demand) (ds : List Demand) (x : Unit {0}) (r : Result (Unit {0}) Stop) → Ok x ≡ judged (d ∷ []) → r ≡ judged ds → r ≡ judged (d ∷ ds)
 pass-one d ds x r h k = pass-by (d ∷ []) ds x r h k
+
+-- so many of these rules are met, and this is the answer of the next
+abbrev pub AnswersAt : ℕ → List Demand → Result (Unit {0}) Stop → Type 0
+AnswersAt n [] r = ⊥
+AnswersAt zero (d ∷ ds) r = r ≡ judged (d ∷ [])
+AnswersAt (suc n) (d ∷ ds) r = (x : Unit {0}) × (Ok x ≡ judged (d ∷ [])) × AnswersAt n ds r
+
+pub stops-at : (n : ℕ) (ds : List Demand) (e : Stop) → AnswersAt n ds (Err e) → Err e ≡ judged ds
+stops-at n [] e h = absurd h
+stops-at zero (d ∷ ds) e h = stop-one d ds e h
+stops-at (suc n) (d ∷ ds) e h = pass-one d ds h.0 (Err e) h.1 (stops-at n ds e h.2)
+
+-- all but the last of them are met, and this is the answer of the last
+abbrev pub AnswersLast : List Demand → Result (Unit {0}) Stop → Type 0
+AnswersLast [] r = ⊥
+AnswersLast (d ∷ []) r = r ≡ judged (d ∷ [])
+AnswersLast (d ∷ (e ∷ ds)) r = (x : Unit {0}) × (Ok x ≡ judged (d ∷ [])) × AnswersLast (e ∷ ds) r
+
+pub answers-last : (ds : List Demand) (r : Result (Unit {0}) Stop) → AnswersLast ds r → r ≡ judged ds
+answers-last [] r h = absurd h
+answers-last (d ∷ []) r h = h
+answers-last (d ∷ (e ∷ ds)) r h = pass-one d (e ∷ ds) h.0 r h.1 (answers-last (e ∷ ds) r h.2)
 
 -- what a None ensures, where there is no Some
 pub none-holds : {A : Type 0} {P : Type 0} (o : Option A) → IfNone o P → ((x : A) → o ≡ Some x → ⊥) → P
