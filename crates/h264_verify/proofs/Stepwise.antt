@@ -6,10 +6,19 @@ use Rattle.h264_verify.specs.Telling.{Told}
 use Rattle.h264_verify.specs.Outcome.{Outcome, answers, Plays}
 use Rattle.h264_verify.specs.Demands.{Demand, judged}
 use Rattle.h264_verify.specs.Steps.{Step, needs}
+use Rattle.h264_verify.specs.declared.state.Depth.{Depth}
+use Rattle.h264_header.specs.Picture.{is_idr}
+use Rattle.h264_poc.specs.OfSlice.{picture_of}
+use Rattle.h264_marking.specs.Ended.{numbering_of}
+use Rattle.h264_marking.specs.Gaps.{entered}
+use Rattle.h264_verify.specs.Lists.{list_of}
+use Rattle.h264_verify.specs.Pictures.{CodedSlice}
+use Rattle.h264_verify.specs.Order.{gap_rules, first_slice_rules}
+use Rattle.h264_verify.specs.Slices.{PicturesBefore, type_demand, idr_num_demand, id_demand, count_demand, qp_demand, list_demand, first_bit}
 use Rattle.h264_verify.specs.StepOutcome.{steps_outcome}
 use Rattle.h264_verify.proofs.Playing.{plays-on, plays-stops, gives-plays}
 use Rattle.h264_verify.proofs.Stepping.{needs-judged, needs-ok, needs-err, steps-append}
-use Rattle.h264_verify.proofs.Slicing.{refused, err-named, stop-one, pass-one}
+use Rattle.h264_verify.proofs.Slicing.{refused, err-named}
 
 module _ {S : Type 0} (took : S → List Told → Type 0) (failures : S → ℕ) where
   abbrev PlaySteps : List Step → S → S → Result (Unit {0}) Stop → Type 0
@@ -43,32 +52,42 @@ module _ {S : Type 0} (took : S → List Told → Type 0) (failures : S → ℕ)
   steps-on view ss ts s0 s1 s2 x r p q = subst (λ (o : Outcome (Unit {0})). Plays (span took failures s0 s2) (λ (x : Unit {0}). x) o r)
       (sym (steps-append ss ts)) (plays-on took failures view (λ (x : Unit {0}). x) (steps_outcome ss) (λ _. steps_outcome ts) s0 s1 s2 x r p q)
 
--- Two rules, other steps, and four rules: the steps of a picture's first slice.
-module _ {S : Type 0} (took : S → List Told → Type 0) (failures : S → ℕ) (a b : Demand) (between : List Step) (c d e f : Demand) (s : S) where
-  abbrev first_steps : List Step
-  first_steps = needs (a ∷ b ∷ []) ++ (between ++ needs (c ∷ d ∷ e ∷ f ∷ []))
+-- The rules of a picture's first slice, part by part.
 
-  pub at-first : (stop : Stop) → (let r : Result (Unit {0}) Stop = Err stop in r ≡ judged (a ∷ [])) →
-      Plays (span took failures s s) (λ (x : Unit {0}). x) (steps_outcome first_steps) (Err stop)
-  at-first stop h = rules-stop took failures (a ∷ b ∷ []) (between ++ needs (c ∷ d ∷ e ∷ f ∷ [])) s stop (stop-one a (b ∷ []) stop h)
+-- those before the rules on frame_num
+abbrev pub front_rules : CodedSlice → List Demand
+front_rules slice = type_demand slice.sps slice.header ∷ idr_num_demand slice.header ∷ []
 
-  module _ (x : Unit {0}) (first : Ok x ≡ judged (a ∷ [])) where
-    pub at-second : (stop : Stop) → (let r : Result (Unit {0}) Stop = Err stop in r ≡ judged (b ∷ [])) →
-        Plays (span took failures s s) (λ (x : Unit {0}). x) (steps_outcome first_steps) (Err stop)
-    at-second stop h = rules-stop took failures (a ∷ b ∷ []) (between ++ needs (c ∷ d ∷ e ∷ f ∷ [])) s stop (pass-one a (b ∷ []) x (Err stop) first h)
+-- and those after them
+abbrev pub back_rules : PicturesBefore → CodedSlice → List Demand
+back_rules before slice =
+    id_demand before.newest_idr slice.header
+    ∷ count_demand (picture_of slice.sps slice.header ∷ before.counted) (first_bit slice)
+    ∷ qp_demand slice.pps slice.header
+    ∷ list_demand (list_of slice.header.kind.value (numbering_of slice.sps slice.header)
+    (entered (is_idr slice.header) before.prev_ref_frame_num (numbering_of slice.sps slice.header) before.held))
+    ∷ []
 
-    module _ (y : Unit {0}) (second : Ok y ≡ judged (b ∷ [])) where
-      -- the steps between them stop
-      pub at-between : (s' : S) (stop : Stop) → Plays {X = Unit {0}} (span took failures s s') (λ (x : Unit {0}). x) (steps_outcome between) (Err stop) →
-          Plays (span took failures s s') (λ (x : Unit {0}). x) (steps_outcome first_steps) (Err stop)
-      at-between s' stop p = rules-on took failures (a ∷ b ∷ []) (between ++ needs (c ∷ d ∷ e ∷ f ∷ [])) s s' y (Err stop)
-          (pass-one a (b ∷ []) x (Ok y) first second) (steps-stop took failures (λ (x : Unit {0}). x) between (needs (c ∷ d ∷ e ∷ f ∷ [])) s s' stop p)
+module _ {S : Type 0} (took : S → List Told → Type 0) (failures : S → ℕ) (depth : Depth) (before : PicturesBefore) (slice : CodedSlice) (s : S) where
+  abbrev gap : List Step
+  gap = gap_rules depth slice before.prev_ref_frame_num before.held before.buffer
 
-      -- or the rules after them answer
-      pub after-between : (s' : S) (z : Unit {0}) (r : Result (Unit {0}) Stop) →
-          Plays {X = Unit {0}} (span took failures s s') (λ (x : Unit {0}). x) (steps_outcome between) (Ok z) → r ≡ judged (c ∷ d ∷ e ∷ f ∷ []) →
-          Plays (span took failures s s') (λ (x : Unit {0}). x) (steps_outcome first_steps) r
-      after-between s' z r p h =
-          rules-on took failures (a ∷ b ∷ []) (between ++ needs (c ∷ d ∷ e ∷ f ∷ [])) s s' y r (pass-one a (b ∷ []) x (Ok y) first second)
-          (steps-on took failures (λ (x : Unit {0}). x) between (needs (c ∷ d ∷ e ∷ f ∷ [])) s s' s' z r p
-          (rules-play took failures (c ∷ d ∷ e ∷ f ∷ []) s' r h))
+  abbrev rest : List Step
+  rest = gap ++ needs (back_rules before slice)
+
+  abbrev Judges : S → Result (Unit {0}) Stop → Type 0
+  Judges s' r = PlaySteps took failures (first_slice_rules depth before slice) s s' r
+
+  pub front-stops : (stop : Stop) → (let r : Result (Unit {0}) Stop = Err stop in r ≡ judged (front_rules slice)) → Judges s (Err stop)
+  front-stops stop h = rules-stop took failures (front_rules slice) rest s stop h
+
+  module _ (y : Unit {0}) (met : Ok y ≡ judged (front_rules slice)) (s' : S) where
+    pub gap-stops : (stop : Stop) → Plays {X = Unit {0}} (span took failures s s') (λ (x : Unit {0}). x) (steps_outcome gap) (Err stop) → Judges s' (Err stop)
+    gap-stops stop p = rules-on took failures (front_rules slice) rest s s' y (Err stop) met
+        (steps-stop took failures (λ (x : Unit {0}). x) gap (needs (back_rules before slice)) s s' stop p)
+
+    pub back-answers : (z : Unit {0}) (r : Result (Unit {0}) Stop) →
+        Plays {X = Unit {0}} (span took failures s s') (λ (x : Unit {0}). x) (steps_outcome gap) (Ok z) → r ≡ judged (back_rules before slice) → Judges s' r
+    back-answers z r p h = rules-on took failures (front_rules slice) rest s s' y r met
+        (steps-on took failures (λ (x : Unit {0}). x) gap (needs (back_rules before slice)) s s' s' z r p
+        (rules-play took failures (back_rules before slice) s' r h))

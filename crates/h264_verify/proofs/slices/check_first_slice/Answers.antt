@@ -1,18 +1,13 @@
-use Rattle.std.proofs.Common.{[], ◌≡◌, ℕ, ◌*◌, ◌∷◌, ◌∙◌, Some, Ok, OnOk, refl, sym, ap, subst}
+use Rattle.std.proofs.Common.{[], ◌≡◌, ℕ, ◌∙◌, Some, Ok, OnOk, refl, sym, ap, subst}
 use Rattle.std.proofs.lemmas.Result.{err_from_is_err_and}
 use Rattle.h264_marking.specs.Frames.{References}
-use Rattle.h264_marking.specs.Gaps.{entered}
-use Rattle.h264_header.specs.Picture.{is_idr}
-use Rattle.h264_poc.specs.OfSlice.{picture_of}
-use Rattle.h264_marking.specs.Ended.{numbering_of}
-use Rattle.h264_verify.specs.Keeping.{slice_at}
+use Rattle.h264_verify.specs.Keeping.{pictures_by, slice_at}
 use Rattle.h264_verify.specs.declared.slices.Slices.{Slices}
 use Rattle.h264_verify.specs.Telling.{took_with}
-use Rattle.h264_verify.specs.Slices.{type_demand, idr_num_demand, id_demand, count_demand, qp_demand, list_demand}
-use Rattle.h264_verify.specs.Order.{gap_rules}
 use Rattle.h264_verify.specs.Lists.{list_of}
 use Rattle.h264_verify.proofs.Playing.{no-memory}
-use Rattle.h264_verify.proofs.Stepwise.{at-first, at-second, at-between, after-between}
+use Rattle.h264_verify.proofs.Stepwise.{front_rules, front-stops, gap-stops, back-answers}
+use Rattle.h264_verify.proofs.Slicing.{stops-at, answers-last}
 use Rattle.h264_verify.proofs.Ruling.{type-met}
 use Rattle.h264_verify.proofs.slices.check_first_slice.Goals as goal
 use Rattle.h264_base.proofs.Plain.{on-ok}
@@ -22,17 +17,9 @@ returns-in_err-check_type g c =
     let p = err_from_is_err_and c.from_residual.result c.from_residual.ensures.1 in
     rw (p.1, p.2) (record {
       plays = λ depth frames t next pictures k kept.
-          let n = numbering_of c.args.head.now.place.sps.now c.args.head.now.header.now in
-          let idr = is_idr c.args.head.now.header.now in
-          let prev = c.args.slices.now.prev_ref_frame_num in
-          let type = type_demand c.args.head.now.place.sps.now c.args.head.now.header.now in
-          let num = idr_num_demand c.args.head.now.header.now in
-          let gap = gap_rules depth (slice_at c.args.head.now.place c.args.head.now.header.now []) prev c.args.slices.now.held t.buffer in
-          let id = id_demand c.args.slices.now.newest_idr c.args.head.now.header.now in
-          let count = count_demand (picture_of c.args.head.now.place.sps.now c.args.head.now.header.now ∷ pictures) (8 * c.args.head.now.place.unit.now.from) in
-          let qp = qp_demand c.args.head.now.place.pps.now c.args.head.now.header.now in
-          let list = list_demand (list_of c.args.head.now.header.now.kind.value n (entered idr prev n c.args.slices.now.held)) in
-          at-first (took_with frames g.S.Elements.took) g.S.Elements.failures type num gap id count qp list c.args.sink.now _ c.in_err-check_type.ensures;
+          front-stops (took_with frames g.S.Elements.took) g.S.Elements.failures depth (pictures_by c.args.slices.now pictures t.buffer)
+          (slice_at c.args.head.now.place c.args.head.now.header.now []) _ _ (stops-at 0 (front_rules (slice_at c.args.head.now.place c.args.head.now.header.now [])) _
+          c.in_err-check_type.ensures);
       gap = λ depth frames t next k. tt;
       no_memory = no-memory _ _ _ _ c.in_err-check_type.ensures;
       format = refl;
@@ -52,18 +39,9 @@ returns-in_err-check_idr_num g c =
     let p = err_from_is_err_and c.from_residual-in_err-check_idr_num.result c.from_residual-in_err-check_idr_num.ensures.1 in
     rw (p.1, p.2) (record {
       plays = λ depth frames t next pictures k kept.
-          let n = numbering_of c.args.head.now.place.sps.now c.args.head.now.header.now in
-          let idr = is_idr c.args.head.now.header.now in
-          let prev = c.args.slices.now.prev_ref_frame_num in
-          let type = type_demand c.args.head.now.place.sps.now c.args.head.now.header.now in
-          let num = idr_num_demand c.args.head.now.header.now in
-          let gap = gap_rules depth (slice_at c.args.head.now.place c.args.head.now.header.now []) prev c.args.slices.now.held t.buffer in
-          let id = id_demand c.args.slices.now.newest_idr c.args.head.now.header.now in
-          let count = count_demand (picture_of c.args.head.now.place.sps.now c.args.head.now.header.now ∷ pictures) (8 * c.args.head.now.place.unit.now.from) in
-          let qp = qp_demand c.args.head.now.place.pps.now c.args.head.now.header.now in
-          let list = list_demand (list_of c.args.head.now.header.now.kind.value n (entered idr prev n c.args.slices.now.held)) in
-          at-second (took_with frames g.S.Elements.took) g.S.Elements.failures type num gap id count qp list c.args.sink.now _ c.in_ok-check_type.ensures _
-          c.in_err-check_idr_num.ensures;
+          front-stops (took_with frames g.S.Elements.took) g.S.Elements.failures depth (pictures_by c.args.slices.now pictures t.buffer)
+          (slice_at c.args.head.now.place c.args.head.now.header.now []) _ _ (stops-at 1 (front_rules (slice_at c.args.head.now.place c.args.head.now.header.now [])) _
+          (_, c.in_ok-check_type.ensures, c.in_err-check_idr_num.ensures));
       gap = λ depth frames t next k. tt;
       no_memory = no-memory _ _ _ _ c.in_err-check_idr_num.ensures;
       format = refl;
@@ -83,18 +61,10 @@ returns-in_err-check_gap g c =
     let p = err_from_is_err_and c.from_residual-in_err-check_gap.result c.from_residual-in_err-check_gap.ensures.1 in
     rw (p.1, p.2) (record {
       plays = λ depth frames t next pictures k kept.
-          let n = numbering_of c.args.head.now.place.sps.now c.args.head.now.header.now in
-          let idr = is_idr c.args.head.now.header.now in
-          let prev = c.args.slices.now.prev_ref_frame_num in
-          let type = type_demand c.args.head.now.place.sps.now c.args.head.now.header.now in
-          let num = idr_num_demand c.args.head.now.header.now in
-          let gap = gap_rules depth (slice_at c.args.head.now.place c.args.head.now.header.now []) prev c.args.slices.now.held t.buffer in
-          let id = id_demand c.args.slices.now.newest_idr c.args.head.now.header.now in
-          let count = count_demand (picture_of c.args.head.now.place.sps.now c.args.head.now.header.now ∷ pictures) (8 * c.args.head.now.place.unit.now.from) in
-          let qp = qp_demand c.args.head.now.place.pps.now c.args.head.now.header.now in
-          let list = list_demand (list_of c.args.head.now.header.now.kind.value n (entered idr prev n c.args.slices.now.held)) in
-          at-between (took_with frames g.S.Elements.took) g.S.Elements.failures type num gap id count qp list c.args.sink.now _ c.in_ok-check_type.ensures _
-          c.in_ok-check_idr_num.ensures _ _ (c.in_err-check_gap.ensures.plays depth frames t next k);
+          gap-stops (took_with frames g.S.Elements.took) g.S.Elements.failures depth (pictures_by c.args.slices.now pictures t.buffer)
+          (slice_at c.args.head.now.place c.args.head.now.header.now []) _ _ (answers-last (front_rules (slice_at c.args.head.now.place c.args.head.now.header.now [])) _
+          (_, c.in_ok-check_type.ensures, c.in_ok-check_idr_num.ensures)) _ _
+          (c.in_err-check_gap.ensures.plays depth frames t next k);
       gap = λ depth frames t next k. tt;
       no_memory = c.in_err-check_gap.ensures.no_memory;
       format = c.in_err-check_gap.ensures.format;
@@ -125,19 +95,10 @@ returns g c =
     let r = c.check_new_picture.result in
     record {
       plays = λ depth frames t next pictures k kept.
-          let n = numbering_of c.args.head.now.place.sps.now c.args.head.now.header.now in
-          let idr = is_idr c.args.head.now.header.now in
-          let prev = c.args.slices.now.prev_ref_frame_num in
-          let type = type_demand c.args.head.now.place.sps.now c.args.head.now.header.now in
-          let num = idr_num_demand c.args.head.now.header.now in
-          let gap = gap_rules depth (slice_at c.args.head.now.place c.args.head.now.header.now []) prev c.args.slices.now.held t.buffer in
-          let id = id_demand c.args.slices.now.newest_idr c.args.head.now.header.now in
-          let count = count_demand (picture_of c.args.head.now.place.sps.now c.args.head.now.header.now ∷ pictures) (8 * c.args.head.now.place.unit.now.from) in
-          let qp = qp_demand c.args.head.now.place.pps.now c.args.head.now.header.now in
-          let list = list_demand (list_of c.args.head.now.header.now.kind.value n (entered idr prev n c.args.slices.now.held)) in
-          after-between (took_with frames g.S.Elements.took) g.S.Elements.failures type num gap id count qp list c.args.sink.now _ c.in_ok-check_type.ensures
-          _ c.in_ok-check_idr_num.ensures _ _ _ (c.in_ok-check_gap.ensures.plays depth frames t next k)
-          (rw c.in_ok-check_gap.ensures.held at (c.check_new_picture.ensures.judged pictures kept));
+          back-answers (took_with frames g.S.Elements.took) g.S.Elements.failures depth (pictures_by c.args.slices.now pictures t.buffer)
+          (slice_at c.args.head.now.place c.args.head.now.header.now []) _ _ (answers-last (front_rules (slice_at c.args.head.now.place c.args.head.now.header.now [])) _
+          (_, c.in_ok-check_type.ensures, c.in_ok-check_idr_num.ensures)) _ _ _
+          (c.in_ok-check_gap.ensures.plays depth frames t next k) (rw c.in_ok-check_gap.ensures.held at (c.check_new_picture.ensures.judged pictures kept));
       gap = λ depth frames t next k. on-ok r (c.in_ok-check_gap.ensures.keeps depth frames t next k);
       no_memory = c.check_new_picture.ensures.no_memory;
       format = c.in_ok-check_gap.ensures.format;
