@@ -1,7 +1,7 @@
 //! The end of a picture, before what ends it.
 #![tactic(auto)]
 
-ghost use Rattle.std.specs.Prelude.{◌≡◌, ℕ, ◌-◌, ◌<◌, ◌≤◌, ◌^◌, false, OnOk, IsErrOf, Ok, [], IfErr, if◌then◌else◌};
+ghost use Rattle.std.specs.Prelude.{◌≡◌, ℕ, ◌-◌, ◌<◌, ◌≤◌, ◌^◌, false, OnOk, IsErrOf, Ok, [], IfErr, if◌then◌else◌, true};
 ghost use Rattle.h264_base.specs.Call.{HasRoom, IsQuiet};
 ghost use Rattle.h264_verify.specs.declared.state.Depth.{Depth};
 ghost use Rattle.h264_plane.specs.declared.frame.Frame.{Frame};
@@ -24,16 +24,13 @@ use h264_base::{Rule, Stop};
 use h264_dpb::FrameSink;
 use h264_marking::mark_end;
 
-/// The end of the slice data of the picture that may go on, where they are read and it ends here: all its macroblocks are coded.
-fn end_data_if(ends: bool, slices: &Slices, decoder: &Option<Decoder>) -> Result<(), Stop>
+/// The end of the slice data of the picture that may go on, where they are read: all its macroblocks are coded.
+fn end_data(slices: &Slices, decoder: &Option<Decoder>) -> Result<(), Stop>
     ensures judged { (depth : Depth) (frames : Family) (before : History) → KeepsSlices before false slices.now →
         WhereMade depth (KeepsFrames frames (goes_on before) false (runs_of before)) decoder.now →
-        answers result ≡ steps_outcome (if ends then whole_steps depth before else []) }
+        answers result ≡ steps_outcome (whole_steps depth before) }
     ensures named { IfErr result IsNamed }
 {
-    if !ends {
-        return Ok(());
-    }
     let Some(decoder) = decoder else {
         return Ok(());
     };
@@ -43,16 +40,13 @@ fn end_data_if(ends: bool, slices: &Slices, decoder: &Option<Decoder>) -> Result
     }
 }
 
-/// The end of the picture that may go on, where there is one and it ends here.
-fn end_if(ends: bool, slices: &mut Slices) -> Result<(), Stop>
-    ensures judged { (before : History) → KeepsSlices before false slices.old → result ≡ judged (if ends then closing_demands before else []) }
-    ensures ended { (before : History) → KeepsSlices before false slices.old → OnOk result (KeepsSlices before ends slices.new) }
+/// The end of the picture that may go on, where there is one.
+fn end(slices: &mut Slices) -> Result<(), Stop>
+    ensures judged { (before : History) → KeepsSlices before false slices.old → result ≡ judged (closing_demands before) }
+    ensures ended { (before : History) → KeepsSlices before false slices.old → OnOk result (KeepsSlices before true slices.new) }
     ensures others { slices.new ≡ record slices.old { held = slices.new.held } }
     ensures no_memory { IsErrOf result Stop.Memory → ⊥ }
 {
-    if !ends {
-        return Ok(());
-    }
     match &slices.picture {
         None => Ok(()),
         Some(picture) => mark_end(
@@ -64,28 +58,24 @@ fn end_if(ends: bool, slices: &mut Slices) -> Result<(), Stop>
     }
 }
 
-/// The frame of the picture that may go on takes its place, where frames are made and it ends here.
-fn end_frame_if<S: FrameSink>(
-    ends: bool,
+/// The frame of the picture that may go on takes its place, where frames are made.
+fn end_frame<S: FrameSink>(
     slices: &Slices,
     decoder: &mut Option<Decoder>,
     sink: &mut S,
 ) -> Result<(), Stop>
     requires room { HasRoom S.failures sink.old }
     requires pictures { slices.now.pictures ≤ 2 ^ 42 }
-    requires kept { KeepsSomeFrames ends slices.now decoder.old }
-    ensures ends { (depth : Depth) (frames : Family) (before : History) → KeepsSlices before ends slices.now →
-        answers (Ok tt) ≡ steps_outcome (if ends then whole_steps depth before else []) →
+    requires kept { KeepsSomeFrames true slices.now decoder.old }
+    ensures ends { (depth : Depth) (frames : Family) (before : History) → KeepsSlices before true slices.now →
+        answers (Ok tt) ≡ steps_outcome (whole_steps depth before) →
         WhereMade depth (KeepsFrames frames (goes_on before) false (runs_of before)) decoder.old →
-        EndsFrames depth (frame_span S.took S.failures frames sink.old sink.new) (closing (goes_on before) ends (runs_of before))
-        (steps_outcome (if ends then closing_frames depth before else [])) decoder.new result }
+        EndsFrames depth (frame_span S.took S.failures frames sink.old sink.new) (closing (goes_on before) true (runs_of before))
+        (steps_outcome (closing_frames depth before)) decoder.new result }
     ensures format { format_in decoder.new ≡ format_in decoder.old }
     ensures kept { OnOk result (IsQuiet S.failures sink.old sink.new) }
     ensures no_memory { IfErr result (λ e. e ≡ Stop.Write) }
 {
-    if !ends {
-        return Ok(());
-    }
     let Some(decoder) = decoder else {
         return Ok(());
     };
@@ -95,9 +85,32 @@ fn end_frame_if<S: FrameSink>(
     }
 }
 
-/// The end of the picture that may go on, where there is one and it ends here: all its macroblocks are coded (7.4.3), it is marked
-/// (8.2.5), and its frame takes its place in the picture buffer (C.4). Err: Incomplete or MarkCommand, with its bit, or Write where the
-/// sink failed.
+/// The end of the picture that may go on, where there is one: all its macroblocks are coded (7.4.3), it is marked (8.2.5), and its frame takes its
+/// place in the picture buffer (C.4). Err: Incomplete or MarkCommand, with its bit, or Write where the sink failed.
+pub fn close<S: FrameSink>(
+    slices: &mut Slices,
+    decoder: &mut Option<Decoder>,
+    sink: &mut S,
+) -> Result<(), Stop>
+    requires room { HasRoom S.failures sink.old }
+    requires pictures { slices.old.pictures ≤ 2 ^ 42 }
+    requires kept { KeepsSomeFrames false slices.old decoder.old }
+    ensures closes { (depth : Depth) (frames : Family) (before : History) → KeepsSlices before false slices.old →
+        WhereMade depth (KeepsFrames frames (goes_on before) false (runs_of before)) decoder.old →
+        EndsFrames depth (frame_span S.took S.failures frames sink.old sink.new) (closing (goes_on before) true (runs_of before))
+        (steps_outcome (close_steps depth true before)) decoder.new result }
+    ensures ended { (before : History) → KeepsSlices before false slices.old → OnOk result (KeepsSlices before true slices.new) }
+    ensures others { slices.new ≡ record slices.old { held = slices.new.held } }
+    ensures format { format_in decoder.new ≡ format_in decoder.old }
+    ensures no_memory { IsErrOf result Stop.Memory → ⊥ }
+    ensures kept { OnOk result (IsQuiet S.failures sink.old sink.new) }
+{
+    end_data(slices, decoder)?;
+    end(slices)?;
+    end_frame(slices, decoder, sink)
+}
+
+/// That end, where the picture ends here. Err: as that of `close`.
 pub fn close_if<S: FrameSink>(
     ends: bool,
     slices: &mut Slices,
@@ -117,7 +130,9 @@ pub fn close_if<S: FrameSink>(
     ensures no_memory { IsErrOf result Stop.Memory → ⊥ }
     ensures kept { OnOk result (IsQuiet S.failures sink.old sink.new) }
 {
-    end_data_if(ends, slices, decoder)?;
-    end_if(ends, slices)?;
-    end_frame_if(ends, slices, decoder, sink)
+    if ends {
+        close(slices, decoder, sink)
+    } else {
+        Ok(())
+    }
 }

@@ -27,7 +27,7 @@ ghost use Rattle.h264_verify.specs.Memory.{bytes_of, reads_slices, ChangesFormat
 ghost use Rattle.h264_verify.specs.StepOutcome.{steps_outcome};
 ghost use Rattle.h264_verify.specs.declared.state.Depth.{Depth};
 
-use crate::close::close_if;
+use crate::close::{close, close_if};
 use crate::data::read_data;
 use crate::decoder::Decoder;
 use crate::head::{SlicePlace, sets_named};
@@ -354,7 +354,7 @@ pub fn judge_end<S: FrameSink>(
         EndsAll depth (frame_span S.took S.failures frames sink.old sink.new) before bit (λ x. x) result }
     ensures no_memory { IsErrOf result Stop.Memory → ⊥ }
 {
-    close_if(true, &mut state.slices, &mut state.decoder, sink)?;
+    close(&mut state.slices, &mut state.decoder, sink)?;
     let pictures = state.slices.pictures;
     check(has_pictures(depth, pictures), Rule::NoPicture, bit)?;
     finish_frames(&mut state.decoder, sink)?;

@@ -1,4 +1,4 @@
-use Rattle.std.proofs.Common.{Err, refl, ap, ◌∙◌}
+use Rattle.std.proofs.Common.{Err, ap, ◌∙◌}
 use Rattle.std.proofs.lemmas.Result.{err_from_is_err_and}
 use Rattle.h264_verify.specs.Judging.{judging}
 use Rattle.h264_verify.proofs.AgreeingUnits.{agree-none}

@@ -20,14 +20,14 @@ check-err : (holds : Bool) (rule : Rule) (bit : ℕ) (e : Stop) → (let r : Res
 check-err true rule bit e h = cc
 check-err false rule bit e h = cc
 
-pub close_if-requires-clause-kept : goal.close_if-requires-clause-kept
-close_if-requires-clause-kept g c = let k = c.requires.kept in
+pub close-requires-clause-kept : goal.close-requires-clause-kept
+close-requires-clause-kept g c = let k = c.requires.kept in
     record { depth = c.args.depth; frames = k.frames; before = k.before; slices_are = k.keeps.slices; keeps = k.keeps.decoder }
 
 pub finish_frames-requires-clause-kept : goal.finish_frames-requires-clause-kept
 finish_frames-requires-clause-kept g c =
     let k = c.requires.kept in
-    let e = c.in_ok-close_if.ensures.closes c.args.depth k.frames k.before k.keeps.slices k.keeps.decoder in
+    let e = c.in_ok-close.ensures.closes c.args.depth k.frames k.before k.keeps.slices k.keeps.decoder in
     record {
       depth = c.args.depth;
       frames = e.made;
@@ -37,14 +37,14 @@ finish_frames-requires-clause-kept g c =
       keeps = ended-gap c.args.depth e.made (goes_on k.before) (runs_of k.before) _ e.keeps;
     }
 
-pub returns-in_err-close_if : goal.returns-in_err-close_if
-returns-in_err-close_if g c =
+pub returns-in_err-close : goal.returns-in_err-close
+returns-in_err-close g c =
     let p = err_from_is_err_and c.from_residual.result c.from_residual.ensures.1 in
     rw (p.1, p.2) (record {
       ends = λ frames before k.
-          let e = c.in_err-close_if.ensures.closes c.args.depth frames before k.slices k.decoder in
+          let e = c.in_err-close.ensures.closes c.args.depth frames before k.slices k.decoder in
           record { made = e.made; same = e.same; plays = end-stops _ _ c.args.depth before c.args.bit _ _ _ e.plays };
-      no_memory = error-as _ c.in_err-close_if.ensures.no_memory;
+      no_memory = error-as _ c.in_err-close.ensures.no_memory;
     })
 
 pub returns-in_err-check : goal.returns-in_err-check
@@ -52,8 +52,8 @@ returns-in_err-check g c =
     let p = err_from_is_err_and c.from_residual-in_err-check.result c.from_residual-in_err-check.ensures.1 in
     rw (p.1, p.2) (record {
       ends = λ frames before k.
-          let ended = c.in_ok-close_if.ensures.ended before k.slices in
-          let e = c.in_ok-close_if.ensures.closes c.args.depth frames before k.slices k.decoder in
+          let ended = c.in_ok-close.ensures.ended before k.slices in
+          let e = c.in_ok-close.ensures.closes c.args.depth frames before k.slices k.decoder in
           let met = rw (c.has_pictures.ensures (runs_of before) ended.kept.pictures_are) at c.in_err-check.ensures in
           let ds = picture_demand c.args.depth before c.args.bit ∷ [] in
           record {
@@ -72,8 +72,8 @@ returns-in_err-finish_frames g c =
     let p = err_from_is_err_and c.from_residual-in_err-finish_frames.result c.from_residual-in_err-finish_frames.ensures.1 in
     rw (p.1, p.2) (record {
       ends = λ frames before k.
-          let ended = c.in_ok-close_if.ensures.ended before k.slices in
-          let e = c.in_ok-close_if.ensures.closes c.args.depth frames before k.slices k.decoder in
+          let ended = c.in_ok-close.ensures.ended before k.slices in
+          let e = c.in_ok-close.ensures.closes c.args.depth frames before k.slices k.decoder in
           let met = rw (c.has_pictures.ensures (runs_of before) ended.kept.pictures_are) at c.in_ok-check.ensures in
           let ds = picture_demand c.args.depth before c.args.bit ∷ [] in
           let gap = ended-gap c.args.depth e.made (goes_on before) (runs_of before) _ e.keeps in
@@ -91,8 +91,8 @@ returns-in_err-finish_frames g c =
 pub returns : goal.returns
 returns g c = record {
   ends = λ frames before k.
-      let ended = c.in_ok-close_if.ensures.ended before k.slices in
-      let e = c.in_ok-close_if.ensures.closes c.args.depth frames before k.slices k.decoder in
+      let ended = c.in_ok-close.ensures.ended before k.slices in
+      let e = c.in_ok-close.ensures.closes c.args.depth frames before k.slices k.decoder in
       let met = rw (c.has_pictures.ensures (runs_of before) ended.kept.pictures_are) at c.in_ok-check.ensures in
       let ds = picture_demand c.args.depth before c.args.bit ∷ [] in
       let gap = ended-gap c.args.depth e.made (goes_on before) (runs_of before) _ e.keeps in
