@@ -1,11 +1,11 @@
 -- Numbers as bits.
-use Rattle.std.proofs.Common.{◌≡◌, ℕ, zero, suc, ◌+◌, ◌-◌, ◌*◌, ◌/◌, ◌%◌, ◌^◌, ◌<◌, ◌≤◌, ◌==◌, true, false, [], ◌∷◌, ◌++◌, length, replicate, pos, neg_ℤ}
+use Rattle.std.proofs.Common.{◌≡◌, ℕ, zero, suc, ◌+◌, ◌-◌, ◌*◌, ◌/◌, ◌%◌, ◌^◌, ◌<◌, ◌≤◌, ◌==◌, true, false, [], ◌∷◌, ◌++◌, length, replicate, pos}
 use Rattle.std.proofs.Common.{subst, refl, ap, sym, ◌∙◌, arith, append_assoc}
 use Rattle.std.proofs.lemmas.Nat.{pow_pos, mod-pow-add, shr_le, shr_split, le-div, div_below, leading_top}
 use Rattle.std.proofs.lemmas.List.{append-nil}
 use Rattle.std.proofs.Math.Nat.{pow-suc, mod-eq_of_lt}
 use Rattle.std.specs.Int.Count.{count_leading_zeros}
-use Rattle.h264_base.specs.Word.{Word, number, digit, signed, Unsigned, IsWord, IsGolomb}
+use Rattle.h264_base.specs.Word.{Word, number, digit, Unsigned, IsWord, IsGolomb}
 use Rattle.h264_bits.proofs.Elements.{flag-is}
 use Rattle.h264_write.specs.Written.{spelled}
 

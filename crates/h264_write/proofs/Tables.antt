@@ -1,6 +1,6 @@
 -- The rows of the tables: few, and each with bits that fit its length.
-use Rattle.std.proofs.Common.{◌≡◌, ℕ, zero, suc, ◌+◌, ◌<◌, ◌≤◌, ◌^◌, Bool, true, false, List, [], ◌∷◌, Option, Some, None, length, slice_get, ◌&&◌, nat_lt}
-use Rattle.std.proofs.Common.{nat_le, refl, ap, sym, ◌∙◌, arith, inl, inr}
+use Rattle.std.proofs.Common.{◌≡◌, ℕ, zero, suc, ◌<◌, ◌≤◌, ◌^◌, Bool, true, false, List, [], ◌∷◌, Option, Some, None, length, slice_get, ◌&&◌, nat_lt}
+use Rattle.std.proofs.Common.{nat_le, refl, ap, sym, arith, inl, inr}
 use Rattle.std.proofs.lemmas.Bool.{and_parts, leb-true, ltb-true}
 use Rattle.h264_base.specs.Table.{Row, row, IsRow}
 use Rattle.h264_base.specs.Word.{Words, Unsigned, IsWord}
@@ -22,7 +22,6 @@ use Rattle.h264_tables.specs.LevelPrefix.{prefix_rows, level_prefix}
 use Rattle.std.proofs.Common.{subst, pos, ◌-◌, ◌==◌}
 use Rattle.std.proofs.lemmas.Bool.Decides.{nat_tests}
 use Rattle.h264_bits.specs.Truncated.{truncated}
-use Rattle.std.proofs.lemmas.Bool.{cases_lt}
 use Rattle.std.specs.Option.{option_map}
 use Rattle.h264_base.proofs.Chains.{map-some}
 use Rattle.h264_tables.specs.declared.code_words.CodeWord.{CodeWord}
