@@ -6,10 +6,10 @@ use Rattle.h264_verify.specs.Order.{closing_demands}
 use Rattle.h264_verify.specs.Order.{whole_steps}
 use Rattle.h264_verify.specs.Buffering.{closing_frames}
 use Rattle.h264_verify.specs.Keeping.{close_steps}
-use Rattle.h264_verify.proofs.AgreeingUnits.{agree-none}
-use Rattle.h264_verify.proofs.Slicing.{refused, err-named}
-use Rattle.h264_verify.proofs.Stepping.{steps-err, closing-stop, closing-then}
-use Rattle.h264_verify.proofs.Playing.{plays-as}
+use Rattle.h264_verify.proofs.FamiliesAgree.{agree-none}
+use Rattle.h264_verify.proofs.SliceSteps.{refused, err-named}
+use Rattle.h264_verify.proofs.CourseOutcome.{steps-err, closing-stop, closing-then}
+use Rattle.h264_verify.proofs.OutcomesPlayed.{plays-as}
 use Rattle.h264_verify.proofs.close.close.Goals as goal
 use Rattle.h264_base.proofs.Plain.{on-ok}
 

@@ -8,9 +8,9 @@ use Rattle.h264_verify.specs.Telling.{took_with}
 use Rattle.h264_verify.specs.Steps.{needs}
 use Rattle.h264_verify.specs.Buffering.{missing_steps}
 use Rattle.h264_verify.specs.Slices.{gap_demand, new_num_demand}
-use Rattle.h264_verify.proofs.Playing.{no-memory, err-as}
-use Rattle.h264_verify.proofs.Missing.{new-filled}
-use Rattle.h264_verify.proofs.Stepwise.{rules-play, rules-stop, rules-on, steps-stop, steps-on}
+use Rattle.h264_verify.proofs.OutcomesPlayed.{no-memory, err-as}
+use Rattle.h264_verify.proofs.MissingNumbers.{new-filled}
+use Rattle.h264_verify.proofs.StepsPlayed.{rules-play, rules-stop, rules-on, steps-stop, steps-on}
 use Rattle.h264_verify.proofs.frame_num.check_gap.Goals as goal
 
 gap-not-idr : (idr : Bool) (prev : ℕ) (n : Numbering) → 0 < gap_before idr prev n → idr ≡ false

@@ -1,4 +1,4 @@
-use Rattle.h264_verify.proofs.Stopping.{verdict-output, legal-output, front-output, fronts-output}
+use Rattle.h264_verify.proofs.OneFront.{verdict-output, legal-output, front-output, fronts-output}
 use Rattle.h264_verify.proofs.laws.one_output.Goals as goal
 
 pub returns : goal.returns

@@ -1,9 +1,9 @@
 use Rattle.std.proofs.Common.{◌≡◌, ◌+◌, ◌++◌, ◌∙◌, [], false, Some, inl, inr, refl, arith, append_assoc}
 use Rattle.std.proofs.lemmas.Result.{err_from_is_err_and}
-use Rattle.h264_verify.proofs.Finishing.{told-as, told-after}
-use Rattle.h264_verify.proofs.Handing.{gives-none, gives-then, gives-last}
-use Rattle.h264_verify.proofs.Heard.{heard-none}
-use Rattle.h264_verify.proofs.Verdicts.{fed-again, fed-fails}
+use Rattle.h264_verify.proofs.SessionEnd.{told-as, told-after}
+use Rattle.h264_verify.proofs.SourceGives.{gives-none, gives-then, gives-last}
+use Rattle.h264_verify.proofs.SourceUnknown.{heard-none}
+use Rattle.h264_verify.proofs.OneVerdict.{fed-again, fed-fails}
 use Rattle.h264_verify.proofs.running.read_all.Goals as goal
 
 pub loop-init : goal.loop-init

@@ -2,11 +2,11 @@ use Rattle.std.proofs.Common.{◌≡◌, ℕ, ◌⊎◌, inl, inr, Result, Ok, E
 use Rattle.h264_base.specs.declared.stop.Stop.{Stop}
 use Rattle.h264_base.specs.declared.stop.Stop.TheVariants.{Memory, Read, Write}
 use Rattle.h264_verify.specs.Modes.{purpose_for}
-use Rattle.h264_verify.proofs.Purposes.{some-family, some-family-for}
-use Rattle.h264_verify.proofs.Lacking.{same-stop}
-use Rattle.h264_verify.proofs.Finishing.{told-as, told-after}
-use Rattle.h264_verify.proofs.Handing.{gives-none}
-use Rattle.h264_verify.proofs.Verdicts.{judges-judged, none-judged, fed-first, fed-last}
+use Rattle.h264_verify.proofs.FamiliesByPurpose.{some-family, some-family-for}
+use Rattle.h264_verify.proofs.LacksMemory.{same-stop}
+use Rattle.h264_verify.proofs.SessionEnd.{told-as, told-after}
+use Rattle.h264_verify.proofs.SourceGives.{gives-none}
+use Rattle.h264_verify.proofs.OneVerdict.{judges-judged, none-judged, fed-first, fed-last}
 use Rattle.h264_verify.specs.Units.{terms_of}
 use Rattle.h264_verify.proofs.running.run.Goals as goal
 

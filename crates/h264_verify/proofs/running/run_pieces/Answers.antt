@@ -1,9 +1,9 @@
 use Rattle.std.proofs.Common.{sym, ap, arith, refl, ◌∙◌, ◌≡◌, ◌+◌, length}
-use Rattle.h264_verify.proofs.Playing.{err-as}
-use Rattle.h264_verify.proofs.Finishing.{told-as, told-after}
-use Rattle.h264_verify.proofs.Sources.{pieces-split-at}
-use Rattle.h264_verify.proofs.Verdicts.{family-as, judges-judged, none-judged, pieces-first, pieces-on}
-use Rattle.h264_verify.proofs.Verdicts.{pieces-halt, pieces-end, keeps-as, goes-as, stops-as, finishes-as}
+use Rattle.h264_verify.proofs.OutcomesPlayed.{err-as}
+use Rattle.h264_verify.proofs.SessionEnd.{told-as, told-after}
+use Rattle.h264_verify.proofs.SourceWhole.{pieces-split-at}
+use Rattle.h264_verify.proofs.OneVerdict.{family-as, judges-judged, none-judged, pieces-first, pieces-on}
+use Rattle.h264_verify.proofs.OneVerdict.{pieces-halt, pieces-end, keeps-as, goes-as, stops-as, finishes-as}
 use Rattle.h264_verify.specs.Units.{terms_of}
 use Rattle.h264_verify.proofs.running.run_pieces.Goals as goal
 

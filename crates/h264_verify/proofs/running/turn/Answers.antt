@@ -2,11 +2,11 @@ use Rattle.std.proofs.Common.{◌≡◌, Bool, true, IsFalse, Result, Ok, Err, [
 use Rattle.std.proofs.lemmas.Result.{err_from_is_err_and}
 use Rattle.h264_base.specs.declared.stop.Stop.{Stop}
 use Rattle.h264_base.specs.declared.stop.Stop.TheVariants.{Read, Write}
-use Rattle.h264_verify.proofs.Playing.{err-as}
-use Rattle.h264_verify.proofs.Finishing.{told-as}
-use Rattle.h264_verify.proofs.Verdicts.{fed-more, fed-again, fed-halts, fed-fails}
-use Rattle.h264_verify.proofs.Handing.{gives-failed, gives-interrupted, gives-piece, gives-end}
-use Rattle.h264_verify.proofs.Heard.{heard-more, heard-halts, heard-none, heard-fails}
+use Rattle.h264_verify.proofs.OutcomesPlayed.{err-as}
+use Rattle.h264_verify.proofs.SessionEnd.{told-as}
+use Rattle.h264_verify.proofs.OneVerdict.{fed-more, fed-again, fed-halts, fed-fails}
+use Rattle.h264_verify.proofs.SourceGives.{gives-failed, gives-interrupted, gives-piece, gives-end}
+use Rattle.h264_verify.proofs.SourceUnknown.{heard-more, heard-halts, heard-none, heard-fails}
 use Rattle.h264_verify.proofs.running.turn.Goals as goal
 
 -- what excludes one another

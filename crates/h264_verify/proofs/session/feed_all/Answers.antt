@@ -1,6 +1,6 @@
 use Rattle.std.proofs.Common.{◌≡◌, ◌<◌, ◌≤◌, ◌==◌, ℕ, true, false, List, [], ap, drop, length, length-drop, arith, refl, sym, ◌∙◌}
 use Rattle.std.proofs.lemmas.Result.{err_from_is_err_and}
-use Rattle.h264_verify.proofs.Familiar.{on-both, on-stops, on-none, on-end, none-left, on-keeps}
+use Rattle.h264_verify.proofs.SessionSteps.{on-both, on-stops, on-none, on-end, none-left, on-keeps}
 use Rattle.h264_verify.proofs.session.feed_all.Goals as goal
 
 -- where no bytes are left, the loop is over

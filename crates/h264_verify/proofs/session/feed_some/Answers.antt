@@ -1,9 +1,9 @@
 use Rattle.std.proofs.Common.{Err, ap, ◌∙◌}
 use Rattle.std.proofs.lemmas.Result.{err_from_is_err_and}
 use Rattle.h264_verify.specs.Judging.{judging}
-use Rattle.h264_verify.proofs.AgreeingUnits.{agree-none}
-use Rattle.h264_verify.proofs.Familiar.{on-push, on-unit, on-bytes, unit-stop}
-use Rattle.h264_verify.proofs.Feeding.{stops-push}
+use Rattle.h264_verify.proofs.FamiliesAgree.{agree-none}
+use Rattle.h264_verify.proofs.SessionSteps.{on-push, on-unit, on-bytes, unit-stop}
+use Rattle.h264_verify.proofs.SessionFed.{stops-push}
 use Rattle.h264_verify.proofs.session.feed_some.Goals as goal
 
 pub returns-in_err-n : goal.returns-in_err-n

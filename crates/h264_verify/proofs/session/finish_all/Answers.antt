@@ -2,10 +2,10 @@ use Rattle.std.proofs.Common.{Err, refl, ap}
 use Rattle.std.proofs.lemmas.Result.{err_from_is_err_and}
 use Rattle.h264_base.specs.declared.stop.Stop.TheVariants.{Memory}
 use Rattle.h264_verify.specs.Judging.{judging}
-use Rattle.h264_verify.proofs.Lacking.{same-stop}
-use Rattle.h264_verify.proofs.AgreeingUnits.{agree-none}
-use Rattle.h264_verify.proofs.Familiar.{finishes-both, finishes-bytes, last-read, last-some, last-stop, changes-read}
-use Rattle.h264_verify.proofs.Finishing.{finish-stops, finish-end, not-waiting, named-not-memory}
+use Rattle.h264_verify.proofs.LacksMemory.{same-stop}
+use Rattle.h264_verify.proofs.FamiliesAgree.{agree-none}
+use Rattle.h264_verify.proofs.SessionSteps.{finishes-both, finishes-bytes, last-read, last-some, last-stop, changes-read}
+use Rattle.h264_verify.proofs.SessionEnd.{finish-stops, finish-end, not-waiting, named-not-memory}
 use Rattle.h264_verify.proofs.session.finish_all.Goals as goal
 
 pub returns-in_err-finish : goal.returns-in_err-finish

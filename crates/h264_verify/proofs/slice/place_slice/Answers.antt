@@ -6,9 +6,9 @@ use Rattle.h264_verify.specs.declared.slices.Slices.{Slices}
 use Rattle.h264_verify.specs.Telling.{took_with, frame_span}
 use Rattle.h264_verify.specs.Pictures.{goes_on, runs_of}
 use Rattle.h264_verify.specs.Framing.{JudgesSlice, slice_after}
-use Rattle.h264_verify.proofs.Slicing.{sets-before, some-of}
-use Rattle.h264_verify.proofs.Entering.{begins-as}
-use Rattle.h264_verify.proofs.Judged.{closed-stop, closed-on, standing-stop, place-stop, before-held}
+use Rattle.h264_verify.proofs.SliceSteps.{sets-before, some-of}
+use Rattle.h264_verify.proofs.KeepsEntered.{begins-as}
+use Rattle.h264_verify.proofs.SliceJudged.{closed-stop, closed-on, standing-stop, place-stop, before-held}
 use Rattle.h264_verify.proofs.slice.place_slice.Goals as goal
 
 -- what follows where it is well, and where it is not

@@ -5,10 +5,10 @@ use Rattle.h264_verify.specs.Keeping.{pictures_by, slice_at}
 use Rattle.h264_verify.specs.declared.slices.Slices.{Slices}
 use Rattle.h264_verify.specs.Telling.{took_with}
 use Rattle.h264_verify.specs.Lists.{list_of}
-use Rattle.h264_verify.proofs.Playing.{no-memory}
-use Rattle.h264_verify.proofs.Stepwise.{front_rules, front-stops, gap-stops, back-answers}
-use Rattle.h264_verify.proofs.Slicing.{stops-at, answers-last}
-use Rattle.h264_verify.proofs.Ruling.{type-met}
+use Rattle.h264_verify.proofs.OutcomesPlayed.{no-memory}
+use Rattle.h264_verify.proofs.StepsPlayed.{front_rules, front-stops, gap-stops, back-answers}
+use Rattle.h264_verify.proofs.SliceSteps.{stops-at, answers-last}
+use Rattle.h264_verify.proofs.SliceRules.{type-met}
 use Rattle.h264_verify.proofs.slices.check_first_slice.Goals as goal
 use Rattle.h264_base.proofs.Plain.{on-ok}
 

@@ -15,9 +15,9 @@ use Rattle.h264_verify.specs.Steps.{Tells}
 use Rattle.h264_verify.specs.Slices.{slice_call}
 use Rattle.h264_verify.specs.Pictures.{goes_on, runs_of, joined_to, with_sets}
 use Rattle.h264_verify.specs.Order.{slice_rules}
-use Rattle.h264_verify.proofs.Stepwise.{steps-stop, steps-on}
-use Rattle.h264_verify.proofs.Entering.{slice-kept}
-use Rattle.h264_verify.proofs.Judged.{ended-is}
+use Rattle.h264_verify.proofs.StepsPlayed.{steps-stop, steps-on}
+use Rattle.h264_verify.proofs.KeepsEntered.{slice-kept}
+use Rattle.h264_verify.proofs.SliceJudged.{ended-is}
 use Rattle.h264_verify.proofs.slices.judge_rules.Goals as goal
 
 -- how many pictures have begun

@@ -9,12 +9,12 @@ use Rattle.h264_units.proofs.UnitNumbers.{is-not}
 use Rattle.h264_verify.specs.declared.state.Depth.{Depth}
 use Rattle.h264_verify.specs.Content as contents
 use Rattle.h264_verify.specs.Memory.{reads_slices, bytes_of}
-use Rattle.h264_verify.proofs.AgreeingUnits.{agree-none}
-use Rattle.h264_verify.proofs.Growing.{slice-goes}
-use Rattle.h264_verify.proofs.Joining.{joins-on, passed-joins, some-slice}
-use Rattle.h264_verify.proofs.Memory.{bytes-by, unread, read-bytes, read-slice}
-use Rattle.h264_verify.proofs.Playing.{gives-plays}
-use Rattle.h264_verify.proofs.ReadingUnits.{passed-read}
+use Rattle.h264_verify.proofs.FamiliesAgree.{agree-none}
+use Rattle.h264_verify.proofs.UnitEnded.{slice-goes}
+use Rattle.h264_verify.proofs.UnitJoins.{joins-on, passed-joins, some-slice}
+use Rattle.h264_verify.proofs.WantOfMemory.{bytes-by, unread, read-bytes, read-slice}
+use Rattle.h264_verify.proofs.OutcomesPlayed.{gives-plays}
+use Rattle.h264_verify.proofs.ReadsStructures.{passed-read}
 use Rattle.h264_verify.proofs.unit.join.Goals as goal
 
 -- ---- what is not read

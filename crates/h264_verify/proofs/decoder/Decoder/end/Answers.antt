@@ -9,12 +9,12 @@ use Rattle.h264_verify.specs.declared.decoder.Decoder.{Decoder}
 use Rattle.h264_verify.specs.Buffering.{within_newest}
 use Rattle.h264_verify.specs.Memory.{format_of}
 use Rattle.h264_header.proofs.Entries.{where-ok}
-use Rattle.h264_verify.proofs.Made.{full-made}
-use Rattle.h264_verify.proofs.PictureEnding.{with_frame, with-agrees, with-family}
-use Rattle.h264_verify.proofs.Purposes.{lent-for, lent-some, some-map, some-both, family-kept}
-use Rattle.h264_verify.proofs.Showing.{writes-kept, writes-alone, written-by, written-with}
-use Rattle.h264_verify.proofs.Placing.{Settled, framed-by, has-frame, way-stops, way-store, ended-few, size-of, frames-then, ready-then, ready-now}
-use Rattle.h264_verify.proofs.Placing.{ordered-then, at-place, shown-then, frames-now, few-stored, released-then, room-then, stored-frames, purpose-then}
+use Rattle.h264_verify.proofs.WhereMade.{full-made}
+use Rattle.h264_verify.proofs.PictureEndFrame.{with_frame, with-agrees, with-family}
+use Rattle.h264_verify.proofs.FamiliesByPurpose.{lent-for, lent-some, some-map, some-both, family-kept}
+use Rattle.h264_verify.proofs.ToldFrames.{writes-kept, writes-alone, written-by, written-with}
+use Rattle.h264_verify.proofs.PlacedFrames.{Settled, framed-by, has-frame, way-stops, way-store, ended-few, size-of, frames-then, ready-then, ready-now}
+use Rattle.h264_verify.proofs.PlacedFrames.{ordered-then, at-place, shown-then, frames-now, few-stored, released-then, room-then, stored-frames, purpose-then}
 use Rattle.h264_verify.proofs.decoder.Decoder.end.Goals as goal
 
 pub make_way-requires-clause-ordered : goal.make_way-requires-clause-ordered

@@ -5,7 +5,7 @@ use Rattle.h264_units.specs.Stream.{IsUndecided}
 use Rattle.h264_units.specs.Splitting.{Splitting}
 use Rattle.h264_verify.specs.declared.state.State.{State}
 use Rattle.h264_verify.specs.Progress.{Progress, IsReady, IsSession}
-use Rattle.h264_verify.proofs.Familiar.{on-keeps, stops-told, told-err}
+use Rattle.h264_verify.proofs.SessionSteps.{on-keeps, stops-told, told-err}
 use Rattle.h264_verify.proofs.session.Session.advance.Goals as goal
 
 -- a session that has not stopped

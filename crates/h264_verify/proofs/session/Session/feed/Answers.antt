@@ -1,4 +1,4 @@
-use Rattle.h264_verify.proofs.Verdicts.{fed-ok, fed-err}
+use Rattle.h264_verify.proofs.OneVerdict.{fed-ok, fed-err}
 use Rattle.h264_verify.proofs.session.Session.feed.Goals as goal
 
 pub returns-in-None-clause-fed : goal.returns-in-None-clause-fed
