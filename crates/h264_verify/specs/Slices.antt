@@ -93,7 +93,7 @@ has_content sps (Some pair) = eq_sps.ghosts.eq pair.sps sps
 abbrev pub is_active : Maps → Sps → Bool
 is_active maps sps = has_content sps maps.active
 
--- where a slice says that all slices of its picture have one type, those of this list have it (7.4.3)
+-- one of these slices is I; one is P; one says that all slices of its picture have its type (7.4.3)
 abbrev pub has_i : List CodedSlice → Bool
 has_i slices = list_any (λ s. is_i s.header.kind.value) slices
 
@@ -150,6 +150,7 @@ slices_before pictures = record {
   held = held_in pictures;
 }
 
+-- Where one of them or this slice says so, all have its type (7.4.3).
 abbrev pub agrees : SlicesBefore → Header → Bool
 agrees before h = not (h.same_type_in_picture || before.states_type) || not (if is_i h.kind.value then before.has_p else before.has_i)
 
