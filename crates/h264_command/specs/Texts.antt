@@ -1,5 +1,5 @@
 -- What a task writes of one file, by its options: the text of the calls, and after it the answer. To be read beside docs/OUTPUT.md.
-use Rattle.std.specs.Prelude.{◌≡◌, ◌⊎◌, ◌||◌, ℕ, Bool, true, false, List, [], ◌++◌, codes, Option, Result, Err, is_some, if◌then◌else◌}
+use Rattle.std.specs.Prelude.{◌≡◌, ◌⊎◌, ◌||◌, ℕ, Bool, true, false, List, [], ◌++◌, codes, Option, None, Some, Result, Err, is_some, if◌then◌else◌}
 use Rattle.std.specs.Fmt.{decimal}
 use Rattle.h264_base.specs.Call.{Call}
 use Rattle.h264_base.specs.declared.stop.Stop.{Stop}
@@ -8,7 +8,7 @@ use Rattle.h264_lines.specs.Chosen.{left_in, left_by, choosing_after, at_first}
 use Rattle.h264_pages.specs.Json.{escaped}
 use Rattle.h264_lines.specs.Objects.{Opening, OfLine, OfObject}
 use Rattle.h264_lines.specs.Names.{shown}
-use Rattle.h264_pages.specs.Pages.{text_field, verdict_fields}
+use Rattle.h264_pages.specs.Pages.{number_field, text_field, verdict_fields}
 use Rattle.h264_lines.specs.Sent.{Sends}
 use Rattle.h264_lines.specs.Told.{lines_of, bytes_of}
 use Rattle.h264_report.specs.Written.{OfBytes, last_line}
@@ -165,20 +165,33 @@ change_line c =
     codes "h264v: " ++ (shown c.name ++ (codes ": frame " ++ (decimal c.frame ++ (codes " is " ++ (size_text c.other
     ++ (codes ", and those before it are " ++ (size_text c.first ++ codes ": YUV4MPEG2 has one size\n")))))))
 
--- This object opens so, and tells of one.
-abbrev pub change_object : (head more : List ℕ) → List ℕ
-change_object head more =
-    head ++ ((text_field (codes "kind") (codes "verdict") ++ text_field (codes "verdict") (codes "size changes")) ++ (more ++ codes "}\n"))
+-- its exit status, its frame and both sizes, as fields of an object
+abbrev pub change_fields : (frame : ℕ) → (first other : Head) → List ℕ
+change_fields frame first other =
+    number_field (codes "status") 4 ++ (number_field (codes "frame") frame
+    ++ (number_field (codes "width") other.width ++ (number_field (codes "height") other.height
+    ++ (number_field (codes "width_before") first.width ++ number_field (codes "height_before") first.height))))
 
--- The last line of a text tells of a change of size, or its last object does.
-abbrev pub EndsWithChange : Opening → (text : List ℕ) → Type 0
-EndsWithChange (OfLine prefix) text = (before : List ℕ) × (change : SizeChange) × (text ≡ before ++ change_line change)
-EndsWithChange (OfObject head) text = (before : List ℕ) × (more : List ℕ) × (text ≡ before ++ change_object head more)
+-- the object that opens so and tells of it
+abbrev pub change_object : (head : List ℕ) → SizeChange → List ℕ
+change_object head c =
+    head ++ ((text_field (codes "kind") (codes "verdict") ++ text_field (codes "verdict") (codes "size changes"))
+    ++ (change_fields c.frame c.first c.other ++ codes "}\n"))
+
+-- The last line of a text tells of this change of size, or its last object does.
+abbrev pub EndsWithChange : Opening → SizeChange → (text : List ℕ) → Type 0
+EndsWithChange (OfLine prefix) change text = (before : List ℕ) × (text ≡ before ++ change_line change)
+EndsWithChange (OfObject head) change text = (before : List ℕ) × (text ≡ before ++ change_object head change)
+
+-- the change of size of a file: the frame after those that were written, and the headers of the first frame and of this one
+abbrev pub change_of : (name : Text) → (frames : ℕ) → Option (Head × Head) → Option SizeChange
+change_of name frames None = None
+change_of name frames (Some heads) = Some (record { name = name; frame = frames; first = heads.0; other = heads.1 })
 
 -- A text ends with this answer; or, where it is that the output of YUV4MPEG2 broke off, with a change of size.
 abbrev pub EndsWithAnswer : Task → Options → Opening → (told : Result Summary Stop) → (text : List ℕ) → Type 0
 EndsWithAnswer task o opening told text =
-    EndsWith task opening told text ⊎ ((o.y4m ≡ true) × (told ≡ Err Write) × EndsWithChange opening text)
+    EndsWith task opening told text ⊎ ((o.y4m ≡ true) × (told ≡ Err Write) × ((change : SizeChange) × EndsWithChange opening change text))
 
 -- This tells an answer: a text that ends with it, or nothing with `--quiet`.
 pub data TellsAnswer (task : Task) (o : Options) (opening : Opening) (told : Result Summary Stop) (text : List ℕ) : Type 0 where

@@ -5,11 +5,11 @@ ghost use Rattle.std.specs.Prelude.{◌≡◌, ◌⊎◌, ◌++◌, ℕ, List, t
 ghost use Rattle.h264_base.specs.declared.mode.Mode.{Mode};
 ghost use Rattle.h264_base.specs.declared.stop.Stop.TheVariants.{Memory, Read, Write};
 ghost use Rattle.h264_lines.specs.Lines.{verdict_text};
-ghost use Rattle.h264_pages.specs.Pages.{text_on, is_cut, Adds, Grows};
+ghost use Rattle.h264_pages.specs.Pages.{text_on, is_cut, Adds};
 ghost use Rattle.h264_lines.specs.Sent.{Takes};
 ghost use Rattle.h264_report.specs.Written.{last_line};
 ghost use Rattle.h264_command.specs.Further.{BreakOne, IsNoVerdict};
-ghost use Rattle.h264_command.specs.Texts.{SizeChange, change_line, change_object, head_of, opening_in, size_text, verdict_object};
+ghost use Rattle.h264_command.specs.Texts.{change_fields, change_line, change_object, change_of, head_of, opening_in, size_text, verdict_object};
 ghost use Rattle.h264_command.specs.Texts.{EndsWith, EndsWithAnswer, EndsWithChange, TellsAnswer};
 ghost use Rattle.h264_command.specs.Words as words;
 
@@ -129,7 +129,7 @@ fn change_line(
 
 /// Adds the line that tells of a frame of another size than those before it.
 fn put_change(job: &Job<'_>, page: &mut Page, frame: u64, first: Head, other: Head)
-    ensures { is_cut page.new ≡ false → (is_cut page.old ≡ false) × ((change : SizeChange) × (text_on page.new ≡ text_on page.old ++ change_line change)) }
+    ensures { Adds page.old page.new (change_line (record { name = job.now.file.now; frame = frame; first = first; other = other })) }
 {
     match change_line(job.alloc, job.file, frame, first, other) {
         Ok(line) => page.put(line.as_str()),
@@ -139,7 +139,7 @@ fn put_change(job: &Job<'_>, page: &mut Page, frame: u64, first: Head, other: He
 
 /// Adds the exit status, the frame and the sizes to the object that tells of a change of size.
 fn put_sizes(page: &mut Page, frame: u64, first: Head, other: Head)
-    ensures { Grows page.old page.new }
+    ensures { Adds page.old page.new (change_fields frame first other) }
 {
     page.number_field("status", 4);
     page.number_field("frame", frame);
@@ -151,8 +151,8 @@ fn put_sizes(page: &mut Page, frame: u64, first: Head, other: Head)
 
 /// Adds the object that tells of a frame of another size than those before it.
 fn put_change_object(job: &Job<'_>, page: &mut Page, frame: u64, first: Head, other: Head)
-    ensures { is_cut page.new ≡ false → (is_cut page.old ≡ false) × ((more : List ℕ)
-        × (text_on page.new ≡ text_on page.old ++ change_object (head_of job.now.file.now) more)) }
+    ensures { Adds page.old page.new (change_object (head_of job.now.file.now)
+        (record { name = job.now.file.now; frame = frame; first = first; other = other })) }
 {
     page.open_object(job.file, "verdict");
     page.text_field("verdict", "size changes");
@@ -188,7 +188,8 @@ fn put_answer_told(job: &Job<'_>, page: &mut Page, found: &Found)
 
 /// Adds that the size changes, as a line or as an object.
 fn put_change_told(job: &Job<'_>, page: &mut Page, frame: u64, first: Head, other: Head)
-    ensures { is_cut page.new ≡ false → EndsWithChange (opening_in job.now.options.json job.now.file.now job.now.prefix.now) (text_on page.new) }
+    ensures { is_cut page.new ≡ false → EndsWithChange (opening_in job.now.options.json job.now.file.now job.now.prefix.now)
+        (record { name = job.now.file.now; frame = frame; first = first; other = other }) (text_on page.new) }
 {
     if job.options.json {
         put_change_object(job, page, frame, first, other);
@@ -201,6 +202,7 @@ fn put_change_told(job: &Job<'_>, page: &mut Page, frame: u64, first: Head, othe
 fn change_in(job: &Job<'_>, found: &Found) -> Option<(Head, Head)>
     ensures framed { IfSome result (λ _. job.now.options.y4m ≡ true) }
     ensures unwritten { IfSome result (λ _. found.now.answer ≡ Err Write) }
+    ensures known { job.now.options.y4m ≡ true → found.now.answer ≡ Err Write → result ≡ found.now.change }
 {
     match found.answer {
         Err(Stop::Write) if job.options.y4m => found.change,
@@ -210,8 +212,11 @@ fn change_in(job: &Job<'_>, found: &Found) -> Option<(Head, Head)>
 
 /// Adds what is written at the end of a judgement: last of all the answer, as a line or as an object.
 fn put_end(job: &Job<'_>, page: &mut Page, found: &Found)
-    ensures { is_cut page.new ≡ false → EndsWithAnswer job.now.task job.now.options
+    ensures answer { is_cut page.new ≡ false → EndsWithAnswer job.now.task job.now.options
         (opening_in job.now.options.json job.now.file.now job.now.prefix.now) found.now.answer (text_on page.new) }
+    ensures change { is_cut page.new ≡ false → job.now.options.y4m ≡ true → found.now.answer ≡ Err Write →
+        IfSome (change_of job.now.file.now found.now.survey.frames found.now.change) (λ change.
+        EndsWithChange (opening_in job.now.options.json job.now.file.now job.now.prefix.now) change (text_on page.new)) }
 {
     let mut earlier = Page::new(job.alloc);
     put_earlier(job, &mut earlier, found);

@@ -6,7 +6,7 @@ use Rattle.h264_command.proofs.telling.put_verdict_object.Goals as goal
 pub returns : goal.returns
 returns c whole =
     let closed = c.close_object.ensures whole in
-    let filled = c.put_verdict_fields.ensures closed.0 in
+    let filled = c.put_verdict_fields.ensures.answer closed.0 in
     let opened = c.open_object.ensures filled.0 in (
       opened.0,
       (
