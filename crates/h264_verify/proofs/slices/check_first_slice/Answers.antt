@@ -19,7 +19,7 @@ returns-in_err-check_type g c =
       plays = λ depth frames t next pictures k kept.
           front-stops (took_with frames g.S.Elements.took) g.S.Elements.failures depth (pictures_by c.args.slices.now pictures t.buffer)
           (slice_at c.args.head.now.place c.args.head.now.header.now []) _ _
-              (stops-at 0 (front_rules (slice_at c.args.head.now.place c.args.head.now.header.now [])) _
+          (stops-at 0 (front_rules (slice_at c.args.head.now.place c.args.head.now.header.now [])) _
           c.in_err-check_type.ensures);
       gap = λ depth frames t next k. tt;
       no_memory = no-memory _ _ _ _ c.in_err-check_type.ensures;
@@ -42,7 +42,7 @@ returns-in_err-check_idr_num g c =
       plays = λ depth frames t next pictures k kept.
           front-stops (took_with frames g.S.Elements.took) g.S.Elements.failures depth (pictures_by c.args.slices.now pictures t.buffer)
           (slice_at c.args.head.now.place c.args.head.now.header.now []) _ _
-              (stops-at 1 (front_rules (slice_at c.args.head.now.place c.args.head.now.header.now [])) _
+          (stops-at 1 (front_rules (slice_at c.args.head.now.place c.args.head.now.header.now [])) _
           (_, c.in_ok-check_type.ensures, c.in_err-check_idr_num.ensures));
       gap = λ depth frames t next k. tt;
       no_memory = no-memory _ _ _ _ c.in_err-check_idr_num.ensures;
@@ -65,7 +65,7 @@ returns-in_err-check_gap g c =
       plays = λ depth frames t next pictures k kept.
           gap-stops (took_with frames g.S.Elements.took) g.S.Elements.failures depth (pictures_by c.args.slices.now pictures t.buffer)
           (slice_at c.args.head.now.place c.args.head.now.header.now []) _ _
-              (answers-last (front_rules (slice_at c.args.head.now.place c.args.head.now.header.now [])) _
+          (answers-last (front_rules (slice_at c.args.head.now.place c.args.head.now.header.now [])) _
           (_, c.in_ok-check_type.ensures, c.in_ok-check_idr_num.ensures)) _ _
           (c.in_err-check_gap.ensures.plays depth frames t next k);
       gap = λ depth frames t next k. tt;
@@ -100,7 +100,7 @@ returns g c =
       plays = λ depth frames t next pictures k kept.
           back-answers (took_with frames g.S.Elements.took) g.S.Elements.failures depth (pictures_by c.args.slices.now pictures t.buffer)
           (slice_at c.args.head.now.place c.args.head.now.header.now []) _ _
-              (answers-last (front_rules (slice_at c.args.head.now.place c.args.head.now.header.now [])) _
+          (answers-last (front_rules (slice_at c.args.head.now.place c.args.head.now.header.now [])) _
           (_, c.in_ok-check_type.ensures, c.in_ok-check_idr_num.ensures)) _ _ _
           (c.in_ok-check_gap.ensures.plays depth frames t next k) (rw c.in_ok-check_gap.ensures.held at (c.check_new_picture.ensures.judged pictures kept));
       gap = λ depth frames t next k. on-ok r (c.in_ok-check_gap.ensures.keeps depth frames t next k);

@@ -34,15 +34,34 @@ returns-in_err-check_qp-clause-judged c =
 pub returns-in_err-build_list-clause-judged : goal.returns-in_err-build_list-clause-judged
 returns-in_err-build_list-clause-judged c =
     let p = err_from_is_err_and c.from_residual-in_err-build_list.result c.from_residual-in_err-build_list.ensures.1 in
-    rw (p.1, p.2) (stops-at 4 (later_slice_rules (slices_by c.args.slices.now) (slice_at c.args.head.now.place c.args.head.now.header.now [])) _
-    (_, c.in_ok-check_type.ensures, (_, c.in_ok-check_same_type.ensures,
-        (_, c.in_ok-check_idr_num.ensures, (_, c.in_ok-check_qp.ensures, (rw c.requires.numbered at c.in_err-build_list.ensures.judged))))))
+    rw (p.1, p.2) (stops-at 4 (later_slice_rules (slices_by c.args.slices.now) (slice_at c.args.head.now.place c.args.head.now.header.now [])) _ (
+      _,
+      c.in_ok-check_type.ensures,
+      (
+        _,
+        c.in_ok-check_same_type.ensures,
+        (_, c.in_ok-check_idr_num.ensures, (_, c.in_ok-check_qp.ensures, (rw c.requires.numbered at c.in_err-build_list.ensures.judged))),
+      ),
+    ))
 
 pub returns-clause-judged : goal.returns-clause-judged
-returns-clause-judged c = answers-last (later_slice_rules (slices_by c.args.slices.now) (slice_at c.args.head.now.place c.args.head.now.header.now [])) _
-    (_, c.in_ok-check_type.ensures, (_, c.in_ok-check_same_type.ensures,
-        (_, c.in_ok-check_idr_num.ensures, (_, c.in_ok-check_qp.ensures,
-        (_, (rw c.requires.numbered at c.in_ok-build_list.ensures.judged), c.check_marking.ensures)))))
+returns-clause-judged c = answers-last (later_slice_rules (slices_by c.args.slices.now) (slice_at c.args.head.now.place c.args.head.now.header.now [])) _ (
+  _,
+  c.in_ok-check_type.ensures,
+  (
+    _,
+    c.in_ok-check_same_type.ensures,
+    (
+      _,
+      c.in_ok-check_idr_num.ensures,
+      (
+        _,
+        c.in_ok-check_qp.ensures,
+        (_, (rw c.requires.numbered at c.in_ok-build_list.ensures.judged), c.check_marking.ensures),
+      ),
+    ),
+  ),
+)
 
 pub returns-clause-typed : goal.returns-clause-typed
 returns-clause-typed c = on-ok c.check_marking.result (type-met c.args.head.now.place.sps.now c.args.head.now.header.now _ c.in_ok-check_type.ensures)

@@ -60,6 +60,12 @@ returns-in_err-check_qp c =
     })
 
 pub returns-clause-judged : goal.returns-clause-judged
-returns-clause-judged c = λ pictures kept. answers-last (new_rules c.args.slices.now c.args.head.now pictures) _
-    (_, c.in_ok-check_id.ensures, (_, (rw c.from-bit.ensures.value at (c.in_ok-count_picture.ensures.judged pictures kept)),
-        (_, c.in_ok-check_qp.ensures, (rw c.requires.numbered at c.build_list.ensures.judged))))
+returns-clause-judged c = λ pictures kept. answers-last (new_rules c.args.slices.now c.args.head.now pictures) _ (
+  _,
+  c.in_ok-check_id.ensures,
+  (
+    _,
+    (rw c.from-bit.ensures.value at (c.in_ok-count_picture.ensures.judged pictures kept)),
+    (_, c.in_ok-check_qp.ensures, (rw c.requires.numbered at c.build_list.ensures.judged)),
+  ),
+)
