@@ -4,8 +4,9 @@
 //! what is chosen. `pages` writes what a survey has, as text, as objects of JSON, or as a page. `rules` has what is said of each rule and each feature.
 //!
 //! Promised: what a survey has of the calls that were taken (`specs/Surveyed.antt`); that a sink round which another stands took each call, or what
-//! `Rattle.h264_lines.specs.Chosen` leaves of them; that each rule and each feature has its entry; a text within a string of JSON; and the fields of a verdict
-//! (`specs/Pages.antt`). Nothing else is promised of the texts, plots and pictures of a page.
+//! `Rattle.h264_lines.specs.Chosen` leaves of them; that each rule and each feature has its entry; a text within a string of JSON, and one within HTML; the
+//! fields of a verdict (`specs/Pages.antt`), and those of where it stands (`specs/Places.antt`); and why an input is no stream for this program, with the
+//! command that extracts one (`specs/Reasons.antt`). Nothing else is promised of the texts, plots and pictures of a page.
 #![tactic(auto)]
 
 mod json;

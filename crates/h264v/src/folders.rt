@@ -12,7 +12,7 @@ use std::{fs, io};
 const FOLDER_BYTES: usize = 4096;
 
 /// What a name in a folder stands for.
-#[derive(Clone, Copy, PartialEq, Eq)]
+#[derive(Clone, Copy)]
 enum Kind {
     Folder,
     /// A file, or what can't be looked into, so that its reading fails and is told.
