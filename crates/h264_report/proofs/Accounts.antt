@@ -25,7 +25,7 @@ use Rattle.h264_base.specs.declared.summary.Summary.{Summary}
 use Rattle.h264_verify.specs.declared.state.Terms.{Terms}
 use Rattle.h264_verify.specs.Units.{terms_of, extent_by}
 use Rattle.h264_verify.specs.Telling.{Family}
-use Rattle.h264_verify.proofs.OneVerdict.{judges-judged, none-judged}
+use Rattle.h264_verify.proofs.OneVerdict.{none-judged}
 use Rattle.h264_verify.proofs.AccountTaken.{accounts, front-of}
 
 -- ---- with another answer
@@ -314,9 +314,7 @@ pub none-checked : (target : Target) (bytes : List ℕ) (ending : Ending) (old n
 none-checked target bytes ending old new e t =
     let none : ℕ = 0 in
     let took : Unit {0} → List Call → Type 0 = λ s calls. Unit {0} in
-    let j = judges-judged (terms_of modes.Verdict target) took (λ s. none) bytes None tt tt (Err Memory)
-    (none-judged (terms_of modes.Verdict target) took (λ s. none) bytes None tt tt) in
-    let a = (accounts j tt).0 in
+    let a = (accounts (none-judged (terms_of modes.Verdict target) took (λ s. none) bytes None tt tt) tt).0 in
     let c : Checks target bytes (record { answer = Err Memory; written = ending.written }) (wrote old new) = record { account = a; text = t } in
     subst (λ x. Checks target bytes (record { answer = x; written = ending.written }) (wrote old new)) (sym e) c
 

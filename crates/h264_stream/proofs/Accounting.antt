@@ -12,16 +12,14 @@ use Rattle.h264_verify.specs.Telling.{Told, Family, AreDecoded, took_with}
 use Rattle.h264_verify.specs.Verdict.{Judged}
 use Rattle.h264_base.specs.declared.summary.Summary.{Summary}
 use Rattle.h264_verify.specs.declared.state.Terms.{Terms}
-use Rattle.h264_verify.proofs.FamiliesByPurpose.{some-family, with-family}
-use Rattle.h264_verify.proofs.OneVerdict.{judges-judged, none-judged}
+use Rattle.h264_verify.proofs.FamiliesByPurpose.{some-family, some-family-for}
+use Rattle.h264_verify.proofs.OneVerdict.{none-judged}
 
 pub none-account : (terms : Terms) (bytes : List ℕ) → Account terms bytes (Err Memory)
 none-account terms bytes =
     let none : ℕ = 0 in
     let took : Unit {0} → List Call → Type 0 = λ s calls. Unit {0} in
-    let j = judges-judged terms took (λ s. none) bytes (some-family terms.purpose) tt tt (Err Memory)
-    (with-family terms.purpose (λ frames h. none-judged terms took (λ s. none) bytes frames tt h)) in
-    accounted j tt tt
+    accounted (none-judged terms took (λ s. none) bytes (some-family terms.purpose) tt (some-family-for terms.purpose)) tt tt
 
 -- the stream stops within its bytes
 pub stopped-account : {S : Type 0} {failures : S → ℕ} {terms : Terms} {bytes : List ℕ} {frames : Family} {s s' : S} {answer : Result Summary Stop} →

@@ -28,12 +28,6 @@ agree-less m n None (Some others) h a = absurd a
 agree-less m n (Some frames) None h a = absurd a
 agree-less m n (Some frames) (Some others) h a = λ k l. a k (omega (arith, h, l))
 
-pub agree-back : (n : ℕ) (frames others : Family) → Agree n frames others → Agree n others frames
-agree-back n None None a = tt
-agree-back n None (Some others) a = absurd a
-agree-back n (Some frames) None a = absurd a
-agree-back n (Some frames) (Some others) a = λ k l. sym (a k l)
-
 pub agree-then : (n : ℕ) (frames others more : Family) → Agree n frames others → Agree n others more → Agree n frames more
 agree-then n None None None a b = tt
 agree-then n None None (Some more) a b = absurd b

@@ -26,7 +26,7 @@ use Rattle.h264_verify.specs.Family.{AreSameOn}
 use Rattle.h264_verify.proofs.FamiliesAgree.{of-both, of-more}
 use Rattle.h264_verify.proofs.UnitEnded.{unit-grows}
 use Rattle.h264_verify.proofs.LegalUnits.{HaveFrames}
-use Rattle.h264_verify.proofs.OneVerdict.{legal-unit}
+use Rattle.h264_verify.proofs.AfterLegal.{legal-unit}
 
 -- ---- a frame
 

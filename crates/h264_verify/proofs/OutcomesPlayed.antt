@@ -1,35 +1,14 @@
 -- How outcomes are put together.
-use Rattle.std.proofs.Common.{◌≡◌, ℕ, ◌+◌, Bool, true, false, List, [], ◌++◌, Result, Ok, Err, refl, ap, sym, ◌∙◌, subst, append_assoc, if◌then◌else◌}
+use Rattle.std.proofs.Common.{◌≡◌, ℕ, ◌+◌, ◌⊎◌, inl, inr, Bool, true, false, List, [], ◌++◌, Result, Ok, Err, refl, ap, sym, ◌∙◌, subst, append_assoc, if◌then◌else◌}
+use Rattle.std.proofs.lemmas.List.{append-nil}
 use Rattle.h264_base.specs.declared.rule.Rule.{Rule}
 use Rattle.h264_base.specs.declared.stop.Stop.{Stop}
 use Rattle.h264_base.specs.declared.stop.Stop.TheVariants.{No, Outside, Memory, Read, Write}
-use Rattle.h264_base.specs.Call.{Call, span}
+use Rattle.h264_base.specs.Call.{span}
 use Rattle.h264_base.specs.Run.{run}
-use Rattle.h264_verify.specs.Telling.{Told, Tells, TellsFront, took_with, Family}
-use Rattle.h264_base.specs.Body.{Body}
-use Rattle.h264_base.specs.Grammar.{Grammar}
-use Rattle.h264_base.specs.Meets.{Reader, Meets, MeetsBy, Answers, AnswersBy, Is}
-use Rattle.h264_verify.specs.Outcome.{Outcome, ◌>>=◌, answers, gives, holds, with_calls, continued, Plays, PlaysBy, IsNamed, structure_outcome, value_of}
+use Rattle.h264_verify.specs.Telling.{Told, Tells, TellsFront}
+use Rattle.h264_verify.specs.Outcome.{Outcome, ◌>>=◌, answers, gives, with_calls, continued, Plays, PlaysBy, IsNamed}
 use Rattle.h264_verify.proofs.ToldTogether.{tells-none, tells-both}
-use Rattle.h264_verify.proofs.ToldAsIs.{elements-tell, elements-front}
-use Rattle.h264_verify.proofs.SessionFed.{begins}
-
-pub check-stops : {A S X : Type 0} (took : S → List Told → Type 0) (failures : S → ℕ) (view : X → A) (rule : Rule) (bit : ℕ) (test : Bool)
-    (next : Unit {0} → Outcome A) (s : S) (e : Stop) → (let r : Result (Unit {0}) Stop = Err e in r ≡ (if test then Ok tt else Err (No bit rule))) →
-    Plays (span took failures s s) view (holds rule bit test >>= next) (Err e)
-unfolding ◌>>=◌
-check-stops took failures view rule bit true next s e h = cc
-check-stops {X} took failures view rule bit false next s e h =
-    let f : No bit rule ≡ e = cc in
-    subst (λ x. Plays {X = X} (span took failures s s) view (answers (Err (No bit rule))) (Err x)) f (record { plays = (refl, tells-none took s, refl) })
-
-pub check-on : {A S X : Type 0} (took : S → List Told → Type 0) (failures : S → ℕ) (view : X → A) (rule : Rule) (bit : ℕ) (test : Bool)
-    (next : Unit {0} → Outcome A) (s s' : S) (x : Unit {0}) (r : Result X Stop) →
-    (let r : Result (Unit {0}) Stop = Ok x in r ≡ (if test then Ok tt else Err (No bit rule))) → Plays (span took failures s s') view (next tt) r →
-    Plays (span took failures s s') view (holds rule bit test >>= next) r
-unfolding ◌>>=◌
-check-on took failures view rule bit true next s s' x r h p = p
-check-on took failures view rule bit false next s s' x r h p = cc
 
 -- a rule that is not met is no want of memory
 pub no-memory : (b : Bool) (bit : ℕ) (rule : Rule) (e : Stop) → (let r : Result (Unit {0}) Stop = Err e in r ≡ (if b then Ok tt else Err (No bit rule))) →
@@ -41,9 +20,25 @@ no-memory false bit rule e h m = cc
 pub err-as : {A B : Type 0} (e e' : Stop) → (let r : Result A Stop = Err e in r ≡ Err e') → (let r : Result B Stop = Err e in r ≡ Err e')
 err-as {A} {B} e e' h = let k : e ≡ e' = cc in ap (λ (x : Stop). let r : Result B Stop = Err x in r) k
 
+-- the same stop of a call that gives another value
+pub told-as : {X Y : Type 0} {a b : ℕ} {told : Stop} (stop : Stop) → (a ≡ b) ⊎ (let r : Result X Stop = Err stop in r ≡ Err told) → (a ≡ b) ⊎
+    (let r : Result Y Stop = Err stop in r ≡ Err told)
+told-as stop (inl e) = inl e
+told-as {X} {Y} {told = told} stop (inr e) = inr (err-as {A = X} {B = Y} stop told e)
+
+-- after calls at which none failed
+pub told-after : {W : Type 0} {a b c : ℕ} → b ≡ a → (c ≡ b) ⊎ W → (c ≡ a) ⊎ W
+told-after e (inl f) = inl (f ∙ e)
+told-after e (inr w) = inr w
+
 pub gives-plays : {A S X : Type 0} (took : S → List Told → Type 0) (failures : S → ℕ) (view : X → A) (x : X) (s : S) →
     Plays (span took failures s s) view (gives (view x)) (Ok x)
 gives-plays took failures view x s = record { plays = (refl, tells-none took s, refl) }
+
+begins : {A B : Type 0} (next : A → Outcome B) (calls : List Told) (answer : Result A Stop) → (rest : List Told) ×
+    ((continued calls next answer).calls ≡ calls ++ rest)
+begins next calls (Ok x) = ((next x).calls, refl)
+begins next calls (Err e) = ([], sym (append-nil calls))
 
 pub plays-stops : {A B S X Y : Type 0} (took : S → List Told → Type 0) (failures : S → ℕ) (view : X → A) (view' : Y → B) (run : Outcome A)
     (next : A → Outcome B) (s s' : S) (e : Stop) → Plays {X = X} (span took failures s s') view run (Err e) →
@@ -120,50 +115,10 @@ plays-not-read took failures view run s s' r p e = subst (λ x. PlaysBy (span to
 pub named-by : (e : Stop) (bit : ℕ) (rule : Rule) → e ≡ No bit rule → IsNamed e
 named-by e bit rule h = subst IsNamed (sym h) tt
 
-pub plays-write : {A S X : Type 0} (took : S → List Told → Type 0) (failures : S → ℕ) (view : X → A) (o : Outcome A) (s s' : S) (r : Result X Stop) →
-    Plays (span took failures s s') view o r → r ≡ Err Write → failures s' ≡ failures s + 1
-plays-write took failures view o s s' r p e = let q = subst (λ x. PlaysBy (span took failures s s') view o x) e p.plays in q.1
-
 -- memory was refused before anything more was told
 pub memory-plays : {A S X : Type 0} (took : S → List Told → Type 0) (failures : S → ℕ) (view : X → A) (o : Outcome A) (s : S) →
     Plays {X = X} (span took failures s s) view o (Err Memory)
 memory-plays took failures view o s = record { plays = (record { front = []; rest = o.calls; whole = refl; tells = tells-none took s }, refl) }
-
--- What meets a grammar from the first bit on plays its outcome.
-module _ {A S X : Type 0} (frames : Family) (took : S → List Call → Type 0) (failures : S → ℕ) (view : X → A) (g : Grammar A) (body : Body) (j : ℕ)
-    (s s' : S) where
-  by-meets : (r : Result X Stop) → MeetsBy (span took failures s s') (Is view) g (record { body = body; at = 0 }) j r →
-      AnswersBy (span took failures s s') (Is view) g (record { body = body; at = 0 }) j r →
-      PlaysBy (span (took_with frames took) failures s s') view (structure_outcome g body) r
-  by-meets (Ok x) m a = (ap value_of m.2 ∙ ap Ok m.1, elements-tell frames took s s' body (run g body 0).elements m.3, m.4)
-  by-meets (Err (No bit rule)) m a = (ap value_of m.0, elements-tell frames took s s' body (run g body 0).elements m.1, m.2)
-  by-meets (Err (Outside bit feature)) m a = (ap value_of m.0, elements-tell frames took s s' body (run g body 0).elements m.1, m.2)
-  by-meets (Err Memory) m a = absurd a
-  by-meets (Err Read) m a = absurd a
-  by-meets (Err Write) m a = (elements-front frames took s s' body (run g body 0).elements m.0, m.1)
-
-pub meets-plays : {A S X : Type 0} (frames : Family) (took : S → List Call → Type 0) (failures : S → ℕ) (view : X → A) (g : Grammar A) (body : Body)
-    (old new : Reader) (s s' : S) (r : Result X Stop) → old ≡ record { body = body; at = 0 } → Meets (span took failures s s') (Is view) g old new r →
-    Answers (span took failures s s') (Is view) g old new r → Plays (span (took_with frames took) failures s s') view (structure_outcome g body) r
-meets-plays frames took failures view g body old new s s' r e m a =
-    let m' = subst (λ o. Meets (span took failures s s') (Is view) g o new r) e m in
-    let a' = subst (λ o. Answers (span took failures s s') (Is view) g o new r) e a in
-    record { plays = by-meets frames took failures view g body new.at s s' r m'.meets a' }
-
--- what is played is wrapped
-pub plays-gives : {A B S X : Type 0} (took : S → List Told → Type 0) (failures : S → ℕ) (found : X → A) (view : A → B) (o : Outcome A) (s s' : S)
-    (r : Result X Stop) → Plays (span took failures s s') found o r → Plays (span took failures s s') (λ x. view (found x)) (o >>= λ x. gives (view x)) r
-plays-gives took failures found view o s s' (Ok x) p =
-    plays-on took failures found (λ x. view (found x)) o (λ x. gives (view x)) s s' s' x (Ok x) p (gives-plays took failures (λ x. view (found x)) x s')
-plays-gives took failures found view o s s' (Err e) p = plays-stops took failures found (λ x. view (found x)) o (λ x. gives (view x)) s s' e p
-
--- a value given after what was played
-pub plays-then : {A S : Type 0} (took : S → List Told → Type 0) (failures : S → ℕ) (o : Outcome (Unit {0})) (y : A) (s s' : S) (r : Result (Unit {0}) Stop) →
-    Plays (span took failures s s') (λ (x : Unit {0}). x) o r → Plays (span took failures s s') (λ (x : Unit {0}). y) (o >>= λ _. gives y) r
-plays-then took failures o y s s' (Ok x) p =
-    plays-on took failures (λ (x : Unit {0}). x) (λ (x : Unit {0}). y) o (λ _. gives y) s s' s' x (Ok x) p
-    (gives-plays took failures (λ (x : Unit {0}). y) x s')
-plays-then took failures o y s s' (Err e) p = plays-stops took failures (λ (x : Unit {0}). x) (λ (x : Unit {0}). y) o (λ _. gives y) s s' e p
 
 -- the same outcome
 pub plays-as : {A S X : Type 0} (took : S → List Told → Type 0) (failures : S → ℕ) (view : X → A) (o p : Outcome A) (s s' : S) (r : Result X Stop) → o ≡ p →

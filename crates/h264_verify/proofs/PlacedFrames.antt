@@ -46,11 +46,6 @@ use Rattle.h264_verify.proofs.OutcomesPlayed.{plays-on, plays-stops}
 use Rattle.h264_verify.proofs.ToldFrames.{IsLentFor, decodes-plays, end-outcome, writes-plays}
 use Rattle.h264_base.proofs.Plain.{first-false}
 
--- a frame of this size is lent
-pub some-frame : (w h : ℕ) (o : Option Frame) → IsFrameOf w h o → (f : Frame) × (o ≡ Some f) × IsFrame f (16 * w) (16 * h)
-some-frame w h None k = absurd k
-some-frame w h (Some f) k = (f, refl, k)
-
 buffer-some : (sps : Sps) → 0 < buffer_size sps
 unfolding buffer_size
 buffer-some sps = omega arith

@@ -1,169 +1,197 @@
--- The end of the input.
-use Rattle.std.proofs.Common.{◌≡◌, ℕ, ◌+◌, ◌*◌, ◌⊎◌, inl, inr, ◌↔◌, Bool, true, false, IsFalse, List, [], ◌∷◌, ◌++◌, length, Some, Result, Ok, Err, refl, ap}
-use Rattle.std.proofs.Common.{sym, ◌∙◌, subst, ◌<◌, arith}
+-- The end of the input of a session.
+use Rattle.std.proofs.Common.{◌≡◌, ℕ, ◌+◌, ◌*◌, ◌<◌, ◌==◌, ◌||◌, ◌&&◌, Bool, true, false, IsFalse, List, [], ◌∷◌, ◌++◌, length}
+use Rattle.std.proofs.Common.{Result, Ok, Err, refl, ap, sym, ◌∙◌, subst, arith, append_assoc}
 use Rattle.std.proofs.lemmas.List.{append-nil}
-use Rattle.h264_base.specs.Call.{span}
 use Rattle.h264_base.specs.declared.stop.Stop.{Stop}
 use Rattle.h264_base.specs.declared.stop.Stop.TheVariants.{No, Outside, Memory, Read, Write}
-use Rattle.h264_verify.specs.Telling.{Told}
-use Rattle.h264_units.specs.Stream.{NalUnit, Next, past, Tail, Splits, Zeros, Stray, Bare, Long, Cut, HasTail, tail_stop}
+use Rattle.h264_base.specs.declared.summary.Summary.{Summary}
+use Rattle.h264_base.specs.Call.{Call, span}
+use Rattle.h264_units.specs.Stream.{NalUnit, Next, past, Zeros, HasTail, Splits}
 use Rattle.h264_units.specs.Splitting.{Splitting, Taken, Finished, FinishStops}
-use Rattle.h264_units.proofs.Streams.{same-units}
-use Rattle.h264_verify.specs.Outcome.{Outcome, ◌>>=◌, answers, Plays, PlaysBy, IsNamed}
-use Rattle.h264_verify.specs.Judging.{Judging, tail_outcome, units_outcome, Comes}
-use Rattle.h264_verify.specs.Session.{Standing, ToCome, Lacking, Finishes}
-use Rattle.h264_verify.proofs.SessionUnits.{splits-first}
-use Rattle.h264_verify.proofs.LacksMemory.{same-stop, lacks-bytes, lacks-unit}
-use Rattle.h264_verify.proofs.SessionFed.{GrowsBy, tail-answer, tail-stops, first-judged}
-use Rattle.h264_verify.proofs.OutcomesPlayed.{err-as, memory-plays, plays-stops, plays-on, plays-not-read, plays-write, answers-plays}
+use Rattle.h264_units.proofs.Streams.{same-units, first-length}
+use Rattle.h264_verify.specs.declared.state.Extent.{Extent}
+use Rattle.h264_verify.specs.declared.state.State.{State}
+use Rattle.h264_verify.specs.declared.state.Terms.{Terms}
+use Rattle.h264_verify.specs.History.{History}
+use Rattle.h264_verify.specs.Keeping.{ended_in}
+use Rattle.h264_verify.specs.Memory.{ChangesFormat, is_read}
+use Rattle.h264_verify.specs.Outcome.{Outcome, PlaysBy}
+use Rattle.h264_verify.specs.Telling.{Told, Tells, Family, took_with, frame_span}
+use Rattle.h264_verify.specs.Turning.{Turns, Pauses, EndsAll}
+use Rattle.h264_verify.specs.UnitOutcome.{unit_outcome, unit_to_data, end_outcome}
+use Rattle.h264_verify.specs.Units.{extent_by}
+use Rattle.h264_verify.specs.Verdict.{in_order, AreLegal, AtEnd, Verdict, Whole}
+use Rattle.h264_verify.specs.Verdict.{JudgedBy}
+use Rattle.h264_verify.specs.Progress.{Progress, going, LastIsRead}
+use Rattle.h264_verify.specs.declared.state.Depth.{Depth}
+use Rattle.h264_units.specs.UnitHeader.{header_of, nal_unit_type, is_slice}
+use Rattle.h264_verify.specs.Feeding.{WasFed, ComesTo}
+use Rattle.h264_verify.proofs.AfterLegal.{holds-after, stops-after, after-end, joined, ended, unended}
+use Rattle.h264_verify.proofs.CourseOutcome.{outcome}
+use Rattle.h264_verify.proofs.FamiliesAgree.{tells-agree}
+use Rattle.h264_verify.proofs.SessionUnits.{next-some, shows-length}
+use Rattle.h264_verify.proofs.UnitEnded.{unit-grows}
+use Rattle.h264_verify.proofs.SessionSteps.{comes-as, agree-both, judged-after}
+use Rattle.h264_verify.proofs.SessionRest.{comes-memory, comes-tail, comes-unit, rest-tail, rest-from}
 
-nothing-more : {State Summary : Type 0} (j : Judging State Summary) (p : Standing State) (o : Outcome Summary) → ToCome j p [] o →
-    Comes j p.split.at p.state p.split.rest o
-nothing-more j p o c = subst (λ l. Comes j p.split.at p.state l o) (append-nil p.split.rest) c
+-- what the end comes to after legal units
+module _ {S : Type 0} (extent : Extent) (took : S → List Told → Type 0) (failures : S → ℕ) (bytes : List ℕ) (before : History) (told : List Told)
+    (legal : AreLegal extent before told) (stream : Splits 0 bytes (in_order before []) Zeros) (s s' : S) where
+  abbrev end_comes : Outcome Summary
+  end_comes = end_outcome extent.depth before (8 * length bytes)
 
-tail-named : (tail : Tail) (stop : Stop) → tail_stop tail ≡ Some stop → IsNamed stop
-tail-named tail (No bit rule) e = tt
-tail-named tail (Outside bit feature) e = tt
-tail-named Zeros Memory e = cc
-tail-named (Stray p) Memory e = cc
-tail-named (Bare p) Memory e = cc
-tail-named (Long p) Memory e = cc
-tail-named Cut Memory e = cc
-tail-named Zeros Read e = cc
-tail-named (Stray p) Read e = cc
-tail-named (Bare p) Read e = cc
-tail-named (Long p) Read e = cc
-tail-named Cut Read e = cc
-tail-named Zeros Write e = cc
-tail-named (Stray p) Write e = cc
-tail-named (Bare p) Write e = cc
-tail-named (Long p) Write e = cc
-tail-named Cut Write e = cc
+  abbrev EndPlays : Result Summary Stop → Type 0
+  EndPlays r = PlaysBy (span took failures s s') (λ (x : Summary). x) end_comes r
 
--- no write failed, or that is told
-told-by : {X A S : Type 0} (took : S → List Told → Type 0) (failures : S → ℕ) (view : X → A) (o : Outcome A) (s s' : S) (r : Result X Stop) →
-    PlaysBy (span took failures s s') view o r → (failures s' ≡ failures s) ⊎ (r ≡ Err Write)
-told-by took failures view o s s' (Ok x) p = inl p.2
-told-by took failures view o s s' (Err (No bit rule)) p = inl p.2
-told-by took failures view o s s' (Err (Outside bit feature)) p = inl p.2
-told-by took failures view o s s' (Err Memory) p = inl p.1
-told-by took failures view o s s' (Err Read) p = absurd p
-told-by took failures view o s s' (Err Write) p = inr refl
+  end-stop : (stop : Stop) → end_comes.answer ≡ Err stop → Tells took s s' end_comes.calls → Whole extent (span took failures s s') bytes told (Err stop)
+  end-stop stop e t = record {
+    more = end_comes.calls;
+    tells = t;
+    verdict = stops-after extent bytes before told legal [] Zeros end_comes.calls stop stream
+        (AtEnd refl refl (unended extent before (8 * length bytes) end_comes.calls stop (ap (λ (a : Result Summary Stop). outcome end_comes.calls a) e)));
+  }
 
--- after calls at which none failed
-pub told-after : {W : Type 0} {a b c : ℕ} → b ≡ a → (c ≡ b) ⊎ W → (c ≡ a) ⊎ W
-told-after e (inl f) = inl (f ∙ e)
-told-after e (inr w) = inr w
+  end-whole : (x : Summary) → end_comes.answer ≡ Ok x → Tells took s s' end_comes.calls → Whole extent (span took failures s s') bytes told (Ok x)
+  end-whole x e t =
+      let h = ended extent before (8 * length bytes) end_comes.calls x (ap (λ (a : Result Summary Stop). outcome end_comes.calls a) e) in
+      record {
+        more = end_comes.calls;
+        tells = t;
+        verdict = subst (λ (w : Summary). Verdict extent bytes (told ++ end_comes.calls) (Ok w)) (sym h.summary_is)
+            (holds-after extent bytes before told end_comes.calls legal stream h.met);
+      }
 
--- the same stop of a call that gives another value
-pub told-as : {X Y : Type 0} {a b : ℕ} {told : Stop} (stop : Stop) → (a ≡ b) ⊎ (let r : Result X Stop = Err stop in r ≡ Err told) → (a ≡ b) ⊎
-    (let r : Result Y Stop = Err stop in r ≡ Err told)
-told-as stop (inl e) = inl e
-told-as {X} {Y} {told = told} stop (inr e) = inr (err-as {A = X} {B = Y} stop told e)
+  end-judged : (r : Result Summary Stop) → EndPlays r → (r ≡ Err Memory → ⊥) → JudgedBy extent (span took failures s s') bytes told r
+  end-judged (Ok x) p n = (end-whole x p.0 p.1, p.2)
+  end-judged (Err (No bit rule)) p n = (end-stop (No bit rule) p.0 p.1, p.2)
+  end-judged (Err (Outside bit feature)) p n = (end-stop (Outside bit feature) p.0 p.1, p.2)
+  end-judged (Err Memory) p n = absurd (n refl)
+  end-judged (Err Read) p n = absurd p
+  end-judged (Err Write) p n =
+      let v = after-end extent bytes before told legal stream in (
+        record {
+          more = p.0.front;
+          tells = p.0.tells;
+          rest = p.0.rest ++ v.calls;
+          answer = v.answer;
+          verdict = subst (λ l. Verdict extent bytes l v.answer)
+              (ap (λ l. (told ++ l) ++ v.calls) p.0.whole ∙ ap (λ l. l ++ v.calls) (sym (append_assoc told p.0.front p.0.rest)) ∙
+              append_assoc (told ++ p.0.front) p.0.rest v.calls) v.verdict;
+        },
+        p.1,
+      )
 
-pub named-not-memory : (tail : Tail) (stop : Stop) → tail_stop tail ≡ Some stop → stop ≡ Memory → ⊥
-named-not-memory tail stop e m = let n : IsNamed Memory = subst IsNamed m (tail-named tail stop e) in n
+-- the session's last place is the end of the input
+last-place : {terms : Terms} {session : Progress} {bytes : List ℕ} {frames : Family} {told : List Told} (f : WasFed terms session bytes frames told) →
+    session.split.at + length session.split.rest ≡ length bytes
+last-place {session} {bytes} f = let e = shows-length 0 bytes (in_order f.before []) session.split.at session.split.rest f.shown in omega (arith, e)
 
--- memory was refused for the bytes of the last unit
-pub finish-bytes : {State Summary : Type 0} (j : Judging State Summary) {S : Type 0} (took : S → List Told → Type 0) (failures : S → ℕ) (old : Standing State)
-    (s : S) → 0 < length old.split.rest → Finishes {Summary = Summary} j (span took failures s s) old (Err Memory)
-finish-bytes {Summary} j took failures old s some = record {
-  finishes = λ o c. memory-plays took failures (λ (x : Summary). x) o s;
-  no_read = λ e. let n = same-stop {X = Summary} Memory Read e in cc;
-  write = λ e. absurd (let n = same-stop {X = Summary} Memory Write e in cc);
-  write_told = inl refl;
-  lacks = λ e. lacks-bytes j took old.split.at old.state (old.split.rest ++ []) s
-      (λ h. let n = ap (λ (l : List ℕ). length l) (append-nil old.split.rest) in omega arith);
+module _ {split mid new : Splitting} {unit : NalUnit} (finished : Finished split mid) (taken : Taken mid new unit) where
+  last-next : Next split.at (split.rest ++ []) unit new.rest
+  last-next = subst (λ a. Next a (split.rest ++ []) unit new.rest) finished.at_is
+      (subst (λ l. Next mid.at l unit new.rest) (finished.rest_is ∙ sym (append-nil split.rest)) taken.next)
+
+  last-length : new.at + length new.rest ≡ split.at + length split.rest
+  last-length = ap (λ a. a + length new.rest) taken.at_is ∙ first-length split.at (split.rest ++ []) unit new.rest last-next.first ∙
+      ap (λ (l : List ℕ). split.at + length l) (append-nil split.rest)
+
+module _ {terms : Terms} {split : Splitting} {state : State} {bytes : List ℕ} {frames : Family} {told : List Told}
+    (f : WasFed terms (going terms split state) bytes frames told) {S : Type 0} {took : S → List Call → Type 0} {failures : S → ℕ} where
+  -- what is left leads to a stop
+  pub finish-stops : (new : Splitting) (s : S) (stop : Stop) → FinishStops split new stop → ComesTo f (span took failures s s) bytes (Err stop)
+  finish-stops new s stop h = comes-as f (append-nil bytes) (comes-tail f [] took failures s h.tail stop
+      (subst (λ l. HasTail split.at l h.tail) (sym (append-nil split.rest)) h.stands) h.stop_is)
+
+  -- memory was refused for the bytes of the last unit
+  pub finish-memory : (s : S) (stop : Stop) → stop ≡ Memory → 0 < length split.rest → ComesTo f (span took failures s s) bytes (Err stop)
+  finish-memory s stop e some =
+      subst (λ (x : Stop). ComesTo f (span took failures s s) bytes (Err x)) (sym e)
+      (comes-as f (append-nil bytes) (comes-memory f [] took failures s (subst (λ (l : List ℕ). 0 < length l) (sym (append-nil split.rest)) some)))
+
+  module _ {mid : Splitting} (finished : Finished split mid) where
+    -- no unit is left
+    pub finish-end : (new : Splitting) (s s' : S) (end : ℕ) (r : Result Summary Stop) → IsFalse mid.waiting → new ≡ mid → end ≡ new.at + length new.rest →
+        (r ≡ Err Memory → ⊥) → EndsAll terms.depth (frame_span took failures frames s s') f.before (8 * end) (λ (x : Summary). x) r →
+        ComesTo f (span took failures s s') bytes r
+    finish-end new s s' end r w e n quiet last =
+        let l : end ≡ length bytes =
+        n ∙ ap (λ (z : Splitting). z.at + length z.rest) e ∙ ap (λ a. a + length mid.rest) finished.at_is ∙
+        ap (λ (l : List ℕ). split.at + length l) finished.rest_is ∙ last-place f in
+        let stream : Splits 0 bytes (in_order f.before []) Zeros = subst (λ l. Splits 0 l (in_order f.before []) Zeros) (append-nil bytes)
+        (rest-tail f [] Zeros (subst (λ l. HasTail split.at l Zeros) (sym (append-nil split.rest)) (finished.zeros w))) in
+        record {
+          made = last.made;
+          same = last.same;
+          judged = end-judged (extent_by terms) (took_with last.made took) failures bytes f.before told f.legal stream s s' r
+              (subst (λ z. PlaysBy (span (took_with last.made took) failures s s') (λ (x : Summary). x) (end_outcome terms.depth f.before (8 * z)) r) l
+              last.plays.plays) quiet;
+        }
+
+    module _ {new : Splitting} {unit : NalUnit} (taken : Taken mid new unit) where
+      -- the last unit stops the session
+      pub finish-unit : (state' : State) (stop : Stop) (s s' : S) →
+          Turns {X = Unit {0}} (extent_by terms) (frame_span took failures frames s s') f.before unit state' (Err stop) →
+          (stop ≡ Memory → ChangesFormat terms.depth f.before unit
+          × Pauses (frame_span took failures frames s s') (ended_in f.before) (unit_to_data (extent_by terms) f.before unit)) →
+          ComesTo f (span took failures s s') bytes (Err stop)
+      finish-unit state' stop s s' t m =
+          comes-as f (append-nil bytes) (comes-unit f [] took failures unit new.rest (last-next finished taken) state' stop s s' t m)
+
+      -- it is legal, and then comes the end
+      pub finish-both : {later : State} (s s' s'' : S) (x : Unit {0}) (end : ℕ) (r : Result Summary Stop) → end ≡ new.at + length new.rest →
+          (r ≡ Err Memory → ⊥) → (t : Turns {X = Unit {0}} (extent_by terms) (frame_span took failures frames s s') f.before unit later (Ok x)) →
+          EndsAll terms.depth (frame_span took failures t.made s' s'') t.after (8 * end) (λ (y : Summary). y) r →
+          ComesTo f (span took failures s s'') bytes r
+      finish-both s s' s'' x end r n quiet t last =
+          let ext = extent_by terms in
+          let o = unit_outcome ext f.before unit in
+          let grows = unit-grows ext f.before t.after unit t.plays.plays.0 in
+          let j = joined ext f.before unit o.calls t.after (ap (λ (a : Result History Stop). outcome o.calls a) t.plays.plays.0) in
+          let legal : AreLegal ext t.after (told ++ o.calls) =
+          subst (λ (h : History). AreLegal ext h (told ++ o.calls)) (sym j.after_is) (told, o.calls, f.legal, j.legal, refl) in
+          let from = rest-from f [] unit new.rest (last-next finished taken) in
+          let none = same-units (past unit) new.rest from.units [] from.tail Zeros from.left
+          (subst (λ a. HasTail a new.rest Zeros) taken.at_is (taken.last finished.ended_is)) in
+          let stream : Splits 0 bytes (in_order t.after []) Zeros =
+          subst (λ (h : History). Splits 0 bytes (in_order h []) Zeros) (sym j.after_is)
+          (subst (λ l. Splits 0 l (in_order f.before (unit ∷ [])) Zeros) (append-nil bytes)
+          (subst (λ z. Splits 0 (bytes ++ []) (in_order f.before (unit ∷ [])) z) none.tail_is
+          (subst (λ us. Splits 0 (bytes ++ []) (in_order f.before (unit ∷ us)) from.tail) none.units_are from.stream))) in
+          let l : end ≡ length bytes = n ∙ last-length finished taken ∙ last-place f in
+          record {
+            made = last.made;
+            same = agree-both (ended_in f.before) (ended_in t.after) frames t.made last.made t.same grows.0 last.same;
+            judged = judged-after ext (took_with last.made took) failures bytes told o.calls s s' s''
+                (tells-agree took (ended_in t.after) t.made last.made s s' o.calls last.same grows.1 t.plays.plays.1) r t.plays.plays.2
+                (end-judged ext (took_with last.made took) failures bytes t.after (told ++ o.calls) legal stream s' s'' r
+                (subst (λ z. PlaysBy (span (took_with last.made took) failures s' s'') (λ (y : Summary). y) (end_outcome terms.depth t.after (8 * z)) r) l
+                last.plays.plays) quiet);
+          }
+
+-- ---- what memory may be wanting for at the end of the input
+
+-- a unit was left open, and is read
+pub last-read : (depth : Depth) (old mid new : Splitting) (unit : NalUnit) → Finished old mid → Taken mid new unit → is_read depth unit ≡ true →
+    LastIsRead depth old
+last-read depth old mid new unit f t r = record {
+  unit = unit;
+  rest = new.rest;
+  next = subst (λ (a : ℕ). Next a old.rest unit new.rest) f.at_is (subst (λ (l : List ℕ). Next mid.at l unit new.rest) f.rest_is t.next);
+  read = r;
 }
 
-pub finish-stops : {State Summary : Type 0} (j : Judging State Summary) {S : Type 0} (took : S → List Told → Type 0) (failures : S → ℕ) (old new : Splitting)
-    (state : State) (s : S) (stop : Stop) → FinishStops old new stop → Finishes j (span took failures s s) (record { split = old; state = state }) (Err stop)
-finish-stops {Summary} j took failures old new state s stop f =
-    let p : Plays {X = Summary} (span took failures s s) (λ (x : Summary). x) (answers (Err stop)) (Err stop) =
-    answers-plays took failures stop s (tail-named f.tail stop f.stop_is) in
-    record {
-      finishes = λ o c.
-          let e = tail-answer j old.at state old.rest f.tail o f.stands (nothing-more j (record { split = old; state = state }) o c) ∙
-          tail-stops j state f.tail stop _ f.stop_is in
-          subst (λ r. Plays {X = Summary} (span took failures s s) (λ (x : Summary). x) r (Err stop)) (sym e) p;
-      no_read = plays-not-read took failures (λ (x : Summary). x) _ s s (Err stop) p;
-      write = plays-write took failures (λ (x : Summary). x) _ s s (Err stop) p;
-      write_told = inl refl;
-      lacks = λ e. absurd (named-not-memory f.tail stop f.stop_is (same-stop {X = Summary} stop Memory e));
-    }
+-- so bytes were left
+pub last-some : (old mid new : Splitting) (unit : NalUnit) → Finished old mid → Taken mid new unit → 0 < length old.rest
+last-some old mid new unit f t = subst (λ (l : List ℕ). 0 < length l) f.rest_is (next-some mid.at mid.rest unit new.rest t.next)
 
-pub finish-end : {State Summary : Type 0} (j : Judging State Summary) {S : Type 0} (took : S → List Told → Type 0) (failures : S → ℕ)
-    (old mid new : Splitting) (state : State) (s s' : S) (end : ℕ) (r : Result Summary Stop) → Finished old mid → IsFalse mid.waiting → new ≡ mid →
-    end ≡ new.at + length new.rest → (r ≡ Err Memory → ⊥) → Plays (span took failures s s') (λ (x : Summary). x) (j.end state (8 * end)) r →
-    Finishes j (span took failures s s') (record { split = old; state = state }) r
-finish-end {Summary} j took failures old mid new state s s' end r f w m n quiet p = record {
-  finishes = λ o c.
-      let e = tail-answer j old.at state old.rest Zeros o (f.zeros w) (nothing-more j (record { split = old; state = state }) o c) in
-      let k = n ∙ ap (λ (z : Splitting). z.at + length z.rest) m ∙ ap (λ a. a + length mid.rest) f.at_is ∙ ap (λ l. old.at + length l) f.rest_is in
-      subst (λ r'. Plays (span took failures s s') (λ (x : Summary). x) r' r) (ap (λ z. j.end state (8 * z)) k ∙ sym e) p;
-  no_read = plays-not-read took failures (λ (x : Summary). x) _ s s' r p;
-  write = plays-write took failures (λ (x : Summary). x) _ s s' r p;
-  write_told = told-by took failures (λ (x : Summary). x) _ s s' r p.plays;
-  lacks = λ e. absurd (quiet e);
-}
+or-slice : (x y z : Bool) → z ≡ true → (x || y || z && true) ≡ true
+or-slice true y z e = refl
+or-slice false true z e = refl
+or-slice false false true e = refl
+or-slice false false false e = cc
 
-last-judged : {State Summary : Type 0} (j : Judging State Summary) (old mid new : Splitting) (state : State) (unit : NalUnit) (o : Outcome Summary) →
-    Finished old mid → Taken mid new unit → ToCome j (record { split = old; state = state }) [] o →
-    o ≡ (j.unit state unit >>= λ s. j.end s (8 * (new.at + length new.rest)))
-last-judged j old mid new state unit o f t c =
-    let first = subst (λ a. Next a old.rest unit new.rest) f.at_is (subst (λ l. Next mid.at l unit new.rest) f.rest_is t.next) in
-    let k = first-judged j old.at state old.rest unit new.rest o first (nothing-more j (record { split = old; state = state }) o c) in
-    let z = subst (λ a. HasTail a new.rest Zeros) t.at_is (t.last f.ended_is) in
-    let same = same-units (past unit) new.rest k.units [] k.tail Zeros k.splits z in
-    k.is ∙ ap (λ us. j.unit state unit >>= λ s. units_outcome j s us k.tail (past unit + length new.rest)) same.units_are
-    ∙ ap (λ tail. j.unit state unit >>= λ s. tail_outcome j s tail (past unit + length new.rest)) same.tail_is
-    ∙ ap (λ a. j.unit state unit >>= λ s. j.end s (8 * (a + length new.rest))) (sym t.at_is)
-
-pub finish-unit-stops : {State Summary : Type 0} (j : Judging State Summary) {S X : Type 0} (took : S → List Told → Type 0) (failures : S → ℕ)
-    (view : X → State) (old mid new : Splitting) (state : State) (unit : NalUnit) (s s' : S) (stop : Stop) → Finished old mid → Taken mid new unit →
-    (p : Plays {X = X} (span took failures s s') view (j.unit state unit) (Err stop)) → GrowsBy {X = X} j took failures view state unit s s' stop p.plays →
-    Finishes j (span took failures s s') (record { split = old; state = state }) (Err stop)
-finish-unit-stops {State} {Summary} j {S} {X} took failures view old mid new state unit s s' stop f t p grows = record {
-  finishes = λ o c.
-      subst (λ r. Plays {X = Summary} (span took failures s s') (λ (x : Summary). x) r (Err stop)) (sym (last-judged j old mid new state unit o f t c))
-      (plays-stops took failures view (λ (x : Summary). x) (j.unit state unit) _ s s' stop p);
-  no_read = λ e. plays-not-read {X = X} took failures view _ s s' (Err stop) p (err-as {A = Summary} {B = X} stop Read e);
-  write = λ e. plays-write {X = X} took failures view _ s s' (Err stop) p (err-as {A = Summary} {B = X} stop Write e);
-  write_told = told-as {X = X} {Y = Summary} stop (told-by {X = X} took failures view _ s s' (Err stop) p.plays);
-  lacks = λ e. by stop p.plays grows (same-stop {X = Summary} stop Memory e);
-}
-  where
-    first : (units : List NalUnit) (tail : Tail) → Splits old.at (old.rest ++ []) units tail → (later : List NalUnit) × (units ≡ unit ∷ later)
-    first units tail sp =
-        let n = subst (λ a. Next a old.rest unit new.rest) f.at_is (subst (λ l. Next mid.at l unit new.rest) f.rest_is t.next) in
-        let r = splits-first old.at old.rest unit new.rest units tail n (subst (λ (l : List ℕ). Splits old.at l units tail) (append-nil old.rest) sp) in
-        (r.0, r.1)
-
-    by : (e : Stop) → (q : PlaysBy {X = X} (span took failures s s') view (j.unit state unit) (Err e)) →
-        GrowsBy {X = X} j took failures view state unit s s' e q → e ≡ Memory →
-        Lacking j (span took failures s s') old.at state (old.rest ++ [])
-    by (No bit rule) q g e = cc
-    by (Outside bit feature) q g e = cc
-    by Memory q g e = lacks-unit j took old.at state (old.rest ++ []) s s' unit q.0.front g q.0.tells first
-    by Read q g e = cc
-    by Write q g e = cc
-
-pub finish-unit : {State Summary : Type 0} (j : Judging State Summary) {S X : Type 0} (took : S → List Told → Type 0) (failures : S → ℕ) (view : X → State)
-    (old mid new : Splitting) (state : State) (unit : NalUnit) (s s' s'' : S) (end : ℕ) (x : X) (r : Result Summary Stop) → Finished old mid →
-    Taken mid new unit → Plays (span took failures s s') view (j.unit state unit) (Ok x) → end ≡ new.at + length new.rest → (r ≡ Err Memory → ⊥) →
-    Plays (span took failures s' s'') (λ (x : Summary). x) (j.end (view x) (8 * end)) r →
-    Finishes j (span took failures s s'') (record { split = old; state = state }) r
-finish-unit {Summary} j took failures view old mid new state unit s s' s'' end x r f t p n quiet q = record {
-  finishes = λ o c.
-      subst (λ w. Plays (span took failures s s'') (λ (x : Summary). x) w r) (sym (last-judged j old mid new state unit o f t c))
-      (plays-on took failures view (λ (x : Summary). x) (j.unit state unit) (λ s. j.end s (8 * (new.at + length new.rest))) s s' s'' x r p
-      (subst (λ z. Plays (span took failures s' s'') (λ (x : Summary). x) (j.end (view x) (8 * z)) r) n q));
-  no_read = plays-not-read took failures (λ (x : Summary). x) _ s' s'' r q;
-  write = λ e. plays-write took failures (λ (x : Summary). x) _ s' s'' r q e ∙ ap (λ n. n + 1) p.plays.2;
-  write_told = told-after p.plays.2 (told-by took failures (λ (x : Summary). x) _ s' s'' r q.plays);
-  lacks = λ e. absurd (quiet e);
-}
-
-pub not-waiting : (b : Bool) → ((false ≡ true) ↔ (b ≡ true)) → b ≡ false
-not-waiting true h = let e : false ≡ true = h.1 refl in cc
-not-waiting false h = refl
+-- a unit whose slice begins a picture of another format is
+pub changes-read : (depth : Depth) (before : History) (unit : NalUnit) → ChangesFormat depth before unit → is_read depth unit ≡ true
+changes-read depth before unit c =
+    let kind = nal_unit_type (header_of unit) in
+    subst (λ (m : Depth). is_read m unit ≡ true) (sym c.full) (or-slice (kind == 7) (kind == 8) (is_slice kind) c.slice)

@@ -104,10 +104,3 @@ pub ended-is : (before : History) (begins : Bool) (slice : CodedSlice) (slices :
     ended_picture (record { first = slice; later = [] }) (runs_of before)
 ended-is before true slice slices e b = rw (e.pictures_are, e.count) refl
 ended-is before false slice slices e b = cc
-
--- a slice has one pair of sets
-pub one-pair : (o : Option (Pps × Sps)) (x y : Pps × Sps) → o ≡ Some x → o ≡ Some y → x ≡ y
-one-pair o x y e f = by (sym e ∙ f)
-  where
-    by : Some x ≡ Some y → x ≡ y
-    by e = cc

@@ -1,5 +1,5 @@
 -- Rules one after another, and the sets of a slice.
-use Rattle.std.proofs.Common.{OnOk, IsTrue, IsFalse, ◌⊎◌, inl, inr, IfNone, ◌≡◌, ℕ, ◌*◌, Bool, true, false, List, [], ◌∷◌, ◌++◌, Option, Some, None}
+use Rattle.std.proofs.Common.{OnOk, IsTrue, IsFalse, ◌⊎◌, inl, inr, ◌≡◌, ℕ, ◌*◌, Bool, true, false, List, [], ◌∷◌, ◌++◌, Option, Some, None}
 use Rattle.std.proofs.Common.{Result, zero, suc}
 use Rattle.std.proofs.Common.{Ok, Err, refl, ap, sym, ◌∙◌, subst, append_assoc, ◌||◌, if◌then◌else◌}
 use Rattle.std.specs.Option.{is_some, option_map}
@@ -116,11 +116,6 @@ pub answers-last : (ds : List Demand) (r : Result (Unit {0}) Stop) → AnswersLa
 answers-last [] r h = absurd h
 answers-last (d ∷ []) r h = h
 answers-last (d ∷ (e ∷ ds)) r h = pass-one d (e ∷ ds) h.0 r h.1 (answers-last (e ∷ ds) r h.2)
-
--- what a None ensures, where there is no Some
-pub none-holds : {A : Type 0} {P : Type 0} (o : Option A) → IfNone o P → ((x : A) → o ≡ Some x → ⊥) → P
-none-holds None h n = h
-none-holds (Some x) h n = absurd (n x refl)
 
 pub content-active : (o : Option SetPair) (sps : Sps) → has_content sps o ≡ true → option_map (λ p. SetPair.sps p) o ≡ Some sps
 content-active None sps h = cc

@@ -1,69 +1,28 @@
--- What a session was fed. A working form.
-use Rattle.std.specs.Prelude.{◌≡◌, ◌≤◌, ℕ, List, [], ◌++◌, None, Option, Result}
+-- What a session was fed, and what comes of it as it goes on. A working form.
+use Rattle.std.specs.Prelude.{◌≡◌, ◌≤◌, ℕ, IsFalse, List, [], ◌∷◌, ◌++◌, Option, Some, None, Result}
 use Rattle.h264_verify.specs.declared.state.Terms.{Terms}
 use Rattle.h264_verify.specs.Units.{extent_by}
-use Rattle.h264_verify.specs.declared.state.Extent.{Extent}
 use Rattle.h264_base.specs.declared.stop.Stop.{Stop}
 use Rattle.h264_base.specs.Call.{Call, SinkSpan}
-use Rattle.h264_units.specs.Stream.{IsUndecided}
-use Rattle.h264_units.specs.Splitting.{Splitting, at_start}
+use Rattle.h264_units.specs.Stream.{NalUnit, Next, past, IsUndecided}
+use Rattle.h264_units.specs.Splitting.{Splitting}
 use Rattle.h264_verify.specs.declared.state.State.{State}
 use Rattle.h264_base.specs.declared.summary.Summary.{Summary}
-use Rattle.h264_verify.specs.Telling.{Told, Tells, Family, IsFamilyFor, FrameSpan, took_with, with_frames, Agree, AreOf}
-use Rattle.h264_verify.specs.Outcome.{Outcome, with_calls}
-use Rattle.h264_verify.specs.Judging.{Comes, judging}
+use Rattle.h264_verify.specs.Telling.{Told, Tells, Family, IsFamilyFor, took_with, with_frames, Agree, AreOf}
 use Rattle.h264_verify.specs.History.{History}
 use Rattle.h264_verify.specs.KeepingUnits.{Keeps}
 use Rattle.h264_verify.specs.Keeping.{ended_in}
-use Rattle.h264_verify.specs.Session.{Standing, Stretch, standing, stretch, ToCome, ShowsUnits, Goes, Stops, Finishes, Fed, Judges}
-use Rattle.h264_verify.specs.Verdict.{in_order, AreLegal, SameTold}
-use Rattle.h264_verify.specs.Progress.{Progress}
+use Rattle.h264_verify.specs.Verdict.{in_order, AreLegal, SameTold, JudgedBy}
+use Rattle.h264_verify.specs.Progress.{Progress, going}
 
--- where a session stands after these units
-abbrev pub standing_after : Splitting → History → Standing History
-standing_after split before = standing split before
-
--- However the input goes on, what comes of old is what the sink was told and what comes of where the session stands.
-pub record GoesOn {S : Type 0} (extent : Extent) (w : FrameSpan S) (p : Stretch History State) : Type 0 where
-  pub made : Family
-  pub same : Agree (ended_in p.old.state) w.frames made
-  pub after : History
-  pub grows : ended_in p.old.state ≤ ended_in after
-  pub keeps : Keeps extent.depth made after p.new.state
-  pub goes : Goes (judging extent) (with_frames made w.sink) (stretch p.old (standing_after p.new.split after) p.piece p.left)
-  pub of : AreOf (ended_in after) goes.calls
-
--- The stop is the stream's, however it goes on; or the sink failed, or memory was refused, when only its first calls were made.
-pub record StopsOn {S : Type 0} (extent : Extent) (w : FrameSpan S) (old : Standing History) (piece : List ℕ) (stop : Stop) : Type 0 where
-  pub made : Family
-  pub same : Agree (ended_in old.state) w.frames made
-  pub stops : Stops (judging extent) (with_frames made w.sink) old piece stop
-
--- The input ends here, and this is told and answered of it.
-pub record FinishesOn {S : Type 0} (extent : Extent) (w : FrameSpan S) (old : Standing History) (result : Result Summary Stop) : Type 0 where
-  pub made : Family
-  pub same : Agree (ended_in old.state) w.frames made
-  pub finishes : Finishes (judging extent) (with_frames made w.sink) old result
-
--- The source gave these bytes so far, less those that are left.
-pub record FedOn {S : Type 0} (terms : Terms) (w : SinkSpan S Call) (known : Option (List ℕ)) (bytes : List ℕ) (session : Progress) : Type 0 where
-  pub terms_is : session.terms ≡ terms
-  pub frames : Family
-  pub family : IsFamilyFor terms.purpose frames
-  pub after : History
-  pub keeps : Keeps session.terms.depth frames after session.state
-  pub fed : Fed (judging (extent_by terms)) (with_frames frames w) known bytes (standing_after at_start []) (standing_after session.split after)
-  pub of : AreOf (ended_in after) fed.goes.calls
-
--- With some frames, what was told and answered of these bytes, the whole input.
-pub record JudgesWith {S : Type 0} (terms : Terms) (w : SinkSpan S Call) (bytes : List ℕ) (result : Result Summary Stop) : Type 0 where
-  pub frames : Family
-  pub family : IsFamilyFor terms.purpose frames
-  pub judges : Judges (judging (extent_by terms)) [] (with_frames frames w) bytes result
+-- From this place on these bytes show these units, each with its end whatever follows, and after them stands this rest.
+abbrev pub ShowsUnits : ℕ → List ℕ → List NalUnit → ℕ → List ℕ → Type 0
+ShowsUnits at bytes [] end rest = (end ≡ at) × (rest ≡ bytes)
+ShowsUnits at bytes (unit ∷ units) end rest =
+    (left : List ℕ) × ((more : List ℕ) → Next at (bytes ++ more) unit (left ++ more)) × ShowsUnits (past unit) left units end rest
 
 -- The session was fed these bytes, and with these frames sinks were told this of them. It is that of all units whose ends these bytes
--- show, and these units are legal; and however the input goes on, what comes of the whole is this, and then what comes of
--- where the session stands.
+-- show, and these units are legal.
 pub record WasFed (terms : Terms) (session : Progress) (bytes : List ℕ) (frames : Family) (told : List Told) : Type 0 where
   pub terms_is : session.terms ≡ terms
   pub family : IsFamilyFor terms.purpose frames
@@ -74,8 +33,22 @@ pub record WasFed (terms : Terms) (session : Progress) (bytes : List ℕ) (frame
   pub undecided : IsUndecided session.split.rest
   pub legal : AreLegal (extent_by terms) before told
   pub of : AreOf (ended_in before) told
-  pub goes : (more : List ℕ) (o : Outcome Summary) → Comes (judging (extent_by terms)) 0 [] (bytes ++ more) o → (later : Outcome Summary)
-      × ToCome (judging (extent_by terms)) (standing_after session.split before) more later × (o ≡ with_calls told later)
+
+-- It was fed some bytes.
+pub record WasFedSome (terms : Terms) (session : Progress) : Type 0 where
+  pub bytes : List ℕ
+  pub frames : Family
+  pub told : List Told
+  pub fed : WasFed terms session bytes frames told
+
+-- between two calls no unit waits, each unit so far had a byte of the input, and the session was fed some bytes
+abbrev pub IsReady : Terms → Splitting → State → Type 0
+IsReady terms split state = ((split.stop ≡ None) × IsFalse split.waiting × IsFalse split.ended) × (state.units ≤ split.at)
+    × (state.slices.pictures ≤ state.units) × WasFedSome terms (going terms split state)
+
+abbrev pub IsSession : Terms → Option Stop → Splitting → State → Type 0
+IsSession terms None split state = IsReady terms split state
+IsSession terms (Some stop) split state = Unit {0}
 
 -- The session was then fed these bytes, and the sink was told what comes of them after that, with these frames and some more.
 pub record IsFed {S : Type 0} (terms : Terms) (w : SinkSpan S Call) (session : Progress) (bytes : List ℕ) (frames : Family)
@@ -86,3 +59,21 @@ pub record IsFed {S : Type 0} (terms : Terms) (w : SinkSpan S Call) (session : P
   pub tells : Tells (took_with made w.took) w.old w.new more
   pub fed : WasFed terms session bytes made (told ++ more)
   pub kept : w.failures w.new ≡ w.failures w.old
+
+-- From where it was fed this the session went on by a piece, and the sink was told what comes of that, with the frames so far and those that ended.
+pub record GoesOn {S : Type 0} {terms : Terms} {old : Progress} {bytes : List ℕ} {frames : Family} {told : List Told}
+    (f : WasFed terms old bytes frames told) (w : SinkSpan S Call) (new : Progress) (piece : List ℕ) : Type 0 where
+  pub made : Family
+  pub same : Agree (ended_in f.before) frames made
+  pub more : List Told
+  pub tells : Tells (took_with made w.took) w.old w.new more
+  pub fed : WasFed terms new (bytes ++ piece) made (told ++ more)
+  pub grows : ended_in f.before ≤ ended_in fed.before
+  pub kept : w.failures w.new ≡ w.failures w.old
+
+-- From where it was fed this the session came to this answer on the whole stream, and the sink was told what comes of that.
+pub record ComesTo {S : Type 0} {terms : Terms} {old : Progress} {bytes : List ℕ} {frames : Family} {told : List Told}
+    (f : WasFed terms old bytes frames told) (w : SinkSpan S Call) (whole : List ℕ) (answer : Result Summary Stop) : Type 0 where
+  pub made : Family
+  pub same : Agree (ended_in f.before) frames made
+  pub judged : JudgedBy (extent_by terms) (with_frames made w) whole told answer

@@ -22,8 +22,6 @@ pub mod Held
 pub mod Keeping
 pub mod StepOutcome
 pub mod Framing
-pub mod Judging
-pub mod Session
 pub mod Within
 pub mod Predicting
 pub mod Decodable

@@ -1,13 +1,9 @@
 -- What a sink is told, and what is answered. A working form.
-use Rattle.std.specs.Prelude.{◌≡◌, ℕ, ◌+◌, Bool, List, [], ◌∷◌, ◌++◌, map, Result, Ok, Err, if◌then◌else◌}
-use Rattle.h264_base.specs.declared.rule.Rule.{Rule}
+use Rattle.std.specs.Prelude.{◌≡◌, ◌+◌, List, [], ◌∷◌, ◌++◌, Result, Ok, Err}
 use Rattle.h264_base.specs.declared.stop.Stop.{Stop}
 use Rattle.h264_base.specs.declared.stop.Stop.TheVariants.{No, Outside, Memory, Read, Write}
 use Rattle.h264_base.specs.Call.{SinkSpan}
-use Rattle.h264_base.specs.Body.{Body}
-use Rattle.h264_base.specs.Grammar.{Grammar}
-use Rattle.h264_base.specs.Run.{run}
-use Rattle.h264_verify.specs.Telling.{Told, said_of, Tells, TellsFront}
+use Rattle.h264_verify.specs.Telling.{Told, Tells, TellsFront}
 
 pub record Outcome (A : Type 0) : Type 0 where
   pub calls : List Told
@@ -41,19 +37,6 @@ IsNamed (Outside bit feature) = Unit {0}
 IsNamed Memory = ⊥
 IsNamed Read = ⊥
 IsNamed Write = ⊥
-
--- a rule that is checked, with the stream bit that it names
-abbrev pub holds : Rule → ℕ → Bool → Outcome (Unit {0})
-holds rule bit test = answers (if test then Ok tt else Err (No bit rule))
-
--- the value without the bit after it
-abbrev pub value_of : {A : Type 0} → Result (A × ℕ) Stop → Result A Stop
-value_of (Ok x) = Ok x.0
-value_of (Err stop) = Err stop
-
--- a syntax structure read from the first bit of an RBSP
-abbrev pub structure_outcome : {A : Type 0} → Grammar A → Body → Outcome A
-structure_outcome g body = record { calls = map (said_of body) (run g body 0).elements; answer = value_of (run g body 0).answer }
 
 -- The sink was told this, and this was answered; or the sink failed, or memory was refused, with only the first calls made.
 abbrev pub PlaysBy : {X A S : Type 0} → SinkSpan S Told → (X → A) → Outcome A → Result X Stop → Type 0

@@ -1,5 +1,5 @@
 -- What a session is to its callers. A working form.
-use Rattle.std.specs.Prelude.{◌≡◌, ◌≤◌, ℕ, true, false, IsFalse, Option, Some, None, List, []}
+use Rattle.std.specs.Prelude.{◌≡◌, true, Option, None, List, ℕ, []}
 use Rattle.h264_verify.specs.declared.state.Depth.{Depth}
 use Rattle.h264_verify.specs.declared.state.Terms.{Terms}
 use Rattle.h264_base.specs.declared.stop.Stop.{Stop}
@@ -7,7 +7,7 @@ use Rattle.h264_units.specs.Stream.{NalUnit, Next}
 use Rattle.h264_verify.specs.Memory.{is_read}
 use Rattle.h264_units.specs.Splitting.{Splitting, at_start}
 use Rattle.h264_verify.specs.declared.state.State.{State}
-use Rattle.h264_verify.specs.KeepingUnits.{Keeps, KeepsSome}
+use Rattle.h264_verify.specs.KeepingUnits.{Keeps}
 use Rattle.h264_verify.specs.Telling.{Family, IsFamilyFor}
 
 -- what its splitter holds, what is kept of the units taken, and whether it has stopped
@@ -17,14 +17,9 @@ pub record Progress : Type 0 where
   pub state : State
   pub stop : Option Stop
 
--- between two calls no unit waits, each unit so far had a byte of the input, and there are units whose this is kept
-abbrev pub IsReady : Depth → Splitting → State → Type 0
-IsReady depth split state = ((split.stop ≡ None) × IsFalse split.waiting × IsFalse split.ended) × (state.units ≤ split.at)
-    × (state.slices.pictures ≤ state.units) × KeepsSome depth false state
-
-abbrev pub IsSession : Depth → Option Stop → Splitting → State → Type 0
-IsSession depth None split state = IsReady depth split state
-IsSession depth (Some stop) split state = Unit {0}
+-- a session that has not stopped
+abbrev pub going : Terms → Splitting → State → Progress
+going terms split state = record { terms = terms; split = split; state = state; stop = None }
 
 -- where the input ends here, it leaves a unit, which is read in this mode
 pub record LastIsRead (depth : Depth) (split : Splitting) : Type 0 where

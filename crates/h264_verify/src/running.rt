@@ -1,16 +1,15 @@
 //! A source judged to its end.
 #![tactic(auto)]
 
-ghost use Rattle.std.specs.Prelude.{◌≡◌, ℕ, ◌+◌, ◌-◌, ◌*◌, ◌<◌, ◌≤◌, ◌^◌, ◌⊎◌, List, [], ◌∷◌, ◌++◌, length, take, OnOk, OnErr, IfOk, IfErr, Ok, Err};
-ghost use Rattle.h264_verify.specs.Telling.{Family, IsFamilyFor};
+ghost use Rattle.std.specs.Prelude.{◌≡◌, ℕ, ◌+◌, ◌-◌, ◌<◌, ◌≤◌, ◌^◌, ◌⊎◌, List, [], ◌++◌, length, take, OnOk, IfOk, IfErr, Ok, Err};
+ghost use Rattle.h264_verify.specs.Telling.{Told, Family, IsFamilyFor};
 ghost use Rattle.h264_base.specs.Call.{HasRoom, IsQuiet, span};
 ghost use Rattle.std.specs.Prelude.{Bool, true, false, None, Some, IsErrOf, IsTrue, IsFalse};
 ghost use Rattle.std.specs.List.{flat_map};
 ghost use Rattle.h264_verify.specs.Modes.{purpose_for};
 ghost use Rattle.h264_verify.specs.Units.{terms_of};
 ghost use Rattle.h264_verify.specs.declared.state.Terms.{Terms};
-ghost use Rattle.h264_plane.specs.declared.frame.Frame.{Frame};
-ghost use Rattle.h264_verify.specs.Feeding.{FedOn, JudgesWith};
+ghost use Rattle.h264_verify.specs.Feeding.{WasFed, GoesOn, ComesTo};
 ghost use Rattle.h264_verify.specs.Giving.{Gives, source_span};
 ghost use Rattle.h264_verify.specs.Verdict.{Judged};
 
@@ -41,22 +40,17 @@ fn turn<R: Source, S: FrameSink>(
     requires source { HasRoom R.failures source.old }
     requires room { 0 < length piece.old }
     requires runs { session.old.stop ≡ None }
-    ensures more { IfOk result (λ more. IsTrue more → (terms : Terms) (bytes : List ℕ) (first : _) →
-        FedOn terms (span S.took S.failures first sink.old) (R.left source.old) bytes session.old →
-        FedOn terms (span S.took S.failures first sink.new) (R.left source.new) bytes session.new) }
+    // The session goes on by what the source gave,
+    ensures more { IfOk result (λ more. IsTrue more → (given : List ℕ) × Gives (source_span R.left R.gave R.failures source.old source.new) given false
+        × ((terms : Terms) (bytes : List ℕ) (frames : Family) (told : List Told) → (f : WasFed terms session.old bytes frames told) →
+        GoesOn f (span S.took S.failures sink.old sink.new) session.new given)) }
+    // and nothing changes at its end.
     ensures end { IfOk result (λ more. IsFalse more → (session.new ≡ session.old) × (sink.new ≡ sink.old)
-        × ((left : List ℕ) → R.left source.old ≡ Some left → left ≡ [])) }
-    ensures stops { IfErr result (λ stop. (terms : Terms) (bytes : List ℕ) (first : _) →
-        FedOn terms (span S.took S.failures first sink.old) (R.left source.old) bytes session.old → S.failures sink.old ≡ S.failures first →
-        JudgesWith terms (span S.took S.failures first sink.new) bytes (Err stop)) }
-    // What the source gave so far, whether it tells or not.
-    ensures heard { IfOk result (λ more. IsTrue more → (given : List ℕ) × Gives (source_span R.left R.gave R.failures source.old source.new) given false
-        × ((terms : Terms) (bytes : List ℕ) (first : _) → FedOn terms (span S.took S.failures first sink.old) (Some []) bytes session.old →
-        FedOn terms (span S.took S.failures first sink.new) (Some []) (bytes ++ given) session.new)) }
-    ensures heard_end { IfOk result (λ more. IsFalse more → Gives (source_span R.left R.gave R.failures source.old source.new) [] true) }
-    ensures heard_stop { IfErr result (λ stop. (given : List ℕ) × Gives (source_span R.left R.gave R.failures source.old source.new) given false
-        × ((terms : Terms) (bytes : List ℕ) (first : _) → FedOn terms (span S.took S.failures first sink.old) (Some []) bytes session.old →
-        S.failures sink.old ≡ S.failures first → JudgesWith terms (span S.took S.failures first sink.new) (bytes ++ given) (Err stop))) }
+        × Gives (source_span R.left R.gave R.failures source.old source.new) [] true) }
+    // It stops at what the source gave, however that goes on.
+    ensures stops { IfErr result (λ stop. (given : List ℕ) × Gives (source_span R.left R.gave R.failures source.old source.new) given false
+        × ((terms : Terms) (bytes : List ℕ) (frames : Family) (told : List Told) → (f : WasFed terms session.old bytes frames told) →
+        (later : List ℕ) → ComesTo f (span S.took S.failures sink.old sink.new) ((bytes ++ given) ++ later) (Err stop))) }
     ensures kept { OnOk result ((session.new.stop ≡ None) × (IsQuiet S.failures sink.old sink.new) × (IsQuiet R.failures source.old source.new)) }
     ensures again { (n : ℕ) → R.was_read source.old n → R.was_read source.new (n + 1) }
     ensures read { IsErrOf result Stop.Read → R.failures source.new ≡ R.failures source.old + 1 }
@@ -87,19 +81,14 @@ fn read_all<R: Source, S: FrameSink>(
     requires sink { HasRoom S.failures sink.old }
     requires source { HasRoom R.failures source.old }
     requires runs { session.old.stop ≡ None }
-    ensures fed { OnOk result ((terms : Terms) (bytes : List ℕ) (first : _) →
-        FedOn terms (span S.took S.failures first sink.old) (R.left source.old) bytes session.old →
-        FedOn terms (span S.took S.failures first sink.new) (Some []) bytes session.new) }
-    ensures stops { IfErr result (λ stop. (terms : Terms) (bytes : List ℕ) (first : _) →
-        FedOn terms (span S.took S.failures first sink.old) (R.left source.old) bytes session.old → S.failures sink.old ≡ S.failures first →
-        JudgesWith terms (span S.took S.failures first sink.new) bytes (Err stop)) }
-    // What the source gave, whether it tells or not.
-    ensures heard { OnOk result ((given : List ℕ) × Gives (source_span R.left R.gave R.failures source.old source.new) given true
-        × ((terms : Terms) (bytes : List ℕ) (first : _) → FedOn terms (span S.took S.failures first sink.old) (Some []) bytes session.old →
-        FedOn terms (span S.took S.failures first sink.new) (Some []) (bytes ++ given) session.new)) }
-    ensures heard_stop { IfErr result (λ stop. (given : List ℕ) × Gives (source_span R.left R.gave R.failures source.old source.new) given false
-        × ((terms : Terms) (bytes : List ℕ) (first : _) → FedOn terms (span S.took S.failures first sink.old) (Some []) bytes session.old →
-        S.failures sink.old ≡ S.failures first → JudgesWith terms (span S.took S.failures first sink.new) (bytes ++ given) (Err stop))) }
+    // The session goes on by all that the source gave.
+    ensures fed { OnOk result ((given : List ℕ) × Gives (source_span R.left R.gave R.failures source.old source.new) given true
+        × ((terms : Terms) (bytes : List ℕ) (frames : Family) (told : List Told) → (f : WasFed terms session.old bytes frames told) →
+        GoesOn f (span S.took S.failures sink.old sink.new) session.new given)) }
+    // It stops at what the source gave, however that goes on.
+    ensures stops { IfErr result (λ stop. (given : List ℕ) × Gives (source_span R.left R.gave R.failures source.old source.new) given false
+        × ((terms : Terms) (bytes : List ℕ) (frames : Family) (told : List Told) → (f : WasFed terms session.old bytes frames told) →
+        (later : List ℕ) → ComesTo f (span S.took S.failures sink.old sink.new) ((bytes ++ given) ++ later) (Err stop))) }
     ensures kept { OnOk result ((session.new.stop ≡ None) × (IsQuiet S.failures sink.old sink.new)) }
     ensures read { IsErrOf result Stop.Read → (R.failures source.new ≡ R.failures source.old + 1)
         ⊎ ((n : ℕ) → R.was_read source.old n → R.was_read source.new (n + 2 ^ 41)) }

@@ -1,24 +1,20 @@
 //! A session over a stream.
 #![tactic(auto)]
 
-ghost use Rattle.std.specs.Prelude.{◌≡◌, ℕ, ◌+◌, ◌-◌, ◌*◌, ◌<◌, ◌≤◌, ◌^◌, ◌⊎◌, List, [], ◌∷◌, ◌++◌, length, OnOk, OnErr, IfOk, IfErr, Ok, Err, None};
+ghost use Rattle.std.specs.Prelude.{◌≡◌, ◌≢◌, ℕ, ◌+◌, ◌-◌, ◌*◌, ◌<◌, ◌≤◌, ◌^◌, ◌⊎◌, List, [], ◌++◌, length, OnOk, IfOk, IfErr, Ok, Err, None};
 ghost use Rattle.h264_base.specs.Call.{HasRoom, IsQuiet, span};
-ghost use Rattle.std.specs.Prelude.{drop, false, IsFalse, IfSome, Some, IsErrOf};
-ghost use Rattle.h264_units.specs.Stream.{IsUndecided};
-ghost use Rattle.h264_verify.specs.Session.{stretch, standing};
+ghost use Rattle.std.specs.Prelude.{take, drop, false, IfSome, Some, IsErrOf};
 ghost use Rattle.h264_verify.specs.Memory.{bytes_of, ChangesFormat};
 ghost use Rattle.h264_verify.specs.Turning.{Turns, Pauses};
 ghost use Rattle.h264_verify.specs.UnitOutcome.{unit_to_data};
 ghost use Rattle.h264_verify.specs.Keeping.{ended_in};
-ghost use Rattle.h264_verify.specs.Progress.{IsFresh, LastIsRead};
-ghost use Rattle.h264_plane.specs.declared.frame.Frame.{Frame};
+ghost use Rattle.h264_verify.specs.Progress.{going, IsFresh, LastIsRead};
 ghost use Rattle.h264_verify.specs.Telling.{Told, IsFamilyFor, frame_span, Family};
 ghost use Rattle.h264_verify.specs.History.{History};
 ghost use Rattle.h264_verify.specs.KeepingUnits.{Keeps, KeepsSome};
-ghost use Rattle.h264_verify.specs.Modes.{depth_of, purpose_for};
+ghost use Rattle.h264_verify.specs.Modes.{purpose_for};
 ghost use Rattle.h264_verify.specs.Units.{terms_of, extent_by};
-ghost use Rattle.h264_verify.specs.declared.state.Terms.{Terms};
-ghost use Rattle.h264_verify.specs.Feeding.{standing_after, GoesOn, StopsOn, FinishesOn, WasFed, IsFed};
+ghost use Rattle.h264_verify.specs.Feeding.{WasFed, IsFed, IsReady, GoesOn, ComesTo};
 ghost use Rattle.h264_verify.specs.Verdict.{Judged};
 ghost use Rattle.h264_verify.specs.declared.state.Depth.TheVariants as depths;
 ghost use Rattle.h264_verify.specs.Buffering.{taken_after};
@@ -36,7 +32,7 @@ use std::marker::Model;
 /// Judges a unit, and lets the sink note how many places of the picture buffer are then taken.
 fn judge_next<S: FrameSink>(
     alloc: Global,
-    extent: Extent,
+    terms: Terms,
     state: &mut State,
     unit: &NalUnit,
     rbsp: &Option<Rbsp>,
@@ -45,19 +41,20 @@ fn judge_next<S: FrameSink>(
     requires count { HasRoom S.failures sink.old }
     requires units { state.old.units ≤ 2 ^ 40 }
     requires pictures { state.old.slices.pictures ≤ state.old.units }
-    requires bytes { rbsp.now ≡ bytes_of extent.depth unit.now }
-    requires kept { KeepsSome extent.depth false state.old }
-    ensures turns { (frames : Family) (before : History) → Keeps extent.depth frames before state.old →
-        Turns extent (frame_span S.took S.failures frames sink.old sink.new) before unit.now state.new result }
+    requires bytes { rbsp.now ≡ bytes_of terms.depth unit.now }
+    requires kept { KeepsSome terms.depth false state.old }
+    ensures turns { (frames : Family) (before : History) → Keeps terms.depth frames before state.old →
+        Turns (extent_by terms) (frame_span S.took S.failures frames sink.old sink.new) before unit.now state.new result }
     ensures counts { OnOk result (state.new.units ≡ state.old.units + 1) }
     ensures pictures { OnOk result (state.new.slices.pictures ≤ state.new.units) }
-    ensures no_memory { (frames : Family) (before : History) → Keeps extent.depth frames before state.old → IsErrOf result Stop.Memory →
-        ChangesFormat extent.depth before unit.now }
-    ensures pauses { (frames : Family) (before : History) → Keeps extent.depth frames before state.old → IsErrOf result Stop.Memory →
-        Pauses (frame_span S.took S.failures frames sink.old sink.new) (ended_in before) (unit_to_data extent before unit.now) }
+    ensures no_memory { (frames : Family) (before : History) → Keeps terms.depth frames before state.old → IsErrOf result Stop.Memory →
+        ChangesFormat terms.depth before unit.now }
+    ensures pauses { (frames : Family) (before : History) → Keeps terms.depth frames before state.old → IsErrOf result Stop.Memory →
+        Pauses (frame_span S.took S.failures frames sink.old sink.new) (ended_in before) (unit_to_data (extent_by terms) before unit.now) }
     ensures kept { OnOk result (IsQuiet S.failures sink.old sink.new) }
 {
-    match judge_unit(alloc, extent, state, unit, rbsp, sink) {
+    let Terms { depth, target, .. } = terms;
+    match judge_unit(alloc, Extent { depth, target }, state, unit, rbsp, sink) {
         Ok(()) => {
             sink.note_places_taken(state.places_taken());
             Ok(())
@@ -69,7 +66,7 @@ fn judge_next<S: FrameSink>(
 /// Bytes up to the end of a unit, and the unit.
 fn feed_some<S: FrameSink>(
     alloc: Global,
-    extent: Extent,
+    terms: Terms,
     splitter: &mut Splitter,
     state: &mut State,
     piece: &[u8],
@@ -77,33 +74,29 @@ fn feed_some<S: FrameSink>(
 ) -> Result<usize, Stop>
     requires count { HasRoom S.failures sink.old }
     requires some { 0 < length piece.now }
-    requires runs { (splitter.old.stop ≡ None) × IsFalse splitter.old.waiting × IsFalse splitter.old.ended }
-    requires counted { state.old.units ≤ splitter.old.at }
-    requires pictures { state.old.slices.pictures ≤ state.old.units }
-    requires keeps { KeepsSome extent.depth false state.old }
+    requires ready { IsReady terms splitter.old state.old }
     ensures within { IfOk result (λ n. (0 < n) × (n ≤ length piece.now)) }
-    ensures goes { (frames : Family) (before : History) → Keeps extent.depth frames before state.old →
-        IfOk result (λ n. GoesOn extent (frame_span S.took S.failures frames sink.old sink.new)
-        (stretch (standing_after splitter.old before) (standing splitter.new state.new) piece.now (drop n piece.now))) }
-    ensures runs { OnOk result ((splitter.new.stop ≡ None) × IsFalse splitter.new.waiting × IsFalse splitter.new.ended) }
-    ensures counted { OnOk result (state.new.units ≤ splitter.new.at) }
-    ensures pictures { OnOk result (state.new.slices.pictures ≤ state.new.units) }
-    ensures undecided { OnOk result (IsUndecided splitter.new.rest) }
+    ensures goes { (bytes : List ℕ) (frames : Family) (told : List Told) → (f : WasFed terms (going terms splitter.old state.old) bytes frames told) →
+        IfOk result (λ n. GoesOn f (span S.took S.failures sink.old sink.new) (going terms splitter.new state.new) (take n piece.now)) }
+    ensures ready { OnOk result (IsReady terms splitter.new state.new) }
     ensures kept { OnOk result (IsQuiet S.failures sink.old sink.new) }
-    ensures stops { (frames : Family) (before : History) → Keeps extent.depth frames before state.old →
-        IfErr result (StopsOn extent (frame_span S.took S.failures frames sink.old sink.new) (standing_after splitter.old before) piece.now) }
+    ensures stops { (bytes : List ℕ) (frames : Family) (told : List Told) → (f : WasFed terms (going terms splitter.old state.old) bytes frames told) →
+        IfErr result (λ stop. (later : List ℕ) →
+        ComesTo f (span S.took S.failures sink.old sink.new) ((bytes ++ piece.now) ++ later) (Err stop)) }
+    ensures no_read { IfErr result (λ stop. stop ≢ Stop.Read) }
 {
     let n = splitter.push(piece)?;
     match splitter.take_unit() {
         None => Ok(n),
         Some(unit) => {
-            let bytes = read_bytes(alloc, extent.depth, &unit)?;
-            judge_next(alloc, extent, state, &unit, &bytes, sink)?;
+            let bytes = read_bytes(alloc, terms.depth, &unit)?;
+            judge_next(alloc, terms, state, &unit, &bytes, sink)?;
             Ok(n)
         }
     }
 }
 
+/// What is left of a piece after some bytes.
 fn after(piece: &[u8], n: usize) -> &[u8]
     requires { n ≤ length piece.now }
     ensures { result.now ≡ drop n piece.now }
@@ -114,32 +107,27 @@ fn after(piece: &[u8], n: usize) -> &[u8]
 /// All of a piece.
 fn feed_all<S: FrameSink>(
     alloc: Global,
-    extent: Extent,
+    terms: Terms,
     splitter: &mut Splitter,
     state: &mut State,
     piece: &[u8],
     sink: &mut S,
 ) -> Result<(), Stop>
     requires count { HasRoom S.failures sink.old }
-    requires runs { (splitter.old.stop ≡ None) × IsFalse splitter.old.waiting × IsFalse splitter.old.ended }
-    requires counted { state.old.units ≤ splitter.old.at }
-    requires pictures { state.old.slices.pictures ≤ state.old.units }
-    requires keeps { KeepsSome extent.depth false state.old }
-    ensures goes { (frames : Family) (before : History) → Keeps extent.depth frames before state.old →
-        OnOk result (GoesOn extent (frame_span S.took S.failures frames sink.old sink.new)
-        (stretch (standing_after splitter.old before) (standing splitter.new state.new) piece.now [])) }
-    ensures runs { OnOk result ((splitter.new.stop ≡ None) × IsFalse splitter.new.waiting × IsFalse splitter.new.ended) }
-    ensures counted { OnOk result (state.new.units ≤ splitter.new.at) }
-    ensures pictures { OnOk result (state.new.slices.pictures ≤ state.new.units) }
-    ensures undecided { OnOk result (IsUndecided splitter.old.rest → IsUndecided splitter.new.rest) }
+    requires ready { IsReady terms splitter.old state.old }
+    ensures goes { (bytes : List ℕ) (frames : Family) (told : List Told) → (f : WasFed terms (going terms splitter.old state.old) bytes frames told) →
+        OnOk result (GoesOn f (span S.took S.failures sink.old sink.new) (going terms splitter.new state.new) piece.now) }
+    ensures ready { OnOk result (IsReady terms splitter.new state.new) }
     ensures kept { OnOk result (IsQuiet S.failures sink.old sink.new) }
-    ensures stops { (frames : Family) (before : History) → Keeps extent.depth frames before state.old →
-        IfErr result (StopsOn extent (frame_span S.took S.failures frames sink.old sink.new) (standing_after splitter.old before) piece.now) }
+    ensures stops { (bytes : List ℕ) (frames : Family) (told : List Told) → (f : WasFed terms (going terms splitter.old state.old) bytes frames told) →
+        IfErr result (λ stop. (later : List ℕ) →
+        ComesTo f (span S.took S.failures sink.old sink.new) ((bytes ++ piece.now) ++ later) (Err stop)) }
+    ensures no_read { IfErr result (λ stop. stop ≢ Stop.Read) }
     ensures no_bytes { piece.now ≡ [] → (result ≡ Ok tt) × (splitter.new ≡ splitter.old) × (state.new ≡ state.old) × (sink.new ≡ sink.old) }
 {
     let mut rest = piece;
     while !rest.is_empty() {
-        let n = feed_some(alloc, extent, splitter, state, rest, sink)?;
+        let n = feed_some(alloc, terms, splitter, state, rest, sink)?;
         rest = after(rest, n);
     }
     Ok(())
@@ -148,27 +136,25 @@ fn feed_all<S: FrameSink>(
 /// What is left at the end of the input.
 fn finish_all<S: FrameSink>(
     alloc: Global,
-    extent: Extent,
+    terms: Terms,
     splitter: &mut Splitter,
     state: &mut State,
     sink: &mut S,
 ) -> Result<Summary, Stop>
     requires count { HasRoom S.failures sink.old }
-    requires runs { (splitter.old.stop ≡ None) × IsFalse splitter.old.waiting × IsFalse splitter.old.ended }
-    requires counted { state.old.units ≤ splitter.old.at }
-    requires pictures { state.old.slices.pictures ≤ state.old.units }
-    requires keeps { KeepsSome extent.depth false state.old }
-    ensures finishes { (frames : Family) (before : History) → Keeps extent.depth frames before state.old →
-        FinishesOn extent (frame_span S.took S.failures frames sink.old sink.new) (standing_after splitter.old before) result }
-    ensures memory { IsErrOf result Stop.Memory → LastIsRead extent.depth splitter.old }
+    requires ready { IsReady terms splitter.old state.old }
+    ensures comes { (bytes : List ℕ) (frames : Family) (told : List Told) → (f : WasFed terms (going terms splitter.old state.old) bytes frames told) →
+        ComesTo f (span S.took S.failures sink.old sink.new) bytes result }
+    ensures no_read { IsErrOf result Stop.Read → ⊥ }
+    ensures memory { IsErrOf result Stop.Memory → LastIsRead terms.depth splitter.old }
 {
     splitter.finish()?;
     match splitter.take_unit() {
-        None => judge_end(extent.depth, state, 8 * splitter.length(), sink),
+        None => judge_end(terms.depth, state, 8 * splitter.length(), sink),
         Some(unit) => {
-            let bytes = read_bytes(alloc, extent.depth, &unit)?;
-            judge_next(alloc, extent, state, &unit, &bytes, sink)?;
-            judge_end(extent.depth, state, 8 * splitter.length(), sink)
+            let bytes = read_bytes(alloc, terms.depth, &unit)?;
+            judge_next(alloc, terms, state, &unit, &bytes, sink)?;
+            judge_end(terms.depth, state, 8 * splitter.length(), sink)
         }
     }
 }
@@ -187,13 +173,14 @@ pub struct Session {
 }
 
 impl Model for Session {
-    ghost use Rattle.h264_verify.specs.Progress.{Progress, IsSession};
+    ghost use Rattle.h264_verify.specs.Progress.{Progress};
+    ghost use Rattle.h264_verify.specs.Feeding.{IsSession};
 
     ghost Value = { Progress };
 
     ghost view = { λ s. record { terms = s.terms; split = s.splitter; state = s.state; stop = s.stop } };
 
-    ghost invariant = { λ s. IsSession s.terms.depth s.stop s.splitter s.state };
+    ghost invariant = { λ s. IsSession s.terms s.stop s.splitter s.state };
 }
 
 impl Session {
@@ -219,17 +206,15 @@ impl Session {
     pub(crate) fn advance<S: FrameSink>(&mut self, piece: &[u8], sink: &mut S) -> Result<(), Stop>
         requires count { HasRoom S.failures sink.old }
         requires runs { self.old.stop ≡ None }
-        // However the input goes on, what comes is what the sink was told now and what comes later.
-        ensures goes { (frames : Family) (before : History) → Keeps self.old.terms.depth frames before self.old.state →
-            OnOk result (GoesOn (extent_by self.old.terms) (frame_span S.took S.failures frames sink.old sink.new)
-            (stretch (standing_after self.old.split before) (standing self.new.split self.new.state) piece.now [])) }
-        ensures undecided { OnOk result (IsUndecided self.old.split.rest → IsUndecided self.new.split.rest) }
+        // It goes on by the piece.
+        ensures goes { (terms : Terms) (bytes : List ℕ) (frames : Family) (told : List Told) → (f : WasFed terms self.old bytes frames told) →
+            OnOk result (GoesOn f (span S.took S.failures sink.old sink.new) self.new piece.now) }
+        // The stop is the stream's, however that goes on, or the sink failed, or memory was refused.
+        ensures stops { (terms : Terms) (bytes : List ℕ) (frames : Family) (told : List Told) → (f : WasFed terms self.old bytes frames told) →
+            IfErr result (λ stop. (later : List ℕ) →
+            ComesTo f (span S.took S.failures sink.old sink.new) ((bytes ++ piece.now) ++ later) (Err stop)) }
         ensures going { OnOk result (self.new.stop ≡ None) }
         ensures kept { OnOk result (IsQuiet S.failures sink.old sink.new) }
-        // The stop is the stream's, or the sink failed, or memory was refused.
-        ensures stops { (frames : Family) (before : History) → Keeps self.old.terms.depth frames before self.old.state →
-            IfErr result (StopsOn (extent_by self.old.terms) (frame_span S.took S.failures frames sink.old sink.new) (standing_after self.old.split before)
-            piece.now) }
         ensures stopped { IfErr result (λ stop. self.new.stop ≡ Some stop) }
         ensures terms { self.new.terms ≡ self.old.terms }
         ensures write { IsErrOf result Stop.Write → S.failures sink.new ≡ S.failures sink.old + 1 }
@@ -237,10 +222,9 @@ impl Session {
         ensures no_read { IsErrOf result Stop.Read → ⊥ }
         ensures no_bytes { piece.now ≡ [] → (result ≡ Ok tt) × (self.new ≡ self.old) × (sink.new ≡ sink.old) }
     {
-        let Terms { depth, target, .. } = self.terms;
         match feed_all(
             self.alloc,
-            Extent { depth, target },
+            self.terms,
             &mut self.splitter,
             &mut self.state,
             piece,
@@ -258,8 +242,8 @@ impl Session {
     pub(crate) fn conclude<S: FrameSink>(self, sink: &mut S) -> Result<Summary, Stop>
         requires count { HasRoom S.failures sink.old }
         requires runs { self.stop ≡ None }
-        ensures finishes { (frames : Family) (before : History) → Keeps self.terms.depth frames before self.state →
-            FinishesOn (extent_by self.terms) (frame_span S.took S.failures frames sink.old sink.new) (standing_after self.split before) result }
+        ensures comes { (terms : Terms) (bytes : List ℕ) (frames : Family) (told : List Told) → (f : WasFed terms self bytes frames told) →
+            ComesTo f (span S.took S.failures sink.old sink.new) bytes result }
         ensures write { IsErrOf result Stop.Write → S.failures sink.new ≡ S.failures sink.old + 1 }
         ensures write_told { (IsQuiet S.failures sink.old sink.new) ⊎ IsErrOf result Stop.Write }
         ensures no_read { IsErrOf result Stop.Read → ⊥ }
@@ -267,14 +251,7 @@ impl Session {
     {
         let mut splitter = self.splitter;
         let mut state = self.state;
-        let Terms { depth, target, .. } = self.terms;
-        let judged = finish_all(
-            self.alloc,
-            Extent { depth, target },
-            &mut splitter,
-            &mut state,
-            sink,
-        );
+        let judged = finish_all(self.alloc, self.terms, &mut splitter, &mut state, sink);
         let_go(splitter, state);
         judged
     }

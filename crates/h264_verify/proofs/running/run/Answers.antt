@@ -1,12 +1,12 @@
-use Rattle.std.proofs.Common.{◌≡◌, ℕ, ◌⊎◌, inl, inr, Result, Ok, Err, refl, sym, ap, ◌∙◌, ◌+◌, [], true, false, OnOk, Some}
+use Rattle.std.proofs.Common.{◌≡◌, ℕ, ◌⊎◌, inl, inr, Result, Ok, Err, refl, sym, ap, ◌∙◌, ◌+◌, ◌++◌, [], true, false, OnOk}
 use Rattle.h264_base.specs.declared.stop.Stop.{Stop}
 use Rattle.h264_base.specs.declared.stop.Stop.TheVariants.{Memory, Read, Write}
-use Rattle.h264_verify.specs.Modes.{purpose_for}
-use Rattle.h264_verify.proofs.FamiliesByPurpose.{some-family, some-family-for}
-use Rattle.h264_verify.proofs.LacksMemory.{same-stop}
-use Rattle.h264_verify.proofs.SessionEnd.{told-as, told-after}
+use Rattle.std.proofs.lemmas.List.{append-nil}
+use Rattle.h264_verify.proofs.AfterLegal.{err-same}
+use Rattle.h264_verify.proofs.OutcomesPlayed.{err-as, told-as, told-after}
 use Rattle.h264_verify.proofs.SourceGives.{gives-none}
-use Rattle.h264_verify.proofs.OneVerdict.{judges-judged, none-judged, fed-first, fed-last}
+use Rattle.h264_verify.proofs.OneVerdict.{none-judged}
+use Rattle.h264_verify.proofs.SessionSteps.{comes-after, comes-as, comes-judged}
 use Rattle.h264_verify.specs.Units.{terms_of}
 use Rattle.h264_verify.proofs.running.run.Goals as goal
 
@@ -16,8 +16,7 @@ on-any (Err stop) p = tt
 
 pub returns-in-Err-clause-verdict : goal.returns-in-Err-clause-verdict
 returns-in-Err-clause-verdict g c = rw c.in-Err.ensures.err
-    (λ bytes h frames x. judges-judged (terms_of c.args.mode c.args.target) _ _ bytes frames _ _ _
-    (none-judged (terms_of c.args.mode c.args.target) _ _ bytes frames _ x))
+    (λ bytes h frames x. none-judged (terms_of c.args.mode c.args.target) _ _ bytes frames _ x)
 
 pub returns-in-Err-clause-some : goal.returns-in-Err-clause-some
 returns-in-Err-clause-some g c = rw c.in-Err.ensures.err (
@@ -25,47 +24,52 @@ returns-in-Err-clause-some g c = rw c.in-Err.ensures.err (
   false,
   gives-none g.R.Source.left g.R.Source.gave g.R.Source.failures _,
   tt,
-  λ frames x. judges-judged (terms_of c.args.mode c.args.target) _ _ [] frames _ _ _ (none-judged (terms_of c.args.mode c.args.target) _ _ [] frames _ x),
+  λ frames x. none-judged (terms_of c.args.mode c.args.target) _ _ [] frames _ x,
 )
 
 pub returns-in-Err-read_all-clause-verdict : goal.returns-in-Err-read_all-clause-verdict
-returns-in-Err-read_all-clause-verdict g c =
-    λ bytes h frames x. judges-judged (terms_of c.args.mode c.args.target) _ _ bytes frames _ _ _
-    (c.in-Err-read_all.ensures.stops (terms_of c.args.mode c.args.target) bytes _
-    (fed-first (terms_of c.args.mode c.args.target) _ _ bytes _ frames _ c.in-Ok.ensures.fresh x h) refl)
+returns-in-Err-read_all-clause-verdict g c = λ bytes h frames x.
+    let f = c.in-Ok.ensures.fed frames x in
+    let s = c.in-Err-read_all.ensures.stops in
+    let left = s.1.first bytes h in
+    comes-judged f (comes-as f (sym left.1) (s.2 _ _ _ _ f left.0))
 
 pub returns-in-Err-read_all-clause-some : goal.returns-in-Err-read_all-clause-some
 returns-in-Err-read_all-clause-some g c =
-    let s = c.in-Err-read_all.ensures.heard_stop in
-    let j = s.2 (terms_of c.args.mode c.args.target) [] _
-    (fed-first (terms_of c.args.mode c.args.target) _ _ [] _ (some-family (purpose_for c.args.mode)) _ c.in-Ok.ensures.fresh
-    (some-family-for (purpose_for c.args.mode)) refl) refl in
-    (s.0, false, s.1, tt, λ frames x. judges-judged (terms_of c.args.mode c.args.target) _ _ s.0 frames _ _ _ j)
+    let s = c.in-Err-read_all.ensures.stops in (
+      s.0,
+      false,
+      s.1,
+      tt,
+      λ frames x. let f = c.in-Ok.ensures.fed frames x in comes-judged f (comes-as f (append-nil s.0) (s.2 _ _ _ _ f [])),
+    )
+
+pub returns-in-Err-read_all-clause-read : goal.returns-in-Err-read_all-clause-read
+returns-in-Err-read_all-clause-read g c = λ h. c.in-Err-read_all.ensures.read (err-as _ _ h)
 
 pub returns-in-Ok-read_all-clause-read : goal.returns-in-Ok-read_all-clause-read
 returns-in-Ok-read_all-clause-read g c = λ h. absurd (c.conclude.ensures.no_read h)
 
 pub returns-in-Ok-read_all-clause-verdict : goal.returns-in-Ok-read_all-clause-verdict
 returns-in-Ok-read_all-clause-verdict g c = λ bytes h frames x.
-    judges-judged (terms_of c.args.mode c.args.target) _ _ bytes frames _ _ _
-    (fed-last (terms_of c.args.mode c.args.target) _ _ (Some []) bytes _ _ _ _ _ _ _ refl refl (λ left same. cc)
-    (c.in-Ok-read_all.ensures.fed (terms_of c.args.mode c.args.target) bytes _
-    (fed-first (terms_of c.args.mode c.args.target) _ _ bytes _ frames _ c.in-Ok.ensures.fresh x h)) c.in-Ok-read_all.ensures.kept.1
-    c.conclude.ensures.finishes)
+    let f = c.in-Ok.ensures.fed frames x in
+    let s = c.in-Ok-read_all.ensures.fed in
+    let goes = s.2 _ _ _ _ f in
+    let left = s.1.first bytes h in
+    comes-judged f (comes-as f (sym (left.1 ∙ ap (λ l. s.0 ++ l) (left.2 refl) ∙ append-nil s.0))
+    (comes-after f goes (c.conclude.ensures.comes _ _ _ _ goes.fed)))
 
 pub returns-in-Ok-read_all-clause-some : goal.returns-in-Ok-read_all-clause-some
 returns-in-Ok-read_all-clause-some g c =
-    let s = c.in-Ok-read_all.ensures.heard in
-    let f = s.2 (terms_of c.args.mode c.args.target) [] _
-    (fed-first (terms_of c.args.mode c.args.target) _ _ [] _ (some-family (purpose_for c.args.mode)) _ c.in-Ok.ensures.fresh
-    (some-family-for (purpose_for c.args.mode)) refl) in (
+    let s = c.in-Ok-read_all.ensures.fed in (
       s.0,
       true,
       s.1,
       on-any _ refl,
-      λ frames x. judges-judged (terms_of c.args.mode c.args.target) _ _ s.0 frames _ _ _
-          (fed-last (terms_of c.args.mode c.args.target) _ _ (Some []) s.0 _ _ _ _ _ _ _ refl refl (λ left same. cc) f c.in-Ok-read_all.ensures.kept.1
-          c.conclude.ensures.finishes),
+      λ frames x.
+          let f = c.in-Ok.ensures.fed frames x in
+          let goes = s.2 _ _ _ _ f in
+          comes-judged f (comes-after f goes (c.conclude.ensures.comes _ _ _ _ goes.fed)),
     )
 
 pub returns-in-Ok-read_all-clause-write : goal.returns-in-Ok-read_all-clause-write
@@ -85,7 +89,7 @@ write-not-memory e = cc
 -- want of memory is no failure
 not-told : {X : Type 0} {a b : ℕ} (r : Result X Stop) (stop : Stop) → (stop ≡ Memory → ⊥) → (a ≡ b) ⊎ (r ≡ Err stop) → r ≡ Err Memory → a ≡ b
 not-told r stop n (inl e) h = e
-not-told {X} r stop n (inr e) h = absurd (n (same-stop {X = X} stop Memory (sym e ∙ h)))
+not-told {X} r stop n (inr e) h = absurd (n (err-same {A = X} stop Memory (sym e ∙ h)))
 
 pub returns-in-Err-read_all-clause-read_told : goal.returns-in-Err-read_all-clause-read_told
 returns-in-Err-read_all-clause-read_told g c = told-as _ c.in-Err-read_all.ensures.read_told

@@ -1,12 +1,12 @@
-use Rattle.std.proofs.Common.{◌≡◌, Bool, true, IsFalse, Result, Ok, Err, [], inl, inr, refl, rules, take}
+use Rattle.std.proofs.Common.{◌≡◌, ◌++◌, Bool, true, IsFalse, Result, Ok, Err, [], inl, inr, refl, rules, take, sym, ap}
+use Rattle.std.proofs.lemmas.List.{append-nil}
 use Rattle.std.proofs.lemmas.Result.{err_from_is_err_and}
 use Rattle.h264_base.specs.declared.stop.Stop.{Stop}
 use Rattle.h264_base.specs.declared.stop.Stop.TheVariants.{Read, Write}
-use Rattle.h264_verify.proofs.OutcomesPlayed.{err-as}
-use Rattle.h264_verify.proofs.SessionEnd.{told-as}
-use Rattle.h264_verify.proofs.OneVerdict.{fed-more, fed-again, fed-halts, fed-fails}
+use Rattle.h264_verify.proofs.OutcomesPlayed.{err-as, told-as}
+use Rattle.h264_verify.proofs.SessionSteps.{goes-none, comes-as}
+use Rattle.h264_verify.proofs.SessionRest.{comes-read}
 use Rattle.h264_verify.proofs.SourceGives.{gives-failed, gives-interrupted, gives-piece, gives-end}
-use Rattle.h264_verify.proofs.SourceUnknown.{heard-more, heard-halts, heard-none, heard-fails}
 use Rattle.h264_verify.proofs.running.turn.Goals as goal
 
 -- what excludes one another
@@ -23,13 +23,10 @@ pub returns-in-Err : goal.returns-in-Err
 returns-in-Err g c = record {
   more = tt;
   end = tt;
-  stops = λ terms bytes first f k. fed-fails f k;
-  heard = tt;
-  heard_end = tt;
-  heard_stop = (
+  stops = (
     [],
     gives-failed g.R.Source.left g.R.Source.gave g.R.Source.failures _ _ c.in-Err.ensures.gave_failed c.in-Err.ensures.failed,
-    λ terms bytes first f k. heard-fails f k,
+    λ terms bytes frames told f later. comes-as f (ap (λ l. l ++ later) (sym (append-nil bytes))) (comes-read f later _ _ _),
   );
   kept = tt;
   again = c.read.ensures.again;
@@ -42,17 +39,14 @@ returns-in-Err g c = record {
 
 pub returns-in-Ok-None : goal.returns-in-Ok-None
 returns-in-Ok-None g c = record {
-  more = λ h terms bytes first f. fed-again _ (rw c.in-Ok-None.field-0-is at c.in-Ok-None.ensures.interrupted) f;
-  end = λ h. absurd (true-not-false h);
-  stops = tt;
-  heard = λ h. (
+  more = λ h. (
     [],
     gives-interrupted g.R.Source.left g.R.Source.gave g.R.Source.failures _ _ (rw c.in-Ok-None.field-0-is at c.in-Ok-None.ensures.gave_none)
         (rw c.in-Ok-None.field-0-is at c.in-Ok-None.ensures.interrupted),
-    λ terms bytes first f. heard-none f,
+    λ terms bytes frames told f. goes-none f _,
   );
-  heard_end = λ h. absurd (true-not-false h);
-  heard_stop = tt;
+  end = λ h. absurd (true-not-false h);
+  stops = tt;
   kept = (c.requires.runs, refl, c.in-Ok-None.ensures.kept);
   again = c.read.ensures.again;
   read = λ h. absurd (well-not-stopped true Read h);
@@ -68,17 +62,11 @@ returns-in_err-advance-in-Ok-Some g c =
     rw (p.1, p.2) (record {
       more = tt;
       end = tt;
-      stops = λ terms bytes first f k. fed-halts (g.R.Source.left c.read.new.self) c.read.new.piece c.in-Ok-Some.n
-          (rw c.in-Ok-Some.field-0-is at c.in-Ok-Some.ensures.bytes) f k
-          (rw c.front.ensures at (c.in_err-advance-in-Ok-Some.ensures.stops f.frames f.after f.keeps));
-      heard = tt;
-      heard_end = tt;
-      heard_stop = (
+      stops = (
         take c.in-Ok-Some.n c.read.new.piece,
         gives-piece g.R.Source.left g.R.Source.gave g.R.Source.failures _ _ c.read.new.piece c.in-Ok-Some.n
             (rw c.in-Ok-Some.field-0-is at c.in-Ok-Some.ensures.gave) (rw c.in-Ok-Some.field-0-is at c.in-Ok-Some.ensures.bytes) c.if-n-eq0.false,
-        λ terms bytes first f k. heard-halts c.read.new.piece c.in-Ok-Some.n f k
-            (rw c.front.ensures at (c.in_err-advance-in-Ok-Some.ensures.stops f.frames f.after f.keeps)),
+        rw c.front.ensures at c.in_err-advance-in-Ok-Some.ensures.stops,
       );
       kept = tt;
       again = c.read.ensures.again;
@@ -91,19 +79,14 @@ returns-in_err-advance-in-Ok-Some g c =
 
 pub returns-in_ok-advance-in-Ok-Some : goal.returns-in_ok-advance-in-Ok-Some
 returns-in_ok-advance-in-Ok-Some g c = record {
-  more = λ h terms bytes first f. fed-more (g.R.Source.left c.read.new.self) c.read.new.piece c.in-Ok-Some.n c.in_ok-advance-in-Ok-Some.ensures.terms
-      (rw c.in-Ok-Some.field-0-is at c.in-Ok-Some.ensures.bytes) f (rw c.front.ensures at (c.in_ok-advance-in-Ok-Some.ensures.goes f.frames f.after f.keeps));
-  end = λ h. absurd (true-not-false h);
-  stops = tt;
-  heard = λ h. (
+  more = λ h. (
     take c.in-Ok-Some.n c.read.new.piece,
     gives-piece g.R.Source.left g.R.Source.gave g.R.Source.failures _ _ c.read.new.piece c.in-Ok-Some.n
         (rw c.in-Ok-Some.field-0-is at c.in-Ok-Some.ensures.gave) (rw c.in-Ok-Some.field-0-is at c.in-Ok-Some.ensures.bytes) c.if-n-eq0.false,
-    λ terms bytes first f. heard-more c.read.new.piece c.in-Ok-Some.n c.in_ok-advance-in-Ok-Some.ensures.terms f
-        (rw c.front.ensures at (c.in_ok-advance-in-Ok-Some.ensures.goes f.frames f.after f.keeps)),
+    rw c.front.ensures at c.in_ok-advance-in-Ok-Some.ensures.goes,
   );
-  heard_end = λ h. absurd (true-not-false h);
-  heard_stop = tt;
+  end = λ h. absurd (true-not-false h);
+  stops = tt;
   kept = (c.in_ok-advance-in-Ok-Some.ensures.going, c.in_ok-advance-in-Ok-Some.ensures.kept, c.in-Ok-Some.ensures.kept);
   again = c.read.ensures.again;
   read = λ h. absurd (well-not-stopped true Read h);
@@ -113,8 +96,11 @@ returns-in_ok-advance-in-Ok-Some g c = record {
   piece = search rules;
 }
 
-pub returns-then-n-eq0-clause-heard_end : goal.returns-then-n-eq0-clause-heard_end
-returns-then-n-eq0-clause-heard_end g c = λ h.
-    gives-end g.R.Source.left g.R.Source.gave g.R.Source.failures _ _ c.read.new.piece c.in-Ok-Some.n
-    (rw c.in-Ok-Some.field-0-is at c.in-Ok-Some.ensures.gave) (rw c.in-Ok-Some.field-0-is at c.in-Ok-Some.ensures.bytes) c.if-n-eq0.true
-    (rw c.in-Ok-Some.field-0-is at c.in-Ok-Some.ensures.end)
+pub returns-then-n-eq0-clause-end : goal.returns-then-n-eq0-clause-end
+returns-then-n-eq0-clause-end g c = λ h. (
+  refl,
+  refl,
+  gives-end g.R.Source.left g.R.Source.gave g.R.Source.failures _ _ c.read.new.piece c.in-Ok-Some.n
+      (rw c.in-Ok-Some.field-0-is at c.in-Ok-Some.ensures.gave) (rw c.in-Ok-Some.field-0-is at c.in-Ok-Some.ensures.bytes) c.if-n-eq0.true
+      (rw c.in-Ok-Some.field-0-is at c.in-Ok-Some.ensures.end),
+)

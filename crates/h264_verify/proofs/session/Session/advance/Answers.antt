@@ -1,37 +1,30 @@
-use Rattle.std.proofs.Common.{◌≡◌, Option, None, ap, sym, subst, ◌∙◌}
-use Rattle.h264_verify.specs.declared.state.Depth.{Depth}
-use Rattle.h264_base.specs.declared.stop.Stop.{Stop}
-use Rattle.h264_units.specs.Stream.{IsUndecided}
-use Rattle.h264_units.specs.Splitting.{Splitting}
-use Rattle.h264_verify.specs.declared.state.State.{State}
-use Rattle.h264_verify.specs.Progress.{Progress, IsReady, IsSession}
-use Rattle.h264_verify.proofs.SessionSteps.{on-keeps, stops-told, told-err}
+use Rattle.std.proofs.Common.{◌++◌, [], ap, ◌∙◌, refl}
+use Rattle.h264_verify.specs.Progress.{Progress}
+use Rattle.h264_verify.proofs.OutcomesPlayed.{err-as, told-as}
+use Rattle.h264_verify.proofs.SessionSteps.{goes-any, comes-any, judged-told, judged-write, ready-of, session-of}
 use Rattle.h264_verify.proofs.session.Session.advance.Goals as goal
 
--- a session that has not stopped
-ready-of : (depth : Depth) (stop : Option Stop) (split : Splitting) (state : State) → stop ≡ None → IsSession depth stop split state → IsReady depth split state
-ready-of depth stop split state e k = subst (λ s. IsSession depth s split state) e k
-
-session-of : (depth : Depth) (stop : Option Stop) (split : Splitting) (state : State) → stop ≡ None → IsReady depth split state →
-    IsSession depth stop split state
-session-of depth stop split state e k = subst (λ s. IsSession depth s split state) (sym e) k
-
-pub returns-in-Ok-clause-undecided : goal.returns-in-Ok-clause-undecided
-returns-in-Ok-clause-undecided g c = λ u. c.in-Ok.ensures.undecided (subst (λ s. IsUndecided s.split.rest) (sym c.self.view_is) u)
+pub feed_all-requires-clause-ready : goal.feed_all-requires-clause-ready
+feed_all-requires-clause-ready g c = ready-of _ _ _ _ (ap (λ (p : Progress). p.stop) c.self.view_is ∙ c.requires.runs) c.self.invariant
 
 pub invariant_of-self : goal.invariant_of-self
-invariant_of-self g c =
-    let none = ap (λ (p : Progress). p.stop) c.self.view_is ∙ c.requires.runs in
-    let ready = ready-of _ _ _ _ none c.self.invariant in
-    session-of _ _ _ _ none (
-      c.in-Ok.ensures.runs,
-      c.in-Ok.ensures.counted,
-      c.in-Ok.ensures.pictures,
-      on-keeps (c.in-Ok.ensures.goes ready.3.frames ready.3.before ready.3.keeps),
-    )
+invariant_of-self g c = session-of _ _ _ _ (ap (λ (p : Progress). p.stop) c.self.view_is ∙ c.requires.runs) c.in-Ok.ensures.ready
+
+pub returns-in-Ok-clause-goes : goal.returns-in-Ok-clause-goes
+returns-in-Ok-clause-goes g c = goes-any _ _ c.self.view_is c.requires.runs _ _ (ap (λ (p : Progress). p.stop) c.self.view_is ∙ c.requires.runs) refl
+    c.in-Ok.ensures.goes
+
+pub returns-in-Err-clause-stops : goal.returns-in-Err-clause-stops
+returns-in-Err-clause-stops g c = λ terms bytes frames told f later.
+    comes-any _ _ c.self.view_is c.requires.runs (λ b. (b ++ c.args.piece.now) ++ later) _ (λ b fs t w. c.in-Err.ensures.stops b fs t w later)
+    terms bytes frames told f
+
+pub returns-in-Err-clause-write : goal.returns-in-Err-clause-write
+returns-in-Err-clause-write g c = λ e.
+    let some = (ready-of _ _ _ _ (ap (λ (p : Progress). p.stop) c.self.view_is ∙ c.requires.runs) c.self.invariant).3 in
+    judged-write _ _ _ _ _ _ _ _ (err-as _ _ e) (c.in-Err.ensures.stops some.bytes some.frames some.told some.fed []).judged
 
 pub returns-in-Err-clause-write_told : goal.returns-in-Err-clause-write_told
 returns-in-Err-clause-write_told g c =
-    let none = ap (λ (p : Progress). p.stop) c.self.view_is ∙ c.requires.runs in
-    let ready = ready-of _ _ _ _ none c.self.invariant in
-    told-err _ (stops-told (c.in-Err.ensures.stops ready.3.frames ready.3.before ready.3.keeps))
+    let some = (ready-of _ _ _ _ (ap (λ (p : Progress). p.stop) c.self.view_is ∙ c.requires.runs) c.self.invariant).3 in
+    told-as _ (judged-told _ _ _ _ _ _ _ _ (c.in-Err.ensures.stops some.bytes some.frames some.told some.fed []).judged)
