@@ -123,7 +123,8 @@ module _ (extent : Extent) (before : History) where
     pub unmet-end : (calls : List Told) (stop : Stop) → IsFirstStop (end_steps extent.depth before bit) calls stop →
         end_outcome extent.depth before bit ≡ outcome calls (Err stop)
     unfolding end_outcome
-    unmet-end calls stop h = bind-stop (steps_outcome (end_steps extent.depth before bit)) _ calls stop (stop-is (end_steps extent.depth before bit) calls stop h)
+    unmet-end calls stop h = bind-stop (steps_outcome (end_steps extent.depth before bit)) _ calls stop
+        (stop-is (end_steps extent.depth before bit) calls stop h)
 
     -- So its rules are met where it comes to a summary,
     pub record Ended (calls : List Told) (summary : Summary) : Type 0 where

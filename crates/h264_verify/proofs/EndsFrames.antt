@@ -8,7 +8,7 @@ use Rattle.h264_base.specs.declared.stop.Stop.{Stop}
 use Rattle.h264_dpb.specs.declared.ended.Ended.{Ended}
 use Rattle.h264_marking.specs.Frames.{References}
 use Rattle.h264_verify.specs.declared.decoder.Decoder.{Decoder}
-use Rattle.h264_verify.specs.declared.slices.Slices.{Slices}
+use Rattle.h264_verify.specs.declared.slices.PicturesSoFar.{PicturesSoFar}
 use Rattle.h264_verify.specs.declared.picture.OpenPicture.{OpenPicture}
 use Rattle.h264_verify.specs.Telling.{took_with, frame_span, Family}
 use Rattle.h264_verify.specs.History.{History}
@@ -64,16 +64,16 @@ held-open : (on : Bool) (pictures : List CodedPicture) (p : CodedPicture) (ps : 
 held-open true pictures p ps held g e h = h ∙ ap held_after e
 held-open false pictures p ps held g e h = cc
 
-pub held-end : (before : History) (slices : Slices) (o : OpenPicture) (i : IsOpen (goes_on before) (runs_of before) o) → KeepsSlices before true slices →
+pub held-end : (before : History) (slices : PicturesSoFar) (o : OpenPicture) (i : IsOpen (goes_on before) (runs_of before) o) → KeepsSlices before true slices →
     slices.held ≡ held_after (i.p ∷ i.ps)
 held-end before slices o i k = held-open (goes_on before) (runs_of before) i.p i.ps slices.held i.goes i.are k.kept.held
 
 -- the frames that are held then
-end-sound : (before : History) (slices : Slices) (o : OpenPicture) (i : IsOpen (goes_on before) (runs_of before) o) → KeepsSlices before true slices →
+end-sound : (before : History) (slices : PicturesSoFar) (o : OpenPicture) (i : IsOpen (goes_on before) (runs_of before) o) → KeepsSlices before true slices →
     AreSound true (i.p ∷ i.ps)
 end-sound before slices o i k = subst (λ (ps : List CodedPicture). AreSound true ps) i.are (ended-sound-of (goes_on before) (runs_of before) k.sound)
 
-end-few : (before : History) (slices : Slices) (o : OpenPicture) (i : IsOpen (goes_on before) (runs_of before) o) → KeepsSlices before true slices →
+end-few : (before : History) (slices : PicturesSoFar) (o : OpenPicture) (i : IsOpen (goes_on before) (runs_of before) o) → KeepsSlices before true slices →
     length slices.held.frames ≤ buffer_size i.p.first.sps
 end-few before slices o i k = subst (λ (r : References). length r.frames ≤ buffer_size i.p.first.sps) (sym (held-end before slices o i k))
     (after-few i.p i.ps (end-sound before slices o i k))
@@ -87,7 +87,7 @@ ended-among p ps e held is h s r =
     subst (λ (n : ℕ). is_held (names held) n ≡ true) (sym number)
     (subst (λ (x : References). is_held (names x) (length ps) ≡ true) (sym h) (after-among p ps s (sym reference ∙ r)))
 
-pub some-end : (slices : Slices) (decoder : Option Decoder) (d : Decoder) (o : OpenPicture) → decoder ≡ Some d → slices.picture ≡ Some o →
+pub some-end : (slices : PicturesSoFar) (decoder : Option Decoder) (d : Decoder) (o : OpenPicture) → decoder ≡ Some d → slices.picture ≡ Some o →
     KeepsSomeFrames true slices decoder → KeepsSomeEnd o.ended slices.held d
 some-end slices decoder d o is e k =
     let frames = some-made _ k.depth decoder d is k.keeps in
@@ -154,7 +154,7 @@ none-ends took failures frames d s on pictures kept e h k =
     }
 
 -- the number of a picture that ends is below that of pictures
-pub few-end : (slices : Slices) (o : OpenPicture) (decoder : Option Decoder) → slices.picture ≡ Some o → KeepsSomeFrames true slices decoder →
+pub few-end : (slices : PicturesSoFar) (o : OpenPicture) (decoder : Option Decoder) → slices.picture ≡ Some o → KeepsSomeFrames true slices decoder →
     slices.pictures ≤ 2 ^ 42 → o.ended.picture < 2 ^ 62
 unfolding ended_of
 few-end slices o decoder e k h =

@@ -13,7 +13,7 @@ use Rattle.h264_sets.specs.Sets.{Maps, set_at}
 use Rattle.h264_sets.specs.declared.SetPair.{SetPair}
 use Rattle.h264_verify.specs.Content.{Content}
 use Rattle.h264_verify.specs.Content as contents
-use Rattle.h264_verify.specs.declared.slices.Slices.{Slices}
+use Rattle.h264_verify.specs.declared.slices.PicturesSoFar.{PicturesSoFar}
 use Rattle.h264_verify.specs.declared.picture.OpenPicture.{OpenPicture}
 use Rattle.h264_units.specs.UnitHeader.{header_of, nal_unit_type}
 use Rattle.h264_verify.specs.History.{History, maps_with, maps_of}
@@ -32,7 +32,8 @@ begins-by None (Some o) h k = absurd k
 begins-by (Some p) None h k = absurd k
 begins-by (Some p) (Some o) h k = ap (λ e. begins_picture e (picture_elements h)) k.last
 
-pub begins-as : (before : History) (h : Header) (slices : Slices) (begins : Bool) → KeepsSlices before false slices → begins ≡ begins_by slices.picture h →
+pub begins-as : (before : History) (h : Header) (slices : PicturesSoFar) (begins : Bool) → KeepsSlices before false slices → begins ≡
+    begins_by slices.picture h →
     begins ≡ begins_at before h
 begins-as before h slices begins keeps b = b ∙ begins-by (open_of (goes_on before) (runs_of before)) slices.picture h keeps.kept.picture
 
@@ -85,7 +86,7 @@ left-named true on (p ∷ ps) maps maps' e h = tt
 left-named false true (p ∷ ps) maps maps' e h = ap (λ (l : List (Option Pps)). set_at l (last_slice p).header.pic_parameter_set_id.value) (e refl) ∙ h
 left-named false false (p ∷ ps) maps maps' e h = tt
 
-module _ (before : History) (unit : NalUnit) (kind : ℕ) (old new : Slices) (n : kind ≡ nal_unit_type (header_of unit))
+module _ (before : History) (unit : NalUnit) (kind : ℕ) (old new : PicturesSoFar) (n : kind ≡ nal_unit_type (header_of unit))
     (keeps : KeepsSlices before (ends_picture kind) old) (left : IsLeft (ends_picture kind) old.picture new.picture)
     (due : new.due ≡ ((kind == 10 || kind == 11) || old.due)) (same : new ≡ record old { picture = new.picture; due = new.due }) where
   is-due : new.due ≡ ((nal_unit_type (header_of unit) == 10 || nal_unit_type (header_of unit) == 11) || is_idr_due before)
@@ -97,12 +98,12 @@ module _ (before : History) (unit : NalUnit) (kind : ℕ) (old new : Slices) (n 
     picture = subst (λ x. HoldsOpen (open_of (not (ends_picture x) && goes_on before) (runs_of before)) new.picture) n
         (left-open (ends_picture kind) (goes_on before) (runs_of before) old.picture new.picture keeps.kept.picture left);
     end = left-end (ends_picture kind) (runs_of before) old.picture new.picture keeps.kept.end left;
-    newest_idr = ap (λ (s : Slices). s.newest_idr) same ∙ keeps.kept.newest_idr;
-    counts = subst (λ (s : Slices). KeepsCounts (map counted (runs_of before)) s.counts) (sym same) keeps.kept.counts;
-    count = ap (λ (s : Slices). s.count) same ∙ keeps.kept.count;
-    pictures_are = ap (λ (s : Slices). s.pictures) same ∙ keeps.kept.pictures_are;
-    prev_ref = ap (λ (s : Slices). s.prev_ref_frame_num) same ∙ keeps.kept.prev_ref;
-    held = ap (λ (s : Slices). s.held) same ∙ keeps.kept.held ∙ left-held (ends_picture kind) (goes_on before) (runs_of before) ∙
+    newest_idr = ap (λ (s : PicturesSoFar). s.newest_idr) same ∙ keeps.kept.newest_idr;
+    counts = subst (λ (s : PicturesSoFar). KeepsCounts (map counted (runs_of before)) s.counts) (sym same) keeps.kept.counts;
+    count = ap (λ (s : PicturesSoFar). s.count) same ∙ keeps.kept.count;
+    pictures_are = ap (λ (s : PicturesSoFar). s.pictures) same ∙ keeps.kept.pictures_are;
+    prev_ref = ap (λ (s : PicturesSoFar). s.prev_ref_frame_num) same ∙ keeps.kept.prev_ref;
+    held = ap (λ (s : PicturesSoFar). s.held) same ∙ keeps.kept.held ∙ left-held (ends_picture kind) (goes_on before) (runs_of before) ∙
         ap (λ x. held_by false (not (ends_picture x) && goes_on before) (runs_of before)) n;
   }
 
@@ -138,7 +139,7 @@ end-begun true slice pictures new b h = h
 end-begun false slice pictures new b h = cc
 
 -- What a slice leaves: a later slice of a picture changes none of counts, marking and numbers.
-module _ (before : History) (unit : NalUnit) (h : Header) (ms : List CodedMacroblock) (old new : Slices) (begins : Bool) (sets : Pps × Sps)
+module _ (before : History) (unit : NalUnit) (h : Header) (ms : List CodedMacroblock) (old new : PicturesSoFar) (begins : Bool) (sets : Pps × Sps)
     (entered : Entered before begins (with_sets unit h ms sets) old) where
   abbrev slice : CodedSlice
   slice = with_sets unit h ms sets
@@ -163,15 +164,15 @@ module _ (before : History) (unit : NalUnit) (h : Header) (ms : List CodedMacrob
     picture = picture;
     end = end;
     newest_idr = id ∙ ap (λ x. if begins then idr_id h.idr_pic_id else x) entered.newest_idr ∙ newest begins (runs_of before);
-    counts = subst (λ (s : Slices). KeepsCounts (map counted pictures) s.counts) (sym same) entered.counts;
-    count = ap (λ (s : Slices). s.count) same ∙ entered.count;
+    counts = subst (λ (s : PicturesSoFar). KeepsCounts (map counted pictures) s.counts) (sym same) entered.counts;
+    count = ap (λ (s : PicturesSoFar). s.count) same ∙ entered.count;
     pictures_are = n ∙ ap (λ x. if begins then x + 1 else x) entered.pictures_are ∙ one-more begins (runs_of before);
-    prev_ref = ap (λ (s : Slices). s.prev_ref_frame_num) same ∙ entered.prev_ref;
-    held = ap (λ (s : Slices). s.held) same ∙ entered.held;
+    prev_ref = ap (λ (s : PicturesSoFar). s.prev_ref_frame_num) same ∙ entered.prev_ref;
+    held = ap (λ (s : PicturesSoFar). s.held) same ∙ entered.held;
   }
 
 -- and what is known of the sets and of the rules that are met
-pub slice-keeps : (before : History) (unit : NalUnit) (h : Header) (ms : List CodedMacroblock) (maps : Maps) (new : Slices) (begins : Bool)
+pub slice-keeps : (before : History) (unit : NalUnit) (h : Header) (ms : List CodedMacroblock) (maps : Maps) (new : PicturesSoFar) (begins : Bool)
     (sets : Pps × Sps) → begins ≡ begins_at before h → maps ≡ maps_of before → sets_of maps h.pic_parameter_set_id.value ≡ Some sets →
     KeepsPictures true false (joined_to begins (with_sets unit h ms sets) (runs_of before)) new → new.due ≡ false →
     AreSound false (joined_to begins (with_sets unit h ms sets) (runs_of before)) →

@@ -63,7 +63,8 @@ module _ (extent : Extent) (tail : Tail) (end : ℕ) where
 
   -- and then the verdict falls
   stop-last : (before : History) (units : List NalUnit) (stop : Stop) (calls : List Told) →
-      IsStopAfter extent before (remainder units tail end) stop calls → judgement before units ≡ record { reached = before; comes_to = outcome calls (Err stop) }
+      IsStopAfter extent before (remainder units tail end) stop calls → judgement before units ≡
+      record { reached = before; comes_to = outcome calls (Err stop) }
   stop-last before units stop calls (AtNext unit later e h) =
       ap (judgement before) e ∙ first-unit before unit later calls (Err stop) (stop-unit extent before unit stop calls h)
   stop-last before units stop calls (AtTail e h n) =
@@ -94,7 +95,8 @@ module _ (extent : Extent) (bytes : List ℕ) where
       ∙ legal-first extent Zeros (length bytes) h.units [] h.first h.legal
       ∙ ap (λ (o : Outcome Summary). let k : Judgement = record { reached = h.units; comes_to = with_calls h.first o } in k)
       (met-end extent h.units (8 * length bytes) h.last h.end)
-      ∙ ap (λ (c : List Told). let k : Judgement = record { reached = h.units; comes_to = outcome c (Ok (summary_of extent.depth h.units)) } in k) (sym h.calls_are)
+      ∙ ap (λ (c : List Told). let k : Judgement = record { reached = h.units; comes_to = outcome c (Ok (summary_of extent.depth h.units)) } in k)
+      (sym h.calls_are)
       ∙ ap (λ (w : Summary). let k : Judgement = record { reached = h.units; comes_to = outcome calls (Ok w) } in k) (sym h.summary_is)
 
   stops-is : (calls : List Told) (stop : Stop) (h : StopsAt extent bytes calls stop) →

@@ -10,7 +10,7 @@ use Rattle.h264_marking.specs.Ended.{ended}
 use Rattle.h264_poc.specs.Counts.{Keeps as KeepsCounts}
 use Rattle.h264_bits.specs.declared.element.Found.{Found}
 use Rattle.h264_header.specs.declared.header.Marking.{Marking}
-use Rattle.h264_verify.specs.declared.slices.Slices.{Slices}
+use Rattle.h264_verify.specs.declared.slices.PicturesSoFar.{PicturesSoFar}
 use Rattle.h264_verify.specs.declared.picture.OpenPicture.{OpenPicture}
 use Rattle.h264_verify.specs.Demands.{judged}
 use Rattle.h264_verify.specs.History.{History}
@@ -24,7 +24,7 @@ marked-judged (Ok refs) = refl
 marked-judged (Err bit) = refl
 
 -- the marking of the picture that is kept is that of the newest picture
-module _ (slices : Slices) (o : OpenPicture) (number : ℕ) (is : slices.picture ≡ Some o) (count : number ≡ slices.pictures - 1) where
+module _ (slices : PicturesSoFar) (o : OpenPicture) (number : ℕ) (is : slices.picture ≡ Some o) (count : number ≡ slices.pictures - 1) where
   abbrev answer : Result References ℕ
   answer = ended o.marking o.numbering number slices.held
 
@@ -57,44 +57,46 @@ module _ (slices : Slices) (o : OpenPicture) (number : ℕ) (is : slices.picture
   closing-held before k = held-then (goes_on before) (runs_of before) k.kept
 
 -- nothing goes on
-none-held : (on : Bool) (pictures : List CodedPicture) (slices : Slices) → slices.picture ≡ None → KeepsPictures on false pictures slices →
+none-held : (on : Bool) (pictures : List CodedPicture) (slices : PicturesSoFar) → slices.picture ≡ None → KeepsPictures on false pictures slices →
     slices.held ≡ held_by true on pictures
 none-held true [] slices is k = k.held
 none-held false [] slices is k = k.held
 none-held true (p ∷ ps) slices is k = absurd (subst (HoldsOpen (Some p)) is k.picture)
 none-held false (p ∷ ps) slices is k = k.held
 
-none-judged : (on : Bool) (pictures : List CodedPicture) (slices : Slices) → slices.picture ≡ None → KeepsPictures on false pictures slices →
+none-judged : (on : Bool) (pictures : List CodedPicture) (slices : PicturesSoFar) → slices.picture ≡ None → KeepsPictures on false pictures slices →
     (let r : Result (Unit {0}) Stop = Ok tt in r ≡ judged (if on then end_of_picture pictures else []))
 none-judged true [] slices is k = refl
 none-judged false pictures slices is k = refl
 none-judged true (p ∷ ps) slices is k = absurd (subst (HoldsOpen (Some p)) is k.picture)
 
 -- what is kept once it has ended
-closed-pictures : (on : Bool) (pictures : List CodedPicture) (old new : Slices) → KeepsPictures on false pictures old → new ≡ record old { held = new.held } →
+closed-pictures : (on : Bool) (pictures : List CodedPicture) (old new : PicturesSoFar) → KeepsPictures on false pictures old → new ≡
+    record old { held = new.held } →
     new.held ≡ held_by true on pictures → KeepsPictures on true pictures new
 closed-pictures on pictures old new k same held = record {
-  picture = subst (λ (s : Slices). HoldsOpen (open_of on pictures) s.picture) (sym same) k.picture;
-  end = subst (λ (s : Slices). HoldsEnd pictures s.picture) (sym same) k.end;
-  newest_idr = ap (λ (s : Slices). s.newest_idr) same ∙ k.newest_idr;
-  counts = subst (λ (s : Slices). KeepsCounts (map counted pictures) s.counts) (sym same) k.counts;
-  count = ap (λ (s : Slices). s.count) same ∙ k.count;
-  pictures_are = ap (λ (s : Slices). s.pictures) same ∙ k.pictures_are;
-  prev_ref = ap (λ (s : Slices). s.prev_ref_frame_num) same ∙ k.prev_ref;
+  picture = subst (λ (s : PicturesSoFar). HoldsOpen (open_of on pictures) s.picture) (sym same) k.picture;
+  end = subst (λ (s : PicturesSoFar). HoldsEnd pictures s.picture) (sym same) k.end;
+  newest_idr = ap (λ (s : PicturesSoFar). s.newest_idr) same ∙ k.newest_idr;
+  counts = subst (λ (s : PicturesSoFar). KeepsCounts (map counted pictures) s.counts) (sym same) k.counts;
+  count = ap (λ (s : PicturesSoFar). s.count) same ∙ k.count;
+  pictures_are = ap (λ (s : PicturesSoFar). s.pictures) same ∙ k.pictures_are;
+  prev_ref = ap (λ (s : PicturesSoFar). s.prev_ref_frame_num) same ∙ k.prev_ref;
   held = held;
 }
 
-pub closed-slices : (before : History) (old new : Slices) (r : Result (Unit {0}) Stop) → KeepsSlices before false old → r ≡ judged (closing_demands before) →
+pub closed-slices : (before : History) (old new : PicturesSoFar) (r : Result (Unit {0}) Stop) → KeepsSlices before false old → r ≡
+    judged (closing_demands before) →
     new ≡ record old { held = new.held } → new.held ≡ held_by true (goes_on before) (runs_of before) → OnOk r (KeepsSlices before true new)
 closed-slices before old new (Err e) k j same held = tt
 closed-slices before old new (Ok x) k j same held = record {
-  due = ap (λ (s : Slices). s.due) same ∙ k.due;
+  due = ap (λ (s : PicturesSoFar). s.due) same ∙ k.due;
   kept = closed-pictures (goes_on before) (runs_of before) old new k.kept same held;
   sound = sound-ended (goes_on before) (runs_of before) (ended-sound (goes_on before) (runs_of before) j k.sound);
   active = k.active;
   named = k.named;
 }
 
-pub none-closed : (before : History) (slices : Slices) → slices.picture ≡ None → KeepsSlices before false slices → KeepsSlices before true slices
+pub none-closed : (before : History) (slices : PicturesSoFar) → slices.picture ≡ None → KeepsSlices before false slices → KeepsSlices before true slices
 none-closed before slices is k = closed-slices before slices slices (Ok tt) k (none-judged (goes_on before) (runs_of before) slices is k.kept) refl
     (none-held (goes_on before) (runs_of before) slices is k.kept)

@@ -222,7 +222,8 @@ module _ {S : Type 0} {took : S → List Call → Type 0} {failures : S → ℕ}
       ComesTo f (span took failures s s') (whole bytes) answer
   comes-any whole answer h terms bytes frames told f =
       subst (λ t. (w : WasFed t old bytes frames told) → ComesTo w (span took failures s s') (whole bytes) answer) f.terms_is
-      (subst (λ (p : Progress). (w : WasFed p.terms p bytes frames told) → ComesTo w (span took failures s s') (whole bytes) answer) (as-seen old seen same runs)
+      (subst (λ (p : Progress). (w : WasFed p.terms p bytes frames told) → ComesTo w (span took failures s s') (whole bytes) answer)
+      (as-seen old seen same runs)
       (h bytes frames told)) f
 
 -- ---- between two calls
@@ -256,7 +257,8 @@ module _ {terms : Terms} {split mid new : Splitting} {state : State} {piece : Li
   )
 
 -- a session that has not stopped
-pub ready-of : (terms : Terms) (stop : Option Stop) (split : Splitting) (state : State) → stop ≡ None → IsSession terms stop split state → IsReady terms split state
+pub ready-of : (terms : Terms) (stop : Option Stop) (split : Splitting) (state : State) → stop ≡ None → IsSession terms stop split state →
+    IsReady terms split state
 ready-of terms stop split state e k = subst (λ s. IsSession terms s split state) e k
 
 pub session-of : (terms : Terms) (stop : Option Stop) (split : Splitting) (state : State) → stop ≡ None → IsReady terms split state →

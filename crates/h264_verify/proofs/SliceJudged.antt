@@ -13,7 +13,7 @@ use Rattle.h264_header.specs.declared.header.Header.{Header}
 use Rattle.h264_header.specs.Layout.{sets_of}
 use Rattle.h264_dpb.specs.Ending.{ended_of}
 use Rattle.h264_verify.specs.declared.decoder.Decoder.{Decoder}
-use Rattle.h264_verify.specs.declared.slices.Slices.{Slices}
+use Rattle.h264_verify.specs.declared.slices.PicturesSoFar.{PicturesSoFar}
 use Rattle.h264_verify.specs.Telling.{Told, Family}
 use Rattle.h264_verify.specs.Outcome.{Outcome, Plays}
 use Rattle.h264_verify.specs.Demands.{judged}
@@ -99,7 +99,7 @@ pub before-held : (depth : Depth) (frames : Family) (on begins : Bool) (pictures
 before-held depth frames on begins pictures h decoder b k = made-then _ _ depth decoder (held-before frames on begins pictures h b) k
 
 -- what the buffer is told of its picture, where it begins one
-pub ended-is : (before : History) (begins : Bool) (slice : CodedSlice) (slices : Slices) → Entered before begins slice slices → begins ≡ true →
+pub ended-is : (before : History) (begins : Bool) (slice : CodedSlice) (slices : PicturesSoFar) → Entered before begins slice slices → begins ≡ true →
     ended_of slice.sps slice.header slices.pictures (frame_count slices.count) (buffer_size slice.sps) ≡
     ended_picture (record { first = slice; later = [] }) (runs_of before)
 ended-is before true slice slices e b = rw (e.pictures_are, e.count) refl

@@ -14,7 +14,7 @@ use Rattle.h264_header.specs.Layout.{sets_of}
 use Rattle.h264_header.specs.Picture.{is_idr}
 use Rattle.h264_marking.specs.Ended.{numbering_of}
 use Rattle.h264_marking.specs.Gaps.{all_filled, unused_short_term_frame_nums}
-use Rattle.h264_verify.specs.declared.slices.Slices.{Slices}
+use Rattle.h264_verify.specs.declared.slices.PicturesSoFar.{PicturesSoFar}
 use Rattle.h264_verify.specs.declared.state.State.{State}
 use Rattle.h264_verify.specs.Telling.{took_with, frame_span, Family}
 use Rattle.h264_verify.specs.Outcome.{Plays}
@@ -62,7 +62,7 @@ module _ {S : Type 0} (depth : Depth) (took : S → List Call → Type 0) (failu
             (placed.stands (pps, sps) sets) tt placed.first s1 s2 r plays)
 
         -- it is sound with the pictures before it
-        pub sound-slice : (ms : List CodedMacroblock) (new : Slices) → IsMarked h → is_usable sps ≡ true →
+        pub sound-slice : (ms : List CodedMacroblock) (new : PicturesSoFar) → IsMarked h → is_usable sps ≡ true →
             (begins ≡ true → all_filled (numbering_of sps h) (unused_short_term_frame_nums (is_idr h) mid.slices.prev_ref_frame_num (numbering_of sps h))
             mid.slices.held ≡ Some new.held) → AreSound false (joined_to begins (slice ms) (runs_of before))
         sound-slice ms new marked usable filled =
@@ -72,7 +72,7 @@ module _ {S : Type 0} (depth : Depth) (took : S → List Call → Type 0) (failu
             (λ begun. gap-filled before begins mid.slices _ (slice ms) placed.ended begun (filled begun))
 
         -- what is kept of it, where its rules are met
-        pub keeps-slice : (ms : List CodedMacroblock) (new : Slices) → IsMarked h → is_usable sps ≡ true →
+        pub keeps-slice : (ms : List CodedMacroblock) (new : PicturesSoFar) → IsMarked h → is_usable sps ≡ true →
             KeepsPictures true false (joined_to begins (slice ms) (runs_of before)) new → new.due ≡ false →
             (begins ≡ true → all_filled (numbering_of sps h) (unused_short_term_frame_nums (is_idr h) mid.slices.prev_ref_frame_num (numbering_of sps h))
             mid.slices.held ≡ Some new.held) → KeepsSlices (record { unit = unit; content = contents.OfSlice h ms } ∷ before) false new

@@ -10,7 +10,7 @@ use Rattle.h264_marking.specs.Gaps.{unused_short_term_frame_nums}
 use Rattle.h264_marking.specs.Ended.{numbering_of}
 use Rattle.h264_dpb.specs.Turns.{turn_then}
 use Rattle.h264_verify.specs.declared.decoder.Decoder.{Decoder}
-use Rattle.h264_verify.specs.declared.slices.Slices.{Slices}
+use Rattle.h264_verify.specs.declared.slices.PicturesSoFar.{PicturesSoFar}
 use Rattle.h264_verify.specs.declared.picture.OpenPicture.{OpenPicture}
 use Rattle.h264_verify.specs.Buffering.{after_all, gaps_turn}
 use Rattle.h264_verify.specs.Demands.{judged}
@@ -40,7 +40,7 @@ use Rattle.h264_verify.specs.Telling.{Family}
 few : (count length : ℕ) → count ≡ length → count < 2 ^ 42 → length < 2 ^ 62
 few count length e h = omega (arith, e, h)
 
-some-ended : (slices : Slices) (d : Option Decoder) (k : KeepsSomeRules true slices d) → slices.pictures < 2 ^ 42 → KeepsSomeGap d
+some-ended : (slices : PicturesSoFar) (d : Option Decoder) (k : KeepsSomeRules true slices d) → slices.pictures < 2 ^ 42 → KeepsSomeGap d
 some-ended slices d k h = record {
   depth = k.depth;
   frames = k.frames;
@@ -50,13 +50,13 @@ some-ended slices d k h = record {
   keeps = ended-gap k.depth k.frames _ (runs_of k.before) d k.keeps;
 }
 
-pub some-begun : (begins : Bool) (slices : Slices) (d : Option Decoder) → begins ≡ true → KeepsSomeRules begins slices d → slices.pictures < 2 ^ 42 →
+pub some-begun : (begins : Bool) (slices : PicturesSoFar) (d : Option Decoder) → begins ≡ true → KeepsSomeRules begins slices d → slices.pictures < 2 ^ 42 →
     KeepsSomeGap d
 some-begun true slices d b k h = some-ended slices d k h
 some-begun false slices d b k h = cc
 
 -- the rules of a picture's first slice
-pub first-rules : (depth : Depth) (on : Bool) (pictures : List CodedPicture) (slices : Slices) (s : CodedSlice) → KeepsPictures on true pictures slices →
+pub first-rules : (depth : Depth) (on : Bool) (pictures : List CodedPicture) (slices : PicturesSoFar) (s : CodedSlice) → KeepsPictures on true pictures slices →
     first_slice_rules depth (pictures_by slices (map counted pictures) (after_all pictures).buffer) s ≡ first_slice_rules depth (pictures_before pictures) s
 first-rules depth true pictures slices s k = rw (k.newest_idr, k.prev_ref, k.held) refl
 first-rules depth false pictures slices s k = rw (k.newest_idr, k.prev_ref, k.held) refl
@@ -81,11 +81,11 @@ enters-held depth frames on pictures slice d m k =
     made-with _ _ _ depth d (λ x k m. record { format = m; output = k.output; settled = k.settled }) k
     (idr-some (is_idr slice.header) (λ (x : Decoder). x.format ≡ Some (format_of slice.sps)) d m)
 
-pub held-all : (on : Bool) (pictures : List CodedPicture) (slices : Slices) → KeepsPictures on true pictures slices → slices.held ≡ held_after pictures
+pub held-all : (on : Bool) (pictures : List CodedPicture) (slices : PicturesSoFar) → KeepsPictures on true pictures slices → slices.held ≡ held_after pictures
 held-all true pictures slices k = k.held
 held-all false pictures slices k = k.held
 
-pub enters-first : {X E : Type 0} (r : Result X E) (depth : Depth) (frames : Family) (on : Bool) (pictures : List CodedPicture) (slices : Slices)
+pub enters-first : {X E : Type 0} (r : Result X E) (depth : Depth) (frames : Family) (on : Bool) (pictures : List CodedPicture) (slices : PicturesSoFar)
     (slice : CodedSlice) (old new : Option Decoder) → WhereMade depth (KeepsFrames frames on true pictures) old → format_in new ≡ format_in old →
     (is_idr slice.header ≡ false → IsMadeAs (format_of slice.sps) old) → KeepsPictures on true pictures slices →
     OnOk r (WhereMade depth (Gap frames pictures slice slices.prev_ref_frame_num slices.held) new) →
@@ -112,7 +112,7 @@ module _ (sps : Sps) (usable : is_usable sps ≡ true) where
       (d : Decoder) → KeepsFrames frames on true pictures d → frame_places sps.max_num_ref_frames ≤ size_of d.output
   places-with frames on pictures h d k = settled-places d (format-with frames on pictures h d k) (gap-by frames on pictures d k).settled
 
-  goes-after : (depth : Depth) (frames : Family) (on : Bool) (pictures : List CodedPicture) (slices : Slices) (decoder : Option Decoder) →
+  goes-after : (depth : Depth) (frames : Family) (on : Bool) (pictures : List CodedPicture) (slices : PicturesSoFar) (decoder : Option Decoder) →
       KeepsPictures on true pictures slices → AreSound (has_ended on true) pictures → WhereMade depth (KeepsFrames frames on true pictures) decoder →
       HasSet sps pictures → GoesWith sps slices.held decoder
   goes-after depth frames on pictures slices decoder k s f h = record {
@@ -123,7 +123,7 @@ module _ (sps : Sps) (usable : is_usable sps ≡ true) where
     format = made-some _ depth decoder (made-then _ (λ d. d.format ≡ Some (format_of sps)) depth decoder (format-with frames on pictures h) f);
   }
 
-  pub goes-with : (depth : Depth) (begins : Bool) (frames : Family) (before : History) (slices : Slices) (decoder : Option Decoder) → begins ≡ true →
+  pub goes-with : (depth : Depth) (begins : Bool) (frames : Family) (before : History) (slices : PicturesSoFar) (decoder : Option Decoder) → begins ≡ true →
       KeepsSlices before begins slices → WhereMade depth (KeepsFrames frames (goes_on before) begins (runs_of before)) decoder → HasSet sps (runs_of before) →
       GoesWith sps slices.held decoder
   goes-with depth true frames before slices decoder b k f h = goes-after depth frames (goes_on before) (runs_of before) slices decoder k.kept k.sound f h
@@ -141,13 +141,13 @@ pub enters-later : (depth : Depth) (frames : Family) (on : Bool) (pictures : Lis
     WhereMade depth (EntersBy frames false slice on pictures) decoder
 enters-later depth frames on pictures slice h decoder b k = made-then _ _ depth decoder (enters-on frames on pictures slice h b) k
 
-later-open : (p : CodedPicture) (ps : List CodedPicture) (slices : Slices) (o : Option OpenPicture) → slices.picture ≡ o → HoldsOpen (Some p) o →
+later-open : (p : CodedPicture) (ps : List CodedPicture) (slices : PicturesSoFar) (o : Option OpenPicture) → slices.picture ≡ o → HoldsOpen (Some p) o →
     slices.held ≡ held_in (p ∷ ps) → slices_by slices ≡ slices_before (p ∷ ps)
 later-open p ps slices None e k held = absurd k
 later-open p ps slices (Some o) e k held = rw (e, k.types, k.marking, held) refl
 
 -- what its rules look at
-pub later-rules : (on : Bool) (pictures : List CodedPicture) (slices : Slices) (h : Header) → begins_after (open_of on pictures) h ≡ false →
+pub later-rules : (on : Bool) (pictures : List CodedPicture) (slices : PicturesSoFar) (h : Header) → begins_after (open_of on pictures) h ≡ false →
     KeepsPictures on false pictures slices → slices_by slices ≡ slices_before pictures
 later-rules on [] slices h b k = cc
 later-rules false (p ∷ ps) slices h b k = cc

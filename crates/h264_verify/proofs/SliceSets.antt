@@ -19,7 +19,7 @@ use Rattle.h264_marking.specs.Frames.{References}
 use Rattle.h264_marking.specs.Gaps.{unused_short_term_frame_nums, all_filled}
 use Rattle.h264_marking.specs.Ended.{numbering_of}
 use Rattle.h264_verify.specs.Demands.{judged}
-use Rattle.h264_verify.specs.declared.slices.Slices.{Slices}
+use Rattle.h264_verify.specs.declared.slices.PicturesSoFar.{PicturesSoFar}
 use Rattle.h264_verify.specs.History.{History, with_pair, maps_of}
 use Rattle.h264_verify.specs.Slices.{is_active}
 use Rattle.h264_verify.specs.Pictures.{CodedSlice, CodedPicture, last_slice, goes_on, open_of, begins_after, joined_to, runs_of, held_after}
@@ -75,7 +75,7 @@ stands-if true due pictures maps sps bit h a ok b i = stands-set due pictures ma
 stands-if false due pictures maps sps bit h a ok b i = cc
 
 -- what is kept of the units before it
-pub before-active : (before : History) (ended : Bool) (slices : Slices) (maps : Maps) → KeepsSlices before ended slices → maps ≡ maps_of before →
+pub before-active : (before : History) (ended : Bool) (slices : PicturesSoFar) (maps : Maps) → KeepsSlices before ended slices → maps ≡ maps_of before →
     HasActive slices.due (runs_of before) maps
 before-active before ended slices maps k m =
     subst (λ (x : Maps). HasActive slices.due (runs_of before) x) (sym m)
@@ -137,7 +137,8 @@ joined-sound false true slice (p ∷ ps) b s m u set f = (
 joined-sound false false slice (p ∷ ps) b s m u set f = cc
 
 -- the gap before a picture that begins was filled
-pub gap-filled : (before : History) (begins : Bool) (old : Slices) (held : References) (slice : CodedSlice) → KeepsSlices before begins old → begins ≡ true →
+pub gap-filled : (before : History) (begins : Bool) (old : PicturesSoFar) (held : References) (slice : CodedSlice) → KeepsSlices before begins old →
+    begins ≡ true →
     all_filled (numbering_of slice.sps slice.header)
     (unused_short_term_frame_nums (is_idr slice.header) old.prev_ref_frame_num (numbering_of slice.sps slice.header)) old.held ≡ Some held →
     has_gap_filled (record { first = slice; later = [] }) (runs_of before) ≡ true

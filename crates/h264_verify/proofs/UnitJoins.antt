@@ -38,7 +38,7 @@ use Rattle.h264_verify.specs.UnitOutcome.{content_to_data}
 use Rattle.h264_verify.proofs.CourseParts.{takes-on, takes-stops, reads-on, reads-stops, ends-on}
 use Rattle.h264_verify.proofs.OutcomesPlayed.{gives-plays}
 use Rattle.h264_verify.proofs.KeepsEntered.{IsNoSlice, EndsBefore, passed-keeps}
-use Rattle.h264_verify.specs.declared.slices.Slices.{Slices}
+use Rattle.h264_verify.specs.declared.slices.PicturesSoFar.{PicturesSoFar}
 use Rattle.h264_verify.proofs.WhereMade.{MakesNone, made-then}
 
 module _ {S : Type 0} (extent : Extent) (frames : Family) (took : S → List Call → Type 0) (failures : S → ℕ) (before : History) (unit : NalUnit)
@@ -218,7 +218,7 @@ runs-with before unit h ms maps begins sets b maps-are named =
     (sym named ∙ ap (λ m. sets_of m h.pic_parameter_set_id.value) maps-are)
 
 -- the rest of what is kept stays
-pub within : {depth : Depth} {frames made : Family} {before : History} {ended : Bool} (state : State) (slices : Slices) (decoder : Option Decoder) →
+pub within : {depth : Depth} {frames made : Family} {before : History} {ended : Bool} (state : State) (slices : PicturesSoFar) (decoder : Option Decoder) →
     Keeps depth frames before state → KeepsSlices before ended slices → WhereMade depth (KeepsFrames made (goes_on before) ended (runs_of before)) decoder →
     KeepsWithin depth made before ended (record state { slices = slices; decoder = decoder })
 within state slices decoder k s d = record { units = k.units; sets = k.sets; slices = s; decoder = d }

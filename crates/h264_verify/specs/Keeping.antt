@@ -17,7 +17,7 @@ use Rattle.h264_sets.specs.Sets.{Maps}
 use Rattle.h264_verify.specs.declared.frame_num.Gap.{Gap}
 use Rattle.h264_verify.specs.declared.head.SlicePlace.{SlicePlace}
 use Rattle.h264_verify.specs.declared.slices.Slice.{Slice}
-use Rattle.h264_verify.specs.declared.slices.Slices.{Slices}
+use Rattle.h264_verify.specs.declared.slices.PicturesSoFar.{PicturesSoFar}
 use Rattle.h264_verify.specs.declared.picture.OpenPicture.{OpenPicture}
 use Rattle.h264_verify.specs.declared.picture.Types.{Types}
 use Rattle.h264_verify.specs.declared.state.Depth.{Depth}
@@ -108,7 +108,7 @@ HoldsEnd (p ∷ ps) None = Unit {0}
 HoldsEnd (p ∷ ps) (Some o) = o.ended ≡ ended_picture p ps
 
 -- What is kept of these pictures: more slices may come to the newest, or not; it has ended, or not.
-pub record KeepsPictures (on ended : Bool) (pictures : List CodedPicture) (slices : Slices) : Type 0 where
+pub record KeepsPictures (on ended : Bool) (pictures : List CodedPicture) (slices : PicturesSoFar) : Type 0 where
   pub picture : HoldsOpen (open_of on pictures) slices.picture
   pub end : HoldsEnd pictures slices.picture
   pub newest_idr : slices.newest_idr ≡ newest_idr_of pictures
@@ -119,7 +119,7 @@ pub record KeepsPictures (on ended : Bool) (pictures : List CodedPicture) (slice
   pub held : slices.held ≡ held_by ended on pictures
 
 -- what is kept of the slices of these units
-pub record KeepsSlices (before : History) (ended : Bool) (slices : Slices) : Type 0 where
+pub record KeepsSlices (before : History) (ended : Bool) (slices : PicturesSoFar) : Type 0 where
   pub due : slices.due ≡ is_idr_due before
   pub kept : KeepsPictures (goes_on before) ended (runs_of before) slices
   pub sound : AreSound (has_ended (goes_on before) ended) (runs_of before)
@@ -405,7 +405,7 @@ pub record KeepsSomeEnd (ended : Ended) (held : References) (d : Decoder) : Type
   pub keeps : KeepsFrames frames true false (p ∷ ps) d
 
 -- there are pictures of which this is kept; the newest has been marked, or not
-pub record KeepsSomeFrames (ended : Bool) (slices : Slices) (decoder : Option Decoder) : Type 0 where
+pub record KeepsSomeFrames (ended : Bool) (slices : PicturesSoFar) (decoder : Option Decoder) : Type 0 where
   pub depth : Depth
   pub frames : Family
   pub before : History
@@ -413,7 +413,7 @@ pub record KeepsSomeFrames (ended : Bool) (slices : Slices) (decoder : Option De
   pub keeps : WhereMade depth (KeepsFrames frames (goes_on before) false (runs_of before)) decoder
 
 -- there are pictures of which this is kept, the newest of which has ended here, or not
-pub record KeepsSomeRules (ended : Bool) (slices : Slices) (decoder : Option Decoder) : Type 0 where
+pub record KeepsSomeRules (ended : Bool) (slices : PicturesSoFar) (decoder : Option Decoder) : Type 0 where
   pub depth : Depth
   pub frames : Family
   pub before : History
@@ -421,7 +421,7 @@ pub record KeepsSomeRules (ended : Bool) (slices : Slices) (decoder : Option Dec
   pub keeps : WhereMade depth (KeepsFrames frames (goes_on before) ended (runs_of before)) decoder
 
 -- there are units of which this is kept
-pub record KeepsSomeSlice (slices : Slices) (sets : Maps) (decoder : Option Decoder) : Type 0 where
+pub record KeepsSomeSlice (slices : PicturesSoFar) (sets : Maps) (decoder : Option Decoder) : Type 0 where
   pub depth : Depth
   pub frames : Family
   pub before : History
@@ -430,7 +430,7 @@ pub record KeepsSomeSlice (slices : Slices) (sets : Maps) (decoder : Option Deco
   pub keeps : WhereMade depth (KeepsFrames frames (goes_on before) false (runs_of before)) decoder
 
 -- what the rules of a picture's first slice look at, by what is kept of the pictures before it
-abbrev pub pictures_by : Slices → List Picture → Buffered Shown → PicturesBefore
+abbrev pub pictures_by : PicturesSoFar → List Picture → Buffered Shown → PicturesBefore
 pictures_by slices pictures b = record {
   newest_idr = slices.newest_idr;
   prev_ref_frame_num = slices.prev_ref_frame_num;
@@ -444,7 +444,7 @@ abbrev pub same_type_by : Option OpenPicture → Header → Demand
 same_type_by o h = record { rule = SliceType; bit = h.kind.bit; met = agrees_by (types_by o) h }
 
 -- what the rules of a later slice look at, by what is kept of its picture
-abbrev pub slices_by : Slices → SlicesBefore
+abbrev pub slices_by : PicturesSoFar → SlicesBefore
 slices_by slices = record {
   has_i = (types_by slices.picture).i;
   has_p = (types_by slices.picture).p;
@@ -459,7 +459,7 @@ slice_at place h macroblocks = with_sets place.unit.now h macroblocks (place.pps
 
 -- What is kept once the rules of a slice are met, before it is entered: the open picture, the newest idr_pic_id and the number of
 -- pictures are those before it; counts and held frames are those of the pictures with it.
-pub record Entered (before : History) (begins : Bool) (slice : CodedSlice) (slices : Slices) : Type 0 where
+pub record Entered (before : History) (begins : Bool) (slice : CodedSlice) (slices : PicturesSoFar) : Type 0 where
   pub picture : HoldsOpen (open_of (goes_on before) (runs_of before)) slices.picture
   pub end : HoldsEnd (runs_of before) slices.picture
   pub newest_idr : slices.newest_idr ≡ newest_idr_of (runs_of before)

@@ -5,6 +5,7 @@ ghost use Rattle.std.specs.Prelude.{◌≡◌, true, IfOk, IfErr};
 ghost use Rattle.h264_units.specs.UnitTypes.{type_number};
 ghost use Rattle.h264_verify.specs.Memory.{reads_slices, is_kind_read, is_read, bytes_of};
 
+use crate::nal_header::NalHeader;
 use crate::state::Depth;
 use h264_base::Stop;
 use h264_rbsp::Rbsp;
@@ -37,7 +38,7 @@ pub fn read_bytes(alloc: Global, depth: Depth, unit: &NalUnit) -> Result<Option<
     ensures bytes { IfOk result (λ rbsp. rbsp ≡ bytes_of depth unit.now) }
     ensures err { IfErr result (λ e. (e ≡ Stop.Memory) × (is_read depth unit.now ≡ true)) }
 {
-    if !is_kind_read(depth, NalUnitType::of(unit.body()[0])) {
+    if !is_kind_read(depth, NalHeader::of(unit).nal_unit_type()) {
         return Ok(None);
     }
     match Rbsp::of(alloc, unit) {

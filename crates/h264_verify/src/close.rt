@@ -19,13 +19,13 @@ ghost use Rattle.h264_verify.specs.Buffering.{closing_frames};
 
 use crate::decoder::Decoder;
 use crate::rules::check;
-use crate::slices::Slices;
+use crate::slices::PicturesSoFar;
 use h264_base::{Rule, Stop};
 use h264_dpb::FrameSink;
 use h264_marking::mark_end;
 
 /// The end of the slice data of the picture that may go on, where they are read: all its macroblocks are coded.
-fn end_data(slices: &Slices, decoder: &Option<Decoder>) -> Result<(), Stop>
+fn end_data(slices: &PicturesSoFar, decoder: &Option<Decoder>) -> Result<(), Stop>
     ensures judged { (depth : Depth) (frames : Family) (before : History) → KeepsSlices before false slices.now →
         WhereMade depth (KeepsFrames frames (goes_on before) false (runs_of before)) decoder.now →
         answers result ≡ steps_outcome (whole_steps depth before) }
@@ -41,7 +41,7 @@ fn end_data(slices: &Slices, decoder: &Option<Decoder>) -> Result<(), Stop>
 }
 
 /// The end of the picture that may go on, where there is one.
-fn end(slices: &mut Slices) -> Result<(), Stop>
+fn end(slices: &mut PicturesSoFar) -> Result<(), Stop>
     ensures judged { (before : History) → KeepsSlices before false slices.old → result ≡ judged (closing_demands before) }
     ensures ended { (before : History) → KeepsSlices before false slices.old → OnOk result (KeepsSlices before true slices.new) }
     ensures others { slices.new ≡ record slices.old { held = slices.new.held } }
@@ -60,7 +60,7 @@ fn end(slices: &mut Slices) -> Result<(), Stop>
 
 /// The frame of the picture that may go on takes its place, where frames are made.
 fn end_frame<S: FrameSink>(
-    slices: &Slices,
+    slices: &PicturesSoFar,
     decoder: &mut Option<Decoder>,
     sink: &mut S,
 ) -> Result<(), Stop>
@@ -88,7 +88,7 @@ fn end_frame<S: FrameSink>(
 /// The end of the picture that may go on, where there is one: all its macroblocks are coded (7.4.3), it is marked (8.2.5), and its frame takes its
 /// place in the picture buffer (C.4). Err: Incomplete or MarkCommand, with its bit, or Write where the sink failed.
 pub fn close<S: FrameSink>(
-    slices: &mut Slices,
+    slices: &mut PicturesSoFar,
     decoder: &mut Option<Decoder>,
     sink: &mut S,
 ) -> Result<(), Stop>
@@ -113,7 +113,7 @@ pub fn close<S: FrameSink>(
 /// That end, where the picture ends here. Err: as that of `close`.
 pub fn close_if<S: FrameSink>(
     ends: bool,
-    slices: &mut Slices,
+    slices: &mut PicturesSoFar,
     decoder: &mut Option<Decoder>,
     sink: &mut S,
 ) -> Result<(), Stop>

@@ -25,6 +25,7 @@ pub mod decoder;
 mod frame_num;
 mod head;
 pub mod laws;
+mod nal_header;
 pub mod picture;
 pub mod rules;
 pub mod running;

@@ -50,9 +50,9 @@ use h264_poc::{Count, Counts, picture_of};
 use h264_sps::sps::Sps;
 use h264_units::{NalUnit, NalUnitType};
 
-/// What is kept of the slices so far.
+/// What the slices so far leave for the rules of the next one.
 #[derive(Drop)]
-pub struct Slices {
+pub struct PicturesSoFar {
     /// The picture to which more slices may come.
     pub picture: Option<OpenPicture>,
     /// An IDR picture is due.
@@ -120,7 +120,7 @@ fn count_picture(
 
 /// The rules of a picture's first slice after those on its frame_num, once the missing frames are held: on idr_pic_id, counts, QP and list.
 fn check_new_picture(
-    slices: &mut Slices,
+    slices: &mut PicturesSoFar,
     head: &SliceHead<'_>,
     list: &mut ArrayVec<RefSlot, 16>,
 ) -> Result<(), Stop>
@@ -150,7 +150,7 @@ fn check_new_picture(
 
 /// The rules of a picture's first slice from its type on, where the picture before has ended; and what the picture leaves.
 fn check_first_slice<S: FrameSink>(
-    slices: &mut Slices,
+    slices: &mut PicturesSoFar,
     head: &SliceHead<'_>,
     list: &mut ArrayVec<RefSlot, 16>,
     decoder: &mut Option<Decoder>,
@@ -208,7 +208,7 @@ fn check_first_slice<S: FrameSink>(
 
 /// The rules of a picture's later slice from its type on.
 fn check_later_slice(
-    slices: &Slices,
+    slices: &PicturesSoFar,
     head: &SliceHead<'_>,
     list: &mut ArrayVec<RefSlot, 16>,
 ) -> Result<(), Stop>
@@ -230,7 +230,7 @@ fn check_later_slice(
 
 /// The rules of a slice from its type on, its list, and what a picture that begins leaves.
 fn check_rules<S: FrameSink>(
-    slices: &mut Slices,
+    slices: &mut PicturesSoFar,
     head: &SliceHead<'_>,
     list: &mut ArrayVec<RefSlot, 16>,
     decoder: &mut Option<Decoder>,
@@ -321,7 +321,7 @@ fn frame_count(count: Option<Count>) -> i32
 /// Keeps what a slice leaves that begins a picture, or goes on with one, where its unit ends before the bit `following`. Its marking may leave
 /// the header.
 fn enter(
-    slices: &mut Slices,
+    slices: &mut PicturesSoFar,
     begins: bool,
     header: &mut Header,
     numbering: Numbering,
@@ -368,7 +368,7 @@ fn enter(
 /// first of the unit), or Write where the sink failed. What is kept is then of no use.
 pub(crate) fn judge_rules<S: FrameSink>(
     place: &SlicePlace<'_>,
-    slices: &mut Slices,
+    slices: &mut PicturesSoFar,
     slice: &mut Slice,
     decoder: &mut Option<Decoder>,
     sink: &mut S,
@@ -438,10 +438,10 @@ pub(crate) fn judge_rules<S: FrameSink>(
 }
 
 /// Before the first slice, when an IDR picture is due (7.4.1.2.1).
-pub fn no_slices() -> Slices
+pub fn no_slices() -> PicturesSoFar
     ensures { KeepsSlices [] false result }
 {
-    Slices {
+    PicturesSoFar {
         picture: None,
         due: true,
         newest_idr: None,
@@ -455,7 +455,7 @@ pub fn no_slices() -> Slices
 
 /// A unit of this type that is no slice ends the picture before it, or does not (7.4.1.2.3); after the end of a sequence or of the
 /// stream an IDR picture is due.
-pub fn pass_by(slices: &mut Slices, kind: NalUnitType)
+pub fn pass_by(slices: &mut PicturesSoFar, kind: NalUnitType)
     ensures picture { IsLeft (ends_picture (type_number kind)) slices.old.picture slices.new.picture }
     ensures due { slices.new.due ≡ ((type_number kind == 10 || type_number kind == 11) || slices.old.due) }
     ensures others { slices.new ≡ record slices.old { picture = slices.new.picture; due = slices.new.due } }

@@ -8,7 +8,7 @@ ghost use Rattle.h264_plane.specs.declared.frame.Frame.{Frame};
 ghost use Rattle.h264_verify.specs.Keeping.{KeepsFrames, WhereMade};
 
 use crate::decoder::Decoder;
-use crate::slices::{Slice, Slices, no_slices};
+use crate::slices::{PicturesSoFar, Slice, no_slices};
 use h264_base::{Mode, Stop, Target};
 use h264_picture::Purpose;
 use h264_sets::Sets;
@@ -91,7 +91,7 @@ pub struct State {
     /// The parameter sets that they gave.
     pub sets: Sets,
     /// The slices that were read.
-    pub slices: Slices,
+    pub slices: PicturesSoFar,
     /// The newest of them.
     pub slice: Slice,
     /// The picture whose slice data are read, and those before it that wait; None where no slice data are read.

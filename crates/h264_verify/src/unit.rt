@@ -1,9 +1,9 @@
 //! A unit, and the end of the input: how they are judged, and what the sink is told of them.
 #![tactic(auto)]
 
-ghost use Rattle.std.specs.Prelude.{◌≡◌, true, false, IsTrue, ℕ, ◌+◌, ◌-◌, ◌*◌, ◌<◌, ◌≤◌, ◌^◌, List, [], ◌∷◌, length, ◌==◌, ◌||◌, OnOk, IfOk, IfErr};
+ghost use Rattle.std.specs.Prelude.{◌≡◌, true, false, ℕ, ◌+◌, ◌-◌, ◌*◌, ◌<◌, ◌≤◌, ◌^◌, List, length, ◌==◌, ◌||◌, OnOk, IfErr};
 ghost use Rattle.h264_base.specs.Call.{HasRoom, IsQuiet, span};
-ghost use Rattle.std.specs.Prelude.{IsErrOf, Ok, Err, if◌then◌else◌};
+ghost use Rattle.std.specs.Prelude.{IsErrOf, Ok, Err};
 ghost use Rattle.h264_rbsp.specs.Rbsp.{body_of};
 ghost use Rattle.h264_verify.specs.Outcome.{Plays, tells};
 ghost use Rattle.h264_verify.specs.Demands.{judged};
@@ -11,8 +11,7 @@ ghost use Rattle.h264_units.specs.UnitHeader.{header_of, nal_unit_type, nal_ref_
 ghost use Rattle.h264_units.specs.UnitTypes.{type_number};
 ghost use Rattle.h264_units.specs.UnitHeader.{fits_kind};
 ghost use Rattle.h264_verify.specs.Order.{header_demands};
-ghost use Rattle.h264_verify.specs.History.{History, maps_of};
-ghost use Rattle.h264_plane.specs.declared.frame.Frame.{Frame};
+ghost use Rattle.h264_verify.specs.History.{History};
 ghost use Rattle.h264_dpb.specs.Turns.{Turn, last_turn};
 ghost use Rattle.h264_verify.specs.Telling.{Said, with_frames, frame_span, Family};
 ghost use Rattle.h264_verify.specs.Buffering.{told_frames, after_all, frames_written};
@@ -22,7 +21,7 @@ ghost use Rattle.h264_verify.specs.Pictures.{CodedPicture};
 ghost use Rattle.h264_units.specs.UnitHeader.{ends_picture};
 ghost use Rattle.h264_verify.specs.Turning.{Turns, Joins, Pauses, EndsAll, is_ending, ended_before};
 ghost use Rattle.h264_verify.specs.UnitOutcome.{content_to_data, unit_to_data};
-ghost use Rattle.h264_verify.specs.Units.{unit_call, slice_unit_of, has_pictures};
+ghost use Rattle.h264_verify.specs.Units.{unit_call, slice_unit, has_pictures};
 ghost use Rattle.h264_verify.specs.Memory.{bytes_of, reads_slices, ChangesFormat};
 ghost use Rattle.h264_verify.specs.StepOutcome.{steps_outcome};
 ghost use Rattle.h264_verify.specs.declared.state.Depth.{Depth};
@@ -31,6 +30,7 @@ use crate::close::{close, close_if};
 use crate::data::read_data;
 use crate::decoder::Decoder;
 use crate::head::{SlicePlace, sets_named};
+use crate::nal_header::NalHeader;
 use crate::picture::begins;
 use crate::rules::check;
 use crate::slice::place_slice;
@@ -48,37 +48,47 @@ use h264_units::{NalUnit, NalUnitType};
 use std::alloc::Global;
 
 /// The rules of a unit's first byte.
-fn check_header(from: u64, header: u8) -> Result<(), Stop>
-    requires { from ≤ 2 ^ 40 }
-    ensures { result ≡ judged (header_demands (8 * from) header) }
+fn check_header(unit: &NalUnit) -> Result<(), Stop>
+    ensures { result ≡ judged (header_demands (8 * unit.now.from) (header_of unit.now)) }
 {
-    let bit = 8 * from;
-    let kind = NalUnitType::of(header);
-    check(header / 128 == 0, Rule::ForbiddenBit, bit)?;
-    check(kind.fits(header / 32 % 4), Rule::RefIdc, bit)?;
+    let bit = 8 * unit.from();
+    let header = NalHeader::of(unit);
+    let kind = header.nal_unit_type();
+    check(header.forbidden_zero_bit() == 0, Rule::ForbiddenBit, bit)?;
+    check(kind.fits(header.nal_ref_idc()), Rule::RefIdc, bit)?;
     check(!kind.is_partition(), Rule::Partition, bit)
 }
 
-/// Tells the sink a unit of so many bytes, which begins at this byte.
-fn tell_unit<S: FrameSink>(from: u64, header: u8, length: u64, sink: &mut S) -> Result<(), Stop>
+/// Tells the sink a unit.
+fn tell_unit<S: FrameSink>(unit: &NalUnit, sink: &mut S) -> Result<(), Stop>
     requires { HasRoom S.failures sink.old }
     ensures plays { (frames : Family) → Plays (with_frames frames (span S.took S.failures sink.old sink.new)) (λ x. x)
-        (tells (Said (unit_call from header length))) result }
+        (tells (Said (unit_call unit.now.from (header_of unit.now) (length unit.now.body)))) result }
     ensures no_memory { IsErrOf result Stop.Memory → ⊥ }
 {
-    match sink.unit(from, NalUnitType::of(header), header / 32 % 4, length) {
+    let header = NalHeader::of(unit);
+    let (kind, nal_ref_idc) = (header.nal_unit_type(), header.nal_ref_idc());
+    match sink.unit(unit.from(), kind, nal_ref_idc, unit.body().len() as u64) {
         Ok(()) => Ok(()),
         Err(Failed) => Err(Stop::Write),
     }
 }
 
-/// What a unit's first byte says of the slice in it.
-fn slice_unit(header: u8) -> SliceUnit
-    ensures { result ≡ slice_unit_of header }
+/// Whether the picture that may go on ends before what is in this unit (7.4.1.2.3).
+fn is_ending(unit: &NalUnit) -> bool
+    ensures { result ≡ is_ending unit.now }
 {
+    NalHeader::of(unit).nal_unit_type().ends_picture()
+}
+
+/// What a unit's first byte says of the slice in it.
+fn slice_unit(unit: &NalUnit) -> SliceUnit
+    ensures { result ≡ slice_unit unit.now }
+{
+    let header = NalHeader::of(unit);
     SliceUnit {
-        idr_pic_flag: matches!(NalUnitType::of(header), NalUnitType::IdrSlice),
-        nal_ref_idc: (header / 32 % 4) as u32,
+        idr_pic_flag: matches!(header.nal_unit_type(), NalUnitType::IdrSlice),
+        nal_ref_idc: header.nal_ref_idc() as u32,
     }
 }
 
@@ -155,7 +165,6 @@ fn join_pps<S: FrameSink>(
 fn join_slice<S: FrameSink>(
     alloc: Global,
     state: &mut State,
-    header: u8,
     unit: &NalUnit,
     bits: &mut Bits,
     sink: &mut S,
@@ -164,9 +173,8 @@ fn join_slice<S: FrameSink>(
     requires room { HasRoom S.failures sink.old }
     requires units { state.old.units ≤ 2 ^ 40 }
     requires pictures { state.old.slices.pictures ≤ state.old.units }
-    requires header { header ≡ header_of unit.now }
     requires slice { is_slice (nal_unit_type (header_of unit.now)) ≡ true }
-    requires fits { fits_kind (nal_unit_type header) (nal_ref_idc header) ≡ true }
+    requires fits { fits_kind (nal_unit_type (header_of unit.now)) (nal_ref_idc (header_of unit.now)) ≡ true }
     requires kept { KeepsSomeSlice state.old.slices state.old.sets state.old.decoder }
     ensures joins { (extent : Extent) (frames : Family) (before : History) → reads_slices extent.depth ≡ true →
         KeepsWithin extent.depth frames before (is_ending unit.now) state.old →
@@ -180,7 +188,7 @@ fn join_slice<S: FrameSink>(
         Pauses (frame_span S.took S.failures frames sink.old sink.new) (ended_before before unit.now) (content_to_data extent before unit.now) }
     ensures kept { OnOk result (IsQuiet S.failures sink.old sink.new) }
 {
-    let slice_unit = slice_unit(header);
+    let slice_unit = slice_unit(unit);
     read_header(bits, &state.sets, slice_unit, &mut state.slice.header, sink)?;
     let begins = begins(&state.slices.picture, &state.slice.header);
     place_slice(begins, state, unit, sink)?;
@@ -205,44 +213,33 @@ fn join_slice<S: FrameSink>(
     }
 }
 
-/// The bytes of a NAL unit, as they are read (7.3.1).
-#[derive(Clone, Copy)]
-struct UnitBytes<'a> {
-    unit: &'a NalUnit,
-    /// Its first byte.
-    header: u8,
-    /// Its RBSP, where that is read.
-    rbsp: &'a Option<Rbsp>,
-}
-
 /// Reads and judges a unit by its type, and adds it to those before it.
 fn join<S: FrameSink>(
     alloc: Global,
     extent: Extent,
     state: &mut State,
-    bytes: &UnitBytes<'_>,
+    unit: &NalUnit,
+    rbsp: &Option<Rbsp>,
     sink: &mut S,
 ) -> Result<(), Stop>
     requires room { HasRoom S.failures sink.old }
     requires units { state.old.units ≤ 2 ^ 40 }
     requires pictures { state.old.slices.pictures ≤ state.old.units }
-    requires header { bytes.now.header ≡ header_of bytes.now.unit.now }
-    requires bytes { bytes.now.rbsp.now ≡ bytes_of extent.depth bytes.now.unit.now }
-    requires fits { fits_kind (nal_unit_type bytes.now.header) (nal_ref_idc bytes.now.header) ≡ true }
-    requires kept { KeepsSome extent.depth (is_ending bytes.now.unit.now) state.old }
-    ensures joins { (frames : Family) (before : History) → KeepsWithin extent.depth frames before (is_ending bytes.now.unit.now) state.old →
-        Joins extent (frame_span S.took S.failures frames sink.old sink.new) before bytes.now.unit.now state.new result }
+    requires bytes { rbsp.now ≡ bytes_of extent.depth unit.now }
+    requires fits { fits_kind (nal_unit_type (header_of unit.now)) (nal_ref_idc (header_of unit.now)) ≡ true }
+    requires kept { KeepsSome extent.depth (is_ending unit.now) state.old }
+    ensures joins { (frames : Family) (before : History) → KeepsWithin extent.depth frames before (is_ending unit.now) state.old →
+        Joins extent (frame_span S.took S.failures frames sink.old sink.new) before unit.now state.new result }
     ensures counts { OnOk result (state.new.units ≡ state.old.units + 1) }
     ensures pictures { OnOk result (state.new.slices.pictures ≤ state.new.units) }
-    ensures no_memory { (frames : Family) (before : History) → KeepsWithin extent.depth frames before (is_ending bytes.now.unit.now) state.old →
-        IsErrOf result Stop.Memory → ChangesFormat extent.depth before bytes.now.unit.now }
-    ensures pauses { (frames : Family) (before : History) → KeepsWithin extent.depth frames before (is_ending bytes.now.unit.now) state.old →
-        IsErrOf result Stop.Memory → Pauses (frame_span S.took S.failures frames sink.old sink.new) (ended_before before bytes.now.unit.now)
-        (content_to_data extent before bytes.now.unit.now) }
+    ensures no_memory { (frames : Family) (before : History) → KeepsWithin extent.depth frames before (is_ending unit.now) state.old →
+        IsErrOf result Stop.Memory → ChangesFormat extent.depth before unit.now }
+    ensures pauses { (frames : Family) (before : History) → KeepsWithin extent.depth frames before (is_ending unit.now) state.old →
+        IsErrOf result Stop.Memory → Pauses (frame_span S.took S.failures frames sink.old sink.new) (ended_before before unit.now)
+        (content_to_data extent before unit.now) }
     ensures kept { OnOk result (IsQuiet S.failures sink.old sink.new) }
 {
-    let UnitBytes { unit, header, rbsp } = *bytes;
-    let kind = NalUnitType::of(header);
+    let kind = NalHeader::of(unit).nal_unit_type();
     let Some(rbsp) = rbsp else {
         pass(state, kind);
         return Ok(());
@@ -252,7 +249,7 @@ fn join<S: FrameSink>(
         NalUnitType::PictureSet => join_pps(extent, state, unit, rbsp, sink),
         _ => {
             let mut bits = Bits::new(rbsp);
-            join_slice(alloc, state, header, unit, &mut bits, sink)
+            join_slice(alloc, state, unit, &mut bits, sink)
         }
     }
 }
@@ -287,15 +284,10 @@ pub fn judge_unit<S: FrameSink>(
     ensures kept { OnOk result (IsQuiet S.failures sink.old sink.new) }
 {
     check_emulation(unit)?;
-    let from = unit.from();
-    let body = unit.body();
-    let header = body[0];
-    check_header(from, header)?;
-    tell_unit(from, header, body.len() as u64, sink)?;
-    let ends = NalUnitType::of(header).ends_picture();
-    close_if(ends, &mut state.slices, &mut state.decoder, sink)?;
-    let bytes = UnitBytes { unit, header, rbsp };
-    join(alloc, extent, state, &bytes, sink)
+    check_header(unit)?;
+    tell_unit(unit, sink)?;
+    close_if(is_ending(unit), &mut state.slices, &mut state.decoder, sink)?;
+    join(alloc, extent, state, unit, rbsp, sink)
 }
 
 /// Whether a stream that is judged so has the pictures that it must have.

@@ -26,7 +26,8 @@ returns-in-None-clause-ready g c =
     let waits = not-waiting _ c.in-None.ensures.when in
     let none : ℕ = 0 in
     ready-push c.in_ok-n.ensures.ok c.requires.ready c.in-None.ensures.none waits
-    (went-on some (goes-push some.fed _ {S = Unit {0}} {took = λ s calls. Unit {0}} {failures = λ s. none} c.in_ok-n.ensures.ok tt c.in-None.ensures.none waits))
+    (went-on some (goes-push some.fed _ {S = Unit {0}} {took = λ s calls. Unit {0}} {failures = λ s. none} c.in_ok-n.ensures.ok tt
+    c.in-None.ensures.none waits))
 
 pub returns-in_err-bytes-in-Some : goal.returns-in_err-bytes-in-Some
 returns-in_err-bytes-in-Some g c =

@@ -2,7 +2,7 @@ use Rattle.std.proofs.Common.{◌≡◌, Result, Ok, Err, OnOk, OnErr, ap, ◌�
 use Rattle.std.specs.Option.{is_some}
 use Rattle.std.proofs.lemmas.Result.{err_from_is_err_and}
 use Rattle.h264_base.specs.declared.stop.Stop.{Stop}
-use Rattle.h264_verify.specs.declared.slices.Slices.{Slices}
+use Rattle.h264_verify.specs.declared.slices.PicturesSoFar.{PicturesSoFar}
 use Rattle.h264_verify.specs.Telling.{took_with, frame_span}
 use Rattle.h264_verify.specs.Pictures.{goes_on, runs_of}
 use Rattle.h264_verify.specs.Framing.{JudgesSlice, slice_after}
@@ -43,7 +43,7 @@ returns-in_err-close_if g c =
       sets = tt;
       named = tt;
       format = c.in_err-close_if.ensures.format;
-      pictures = ap (λ (s : Slices). s.pictures) c.in_err-close_if.ensures.others;
+      pictures = ap (λ (s : PicturesSoFar). s.pictures) c.in_err-close_if.ensures.others;
       units = refl;
       slice = refl;
       no_memory = c.in_err-close_if.ensures.no_memory;
@@ -72,7 +72,7 @@ returns-in_err-check_standing g c =
       sets = tt;
       named = tt;
       format = c.in_ok-close_if.ensures.format;
-      pictures = ap (λ (s : Slices). s.pictures) c.in_ok-close_if.ensures.others;
+      pictures = ap (λ (s : PicturesSoFar). s.pictures) c.in_ok-close_if.ensures.others;
       units = refl;
       slice = refl;
       no_memory = c.in_err-check_standing.ensures.no_memory;
@@ -118,7 +118,7 @@ returns g c =
           let some = some-of _ c.requires.named in
           ap is_some (sets-before c.args.state.now.sets _ h _ c.in_ok-check_standing.ensures.activated some.1));
       format = c.in_ok-close_if.ensures.format;
-      pictures = ap (λ (s : Slices). s.pictures) c.in_ok-close_if.ensures.others;
+      pictures = ap (λ (s : PicturesSoFar). s.pictures) c.in_ok-close_if.ensures.others;
       units = refl;
       slice = refl;
       no_memory = c.check_first_mb.ensures.no_memory;

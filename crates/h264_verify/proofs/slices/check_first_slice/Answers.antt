@@ -2,7 +2,7 @@ use Rattle.std.proofs.Common.{[], ◌≡◌, ℕ, ◌∙◌, Some, Ok, OnOk, ref
 use Rattle.std.proofs.lemmas.Result.{err_from_is_err_and}
 use Rattle.h264_marking.specs.Frames.{References}
 use Rattle.h264_verify.specs.Keeping.{pictures_by, slice_at}
-use Rattle.h264_verify.specs.declared.slices.Slices.{Slices}
+use Rattle.h264_verify.specs.declared.slices.PicturesSoFar.{PicturesSoFar}
 use Rattle.h264_verify.specs.Telling.{took_with}
 use Rattle.h264_verify.specs.Lists.{list_of}
 use Rattle.h264_verify.proofs.OutcomesPlayed.{no-memory}
@@ -83,12 +83,12 @@ returns-in_err-check_gap g c =
     })
 
 -- what is kept of the slices, but for frame_num and the held frames
-others-of : (old new : Slices) (prev : ℕ) (held : References) → new ≡
+others-of : (old new : PicturesSoFar) (prev : ℕ) (held : References) → new ≡
     record old { counts = new.counts; count = new.count; prev_ref_frame_num = prev; held = held } →
     new ≡ record old { counts = new.counts; count = new.count; prev_ref_frame_num = new.prev_ref_frame_num; held = new.held }
 others-of old new prev held e =
-    let p : new.prev_ref_frame_num ≡ prev = ap (λ (s : Slices). s.prev_ref_frame_num) e in
-    let h : new.held ≡ held = ap (λ (s : Slices). s.held) e in
+    let p : new.prev_ref_frame_num ≡ prev = ap (λ (s : PicturesSoFar). s.prev_ref_frame_num) e in
+    let h : new.held ≡ held = ap (λ (s : PicturesSoFar). s.held) e in
     e ∙ ap (λ (x : ℕ). record old { counts = new.counts; count = new.count; prev_ref_frame_num = x; held = held }) (sym p) ∙
     ap (λ (x : References). record old { counts = new.counts; count = new.count; prev_ref_frame_num = new.prev_ref_frame_num; held = x }) (sym h)
 
@@ -108,12 +108,12 @@ returns g c =
       format = c.in_ok-check_gap.ensures.format;
       counts = c.check_new_picture.ensures.counts;
       count = c.check_new_picture.ensures.count;
-      held = on-ok r (ap (λ (s : Slices). s.held) same ∙ c.in_ok-check_gap.ensures.held);
-      filled = on-ok r (c.in_ok-check_gap.ensures.filled ∙ ap (λ (s : Slices). Some s.held) (sym same));
+      held = on-ok r (ap (λ (s : PicturesSoFar). s.held) same ∙ c.in_ok-check_gap.ensures.held);
+      filled = on-ok r (c.in_ok-check_gap.ensures.filled ∙ ap (λ (s : PicturesSoFar). Some s.held) (sym same));
       typed = on-ok r (type-met c.args.head.now.place.sps.now c.args.head.now.header.now _ c.in_ok-check_type.ensures);
-      prev = on-ok r (ap (λ (s : Slices). s.prev_ref_frame_num) same ∙ c.in_ok-check_gap.ensures.prev);
+      prev = on-ok r (ap (λ (s : PicturesSoFar). s.prev_ref_frame_num) same ∙ c.in_ok-check_gap.ensures.prev);
       others = others-of c.args.slices.now _ _ _ same;
-      list = subst (λ (s : Slices). OnOk r (list_of c.args.head.now.header.now.kind.value c.args.head.now.numbering s.held ≡
+      list = subst (λ (s : PicturesSoFar). OnOk r (list_of c.args.head.now.header.now.kind.value c.args.head.now.numbering s.held ≡
           Ok c.check_new_picture.new.list.items)) (sym same) c.check_new_picture.ensures.list;
       kept = on-ok r c.in_ok-check_gap.ensures.kept;
     }

@@ -5,14 +5,14 @@ use Rattle.h264_poc.specs.declared.picture.Picture.{Picture}
 use Rattle.h264_marking.specs.Ended.{numbering_of}
 use Rattle.h264_verify.specs.Demands.{Demand}
 use Rattle.h264_verify.specs.declared.head.SliceHead.{SliceHead}
-use Rattle.h264_verify.specs.declared.slices.Slices.{Slices}
+use Rattle.h264_verify.specs.declared.slices.PicturesSoFar.{PicturesSoFar}
 use Rattle.h264_verify.specs.Slices.{id_demand, count_demand, qp_demand, list_demand}
 use Rattle.h264_verify.specs.Lists.{list_of}
 use Rattle.h264_verify.proofs.OutcomesPlayed.{no-memory}
 use Rattle.h264_verify.proofs.SliceSteps.{stops-at, answers-last}
 use Rattle.h264_verify.proofs.slices.check_new_picture.Goals as goal
 
-abbrev new_rules : Slices → SliceHead → List Picture → List Demand
+abbrev new_rules : PicturesSoFar → SliceHead → List Picture → List Demand
 new_rules slices head pictures =
     id_demand slices.newest_idr head.header.now
     ∷ count_demand (picture_of head.place.sps.now head.header.now ∷ pictures) (8 * head.place.unit.now.from)

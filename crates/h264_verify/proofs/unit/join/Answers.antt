@@ -21,11 +21,11 @@ use Rattle.h264_verify.proofs.unit.join.Goals as goal
 
 pub returns-in_default-clause-joins : goal.returns-in_default-clause-joins
 returns-in_default-clause-joins g c = λ frames before k.
-    let unit = c.args.bytes.now.unit.now in
-    let bytes = bytes-by c.args.extent.depth unit c.args.bytes.now.header c.args.bytes.now.rbsp.now c.requires.header c.requires.bytes in
-    let is = c.of-kind.ensures ∙ ap nal_unit_type c.requires.header in
+    let unit = c.args.unit.now in
+    let bytes = bytes-by c.args.extent.depth unit c.of.result.byte c.args.rbsp.now c.of.ensures c.requires.bytes in
+    let is = c.nal_unit_type-kind.ensures ∙ ap nal_unit_type c.of.ensures in
     joins-on c.args.extent frames _ _ before unit _ frames (agree-none _ frames) (λ (u : Unit {0}). (contents.Passed, 0)) _ _ tt
-    (passed-read c.args.extent _ _ before unit _ (rw c.requires.header at (unread _ _ _ c.in_default.is bytes))) _ tt
+    (passed-read c.args.extent _ _ before unit _ (rw c.of.ensures at (unread _ _ _ c.in_default.is bytes))) _ tt
     (gives-plays _ _ (λ (u : Unit {0}). u) tt _) refl
     (passed-joins c.args.extent.depth frames before unit contents.Passed _ c.args.state.now _ tt tt is (rw (← is) at k) c.pass.ensures.units
     (c.pass.ensures.sets ∙ k.sets) c.pass.ensures.picture c.pass.ensures.due c.pass.ensures.others c.pass.ensures.decoder)
@@ -39,10 +39,10 @@ pub join_pps-requires-clause-rbsp : goal.join_pps-requires-clause-rbsp
 join_pps-requires-clause-rbsp g c = (read-bytes _ _ _ _ c.in-Some.is c.requires.bytes).1
 
 pub join_sps-requires-clause-kind : goal.join_sps-requires-clause-kind
-join_sps-requires-clause-kind g c = ap nal_unit_type (sym c.requires.header) ∙ sym c.of-kind.ensures ∙ ap type_number c.in-SequenceSet.is
+join_sps-requires-clause-kind g c = ap nal_unit_type (sym c.of.ensures) ∙ sym c.nal_unit_type-kind.ensures ∙ ap type_number c.in-SequenceSet.is
 
 pub join_pps-requires-clause-kind : goal.join_pps-requires-clause-kind
-join_pps-requires-clause-kind g c = ap nal_unit_type (sym c.requires.header) ∙ sym c.of-kind.ensures ∙ ap type_number c.in-PictureSet.is
+join_pps-requires-clause-kind g c = ap nal_unit_type (sym c.of.ensures) ∙ sym c.nal_unit_type-kind.ensures ∙ ap type_number c.in-PictureSet.is
 
 pub returns-in-SequenceSet-clause-no_memory : goal.returns-in-SequenceSet-clause-no_memory
 returns-in-SequenceSet-clause-no_memory g c = λ frames before k m. absurd (c.join_sps.ensures.no_memory m)
@@ -70,25 +70,25 @@ join_slice-requires-clause-first g c = rw (read-bytes _ _ _ _ c.in-Some.is c.req
 
 pub join_slice-requires-clause-slice : goal.join_slice-requires-clause-slice
 join_slice-requires-clause-slice g c =
-    (slice-here c.args.extent.depth c.args.bytes.now.unit.now c.args.bytes.now.header c.args.bytes.now.rbsp.now _ c.requires.header c.requires.bytes
-    c.in-Some.is (is-not _ types.SequenceSet _ c.of-kind.ensures c.in_default-kind.not-SequenceSet)
-    (is-not _ types.PictureSet _ c.of-kind.ensures c.in_default-kind.not-PictureSet)).0
+    (slice-here c.args.extent.depth c.args.unit.now c.of.result.byte c.args.rbsp.now _ c.of.ensures c.requires.bytes
+    c.in-Some.is (is-not _ types.SequenceSet _ c.nal_unit_type-kind.ensures c.in_default-kind.not-SequenceSet)
+    (is-not _ types.PictureSet _ c.nal_unit_type-kind.ensures c.in_default-kind.not-PictureSet)).0
 
 pub join_slice-requires-clause-kept : goal.join_slice-requires-clause-kept
 join_slice-requires-clause-kept g c =
-    some-slice c.args.extent.depth _ c.args.state.now (slice-goes (nal_unit_type (header_of c.args.bytes.now.unit.now))
-    (slice-here c.args.extent.depth c.args.bytes.now.unit.now c.args.bytes.now.header c.args.bytes.now.rbsp.now _ c.requires.header c.requires.bytes
-    c.in-Some.is (is-not _ types.SequenceSet _ c.of-kind.ensures c.in_default-kind.not-SequenceSet)
-    (is-not _ types.PictureSet _ c.of-kind.ensures c.in_default-kind.not-PictureSet)).0) c.requires.kept
+    some-slice c.args.extent.depth _ c.args.state.now (slice-goes (nal_unit_type (header_of c.args.unit.now))
+    (slice-here c.args.extent.depth c.args.unit.now c.of.result.byte c.args.rbsp.now _ c.of.ensures c.requires.bytes
+    c.in-Some.is (is-not _ types.SequenceSet _ c.nal_unit_type-kind.ensures c.in_default-kind.not-SequenceSet)
+    (is-not _ types.PictureSet _ c.nal_unit_type-kind.ensures c.in_default-kind.not-PictureSet)).0) c.requires.kept
 
 pub returns-in_default-kind-clause-joins : goal.returns-in_default-kind-clause-joins
 returns-in_default-kind-clause-joins g c = λ frames before k. c.join_slice.ensures.joins c.args.extent frames before
-    (slice-here c.args.extent.depth c.args.bytes.now.unit.now c.args.bytes.now.header c.args.bytes.now.rbsp.now _ c.requires.header c.requires.bytes
-    c.in-Some.is (is-not _ types.SequenceSet _ c.of-kind.ensures c.in_default-kind.not-SequenceSet)
-    (is-not _ types.PictureSet _ c.of-kind.ensures c.in_default-kind.not-PictureSet)).1 k
+    (slice-here c.args.extent.depth c.args.unit.now c.of.result.byte c.args.rbsp.now _ c.of.ensures c.requires.bytes
+    c.in-Some.is (is-not _ types.SequenceSet _ c.nal_unit_type-kind.ensures c.in_default-kind.not-SequenceSet)
+    (is-not _ types.PictureSet _ c.nal_unit_type-kind.ensures c.in_default-kind.not-PictureSet)).1 k
 
 pub returns-in_default-kind-clause-pauses : goal.returns-in_default-kind-clause-pauses
 returns-in_default-kind-clause-pauses g c = λ frames before k. c.join_slice.ensures.pauses c.args.extent frames before
-    (slice-here c.args.extent.depth c.args.bytes.now.unit.now c.args.bytes.now.header c.args.bytes.now.rbsp.now _ c.requires.header c.requires.bytes
-    c.in-Some.is (is-not _ types.SequenceSet _ c.of-kind.ensures c.in_default-kind.not-SequenceSet)
-    (is-not _ types.PictureSet _ c.of-kind.ensures c.in_default-kind.not-PictureSet)).1 k
+    (slice-here c.args.extent.depth c.args.unit.now c.of.result.byte c.args.rbsp.now _ c.of.ensures c.requires.bytes
+    c.in-Some.is (is-not _ types.SequenceSet _ c.nal_unit_type-kind.ensures c.in_default-kind.not-SequenceSet)
+    (is-not _ types.PictureSet _ c.nal_unit_type-kind.ensures c.in_default-kind.not-PictureSet)).1 k

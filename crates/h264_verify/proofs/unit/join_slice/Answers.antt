@@ -61,7 +61,8 @@ read_data-requires-clause-kept g c =
     let begun = subst (λ (x : Header). c.begins-begins.result ≡ begins_at k.before x) (sym same) b in
     let placed = c.in_ok-place_slice.ensures.placed k.depth k.frames k.before k.slices_are k.keeps in
     let named = sets-after c.args.state.now.sets _ h _ c.in_ok-place_slice.ensures.sets (rw same at c.sets_named.ensures.sets) in
-    let marked = read-marked _ _ _ _ c.args.header _ _ _ _ _ _ c.slice_unit-slice_unit.ensures c.requires.fits c.in_ok-read_header.ensures.meets in
+    let marked = read-marked _ _ _ _ (header_of c.args.unit.now) _ _ _ _ _ _ c.slice_unit-slice_unit.ensures c.requires.fits
+    c.in_ok-read_header.ensures.meets in
     let entered = rw same at (c.in_ok-judge_rules.ensures.entered k.before [] placed.ended begun) in
     let enters = rw same at (c.in_ok-judge_rules.ensures.frames k.depth placed.closes.made k.before placed.ended begun placed.closes.keeps) in
     let s = with_sets c.args.unit.now h [] (c.sets_named.result.0.now, c.sets_named.result.1.now) in
@@ -91,8 +92,8 @@ returns-in_err-read_header g c =
     let p = err_from_is_err_and c.from_residual.result c.from_residual.ensures.1 in
     rw (p.1, p.2) (record {
       joins = λ extent frames before reads k. joins-stops extent frames _ _ before c.args.unit.now _ frames (agree-none _ frames) _ _ _ _
-          (header-read extent frames _ _ before c.args.unit.now c.args.header _ _ c.read_header.new.header _ _ _ _ _ reads c.requires.slice k.sets
-          c.requires.header c.slice_unit-slice_unit.ensures c.requires.first c.in_err-read_header.ensures.meets c.in_err-read_header.ensures.answers);
+          (header-read extent frames _ _ before c.args.unit.now (header_of c.args.unit.now) _ _ c.read_header.new.header _ _ _ _ _ reads c.requires.slice k.sets
+          refl c.slice_unit-slice_unit.ensures c.requires.first c.in_err-read_header.ensures.meets c.in_err-read_header.ensures.answers);
       counts = tt;
       pictures = tt;
       no_memory = λ depth frames before k m. absurd
@@ -113,7 +114,7 @@ returns-in_err-place_slice g c =
           let j = c.in_err-place_slice.ensures.refused extent.depth frames before some.0 kept.slices k.sets some.1 kept.decoder in
           joins-broken extent frames _ _ before c.args.unit.now _ j.made
           (none-ends frames j.made before c.args.unit.now (slice-goes (kind c.args.unit.now) c.requires.slice) j.same) _ _ _ _
-          (header-read extent j.made _ _ before c.args.unit.now c.args.header _ _ h _ _ _ _ _ reads c.requires.slice k.sets c.requires.header
+          (header-read extent j.made _ _ before c.args.unit.now (header_of c.args.unit.now) _ _ h _ _ _ _ _ reads c.requires.slice k.sets refl
           c.slice_unit-slice_unit.ensures c.requires.first c.in_ok-read_header.ensures.meets c.in_ok-read_header.ensures.answers) _ _ j.plays;
       counts = tt;
       pictures = tt;
@@ -138,7 +139,7 @@ returns-in_err-judge_rules g c =
           let made = placed.closes.made in
           joins-broken extent frames _ _ before c.args.unit.now _ made
           (none-ends frames made before c.args.unit.now (slice-goes (kind c.args.unit.now) c.requires.slice) placed.closes.same) _ _ _ _
-          (header-read extent made _ _ before c.args.unit.now c.args.header _ _ h _ _ _ _ _ reads c.requires.slice k.sets c.requires.header
+          (header-read extent made _ _ before c.args.unit.now (header_of c.args.unit.now) _ _ h _ _ _ _ _ reads c.requires.slice k.sets refl
           c.slice_unit-slice_unit.ensures c.requires.first c.in_ok-read_header.ensures.meets c.in_ok-read_header.ensures.answers) _ _
           (slice-plays extent.depth _ _ frames before c.args.unit.now h c.begins-begins.result _ _ _ _ placed _ _ k.sets named b _ _ plays);
       counts = tt;
@@ -164,9 +165,10 @@ returns-in-None-clause-joins g c = λ extent frames before reads k.
     let enters = rw same at (c.in_ok-judge_rules.ensures.frames extent.depth placed.closes.made before placed.ended begun placed.closes.keeps) in
     let none = none-made _ extent.depth _ c.in-None.is enters in
     let made = placed.closes.made in
-    let marked = read-marked _ _ _ _ c.args.header _ _ _ _ _ _ c.slice_unit-slice_unit.ensures c.requires.fits c.in_ok-read_header.ensures.meets in
+    let marked = read-marked _ _ _ _ (header_of c.args.unit.now) _ _ _ _ _ _ c.slice_unit-slice_unit.ensures c.requires.fits
+    c.in_ok-read_header.ensures.meets in
     joins-on extent frames _ _ before unit _ made (none-ends frames made before unit (slice-goes (kind unit) c.requires.slice) placed.closes.same) _ _ _ _
-    (header-read extent made _ _ before unit c.args.header _ _ h _ _ _ _ _ reads c.requires.slice k.sets c.requires.header
+    (header-read extent made _ _ before unit (header_of c.args.unit.now) _ _ h _ _ _ _ _ reads c.requires.slice k.sets refl
     c.slice_unit-slice_unit.ensures c.requires.first c.in_ok-read_header.ensures.meets c.in_ok-read_header.ensures.answers) _ _
     (slice-plays extent.depth _ _ frames before unit h c.begins-begins.result _ _ _ _ placed _ _ k.sets named b _ _ plays)
     (headers-end extent.depth before unit h [] _ none)
@@ -189,7 +191,8 @@ returns-in-Some-clause-joins g c = λ extent frames before reads k.
     let begun = subst (λ (x : Header). c.begins-begins.result ≡ begins_at before x) (sym same) b in
     let placed = c.in_ok-place_slice.ensures.placed extent.depth frames before kept.slices kept.decoder in
     let named = sets-after c.args.state.now.sets _ h _ c.in_ok-place_slice.ensures.sets (rw same at c.sets_named.ensures.sets) in
-    let marked = read-marked _ _ _ _ c.args.header _ _ _ _ _ _ c.slice_unit-slice_unit.ensures c.requires.fits c.in_ok-read_header.ensures.meets in
+    let marked = read-marked _ _ _ _ (header_of c.args.unit.now) _ _ _ _ _ _ c.slice_unit-slice_unit.ensures c.requires.fits
+    c.in_ok-read_header.ensures.meets in
     let plays = rw same at (c.in_ok-judge_rules.ensures.plays extent.depth placed.closes.made before placed.ended begun placed.closes.keeps) in
     let enters = rw same at (c.in_ok-judge_rules.ensures.frames extent.depth placed.closes.made before placed.ended begun placed.closes.keeps) in
     let filled = rw same at c.in_ok-judge_rules.ensures.filled in
@@ -217,7 +220,7 @@ returns-in-Some-clause-joins g c = λ extent frames before reads k.
     (c.in_ok-read_header.ensures.meets.same ∙ ap (λ (r : Reader). r.body) c.requires.first) d.plays in
     let pictures : List CodedPicture = joined_to c.begins-begins.result (with_sets unit h d.macroblocks sets) (runs_of before) in
     joins-after extent frames _ _ before unit _ made (none-ends frames made before unit (slice-goes (kind unit) c.requires.slice) placed.closes.same) _ _ _ _
-    (header-read extent made _ _ before unit c.args.header _ _ h _ _ _ _ _ reads c.requires.slice k.sets c.requires.header
+    (header-read extent made _ _ before unit (header_of c.args.unit.now) _ _ h _ _ _ _ _ reads c.requires.slice k.sets refl
     c.slice_unit-slice_unit.ensures c.requires.first c.in_ok-read_header.ensures.meets c.in_ok-read_header.ensures.answers) _ _
     (slice-plays extent.depth _ _ frames before unit h c.begins-begins.result _ _ _ _ placed _ _ k.sets named b _ _ plays) _
     (contents.OfSlice h d.macroblocks) _
@@ -245,7 +248,7 @@ returns-in-Some-clause-no_memory g c = λ depth frames before k m.
     record {
       full = full;
       slice = c.requires.slice;
-      begins = begins-another {X = Unit {0}} _ _ before c.args.unit.now _ k.sets c.args.header c.requires.header _ c.slice_unit-slice_unit.ensures h _ _ _ _
+      begins = begins-another {X = Unit {0}} _ _ before c.args.unit.now _ k.sets (header_of c.args.unit.now) refl _ c.slice_unit-slice_unit.ensures h _ _ _ _
           _ c.requires.first c.in_ok-read_header.ensures.meets c.in_ok-read_header.ensures.answers sets named (sym b ∙ begun)
           (is-another frames (goes_on before) (runs_of before) c.args.state.now.decoder c.in-Some.decoder sets.1 (rw full at kept.decoder)
           (ap format_in (sym c.in-Some.is) ∙ c.in_ok-judge_rules.ensures.format ∙ c.in_ok-place_slice.ensures.format)
@@ -266,6 +269,6 @@ returns-in-Some-clause-pauses g c = λ extent frames before reads k m.
     let made = placed.closes.made in
     rw (c.read_data.ensures.untold m) (slice-pauses extent frames _ _ before unit made
     (none-ends frames made before unit (slice-goes (kind unit) c.requires.slice) placed.closes.same) h _ _ _ _ _ _
-    (header-read extent made _ _ before unit c.args.header _ _ h _ _ _ _ _ reads c.requires.slice k.sets c.requires.header
+    (header-read extent made _ _ before unit (header_of c.args.unit.now) _ _ h _ _ _ _ _ reads c.requires.slice k.sets refl
     c.slice_unit-slice_unit.ensures c.requires.first c.in_ok-read_header.ensures.meets c.in_ok-read_header.ensures.answers)
     (slice-plays extent.depth _ _ frames before unit h c.begins-begins.result _ _ _ _ placed _ _ k.sets named b _ _ plays))

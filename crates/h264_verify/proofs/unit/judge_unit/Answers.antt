@@ -38,8 +38,8 @@ join-requires-clause-kept g c =
       frames = e.made;
       before = k.before;
       keeps = within {depth = c.args.extent.depth} {frames = k.frames} {made = e.made} {before = k.before} c.args.state.now c.close_if.new.slices
-          c.close_if.new.decoder k.keeps (rw (c.ends_picture-ends.ensures, c.of.ensures, c.body-body.ensures.value) at ended)
-          (rw (c.ends_picture-ends.ensures, c.of.ensures, c.body-body.ensures.value) at e.keeps);
+          c.close_if.new.decoder k.keeps (rw c.is_ending.ensures at ended)
+          (rw c.is_ending.ensures at e.keeps);
     }
 
 pub returns-in_err-check_emulation-clause-turns : goal.returns-in_err-check_emulation-clause-turns
@@ -51,33 +51,33 @@ returns-in_err-check_emulation-clause-turns g c =
 pub returns-in_err-check_header-clause-turns : goal.returns-in_err-check_header-clause-turns
 returns-in_err-check_header-clause-turns g c =
     let p = err_from_is_err_and c.from_residual-in_err-check_header.result c.from_residual-in_err-check_header.ensures.1 in
-    let header = rw (c.from-from.ensures.value, c.body-body.ensures.value) at c.in_err-check_header.ensures in
+    let header = c.in_err-check_header.ensures in
     rw (p.1, p.2) (λ frames before k. stops-header c.args.extent _ _ before c.args.unit.now frames _ _ _ c.in_ok-check_emulation.ensures.value _ header)
 
 pub returns-in_err-tell_unit-clause-turns : goal.returns-in_err-tell_unit-clause-turns
 returns-in_err-tell_unit-clause-turns g c =
     let p = err_from_is_err_and c.from_residual-in_err-tell_unit.result c.from_residual-in_err-tell_unit.ensures.1 in
-    let header = rw (c.from-from.ensures.value, c.body-body.ensures.value) at c.in_ok-check_header.ensures in
-    let says = rw (c.from-from.ensures.value, c.body-body.ensures.value) at c.in_err-tell_unit.ensures.plays in
+    let header = c.in_ok-check_header.ensures in
+    let says = c.in_err-tell_unit.ensures.plays in
     rw (p.1, p.2) (λ frames before k. stops-told c.args.extent _ _ before c.args.unit.now frames _ _ _ c.in_ok-check_emulation.ensures.value _ header _ _
     (says frames))
 
 pub returns-in_err-close_if-clause-turns : goal.returns-in_err-close_if-clause-turns
 returns-in_err-close_if-clause-turns g c =
     let p = err_from_is_err_and c.from_residual-in_err-close_if.result c.from_residual-in_err-close_if.ensures.1 in
-    let header = rw (c.from-from.ensures.value, c.body-body.ensures.value) at c.in_ok-check_header.ensures in
-    let says = rw (c.from-from.ensures.value, c.body-body.ensures.value) at c.in_ok-tell_unit.ensures.plays in
-    let closes = rw (c.ends_picture-ends.ensures, c.of.ensures, c.body-body.ensures.value) at c.in_err-close_if.ensures.closes in
+    let header = c.in_ok-check_header.ensures in
+    let says = c.in_ok-tell_unit.ensures.plays in
+    let closes = rw c.is_ending.ensures at c.in_err-close_if.ensures.closes in
     rw (p.1, p.2) (λ frames before k. stops-closing c.args.extent _ _ before c.args.unit.now frames _ _ _ c.in_ok-check_emulation.ensures.value _ header _ _
     says _ _ _ (closes c.args.extent.depth frames before k.slices k.decoder))
 
 pub returns-clause-turns : goal.returns-clause-turns
 returns-clause-turns g c =
-    let header = rw (c.from-from.ensures.value, c.body-body.ensures.value) at c.in_ok-check_header.ensures in
-    let says = rw (c.from-from.ensures.value, c.body-body.ensures.value) at c.in_ok-tell_unit.ensures.plays in
-    let closes = rw (c.ends_picture-ends.ensures, c.of.ensures, c.body-body.ensures.value) at c.in_ok-close_if.ensures.closes in
+    let header = c.in_ok-check_header.ensures in
+    let says = c.in_ok-tell_unit.ensures.plays in
+    let closes = rw c.is_ending.ensures at c.in_ok-close_if.ensures.closes in
     λ frames before k.
-    let slices = rw (c.ends_picture-ends.ensures, c.of.ensures, c.body-body.ensures.value) at (c.in_ok-close_if.ensures.ended before k.slices) in
+    let slices = rw c.is_ending.ensures at (c.in_ok-close_if.ensures.ended before k.slices) in
     let e = closes c.args.extent.depth frames before k.slices k.decoder in
     turns-on c.args.extent _ _ before c.args.unit.now frames _ _ _ c.in_ok-check_emulation.ensures.value _ header _ _ says _ _ _ e _ _
     (c.join.ensures.joins e.made before (within {depth = c.args.extent.depth} {frames = frames} {made = e.made} {before = before} c.args.state.now
@@ -92,7 +92,7 @@ returns-in_err-check_emulation-clause-no_memory g c =
 pub returns-in_err-check_header-clause-no_memory : goal.returns-in_err-check_header-clause-no_memory
 returns-in_err-check_header-clause-no_memory g c =
     let p = err_from_is_err_and c.from_residual-in_err-check_header.result c.from_residual-in_err-check_header.ensures.1 in
-    let header = rw (c.from-from.ensures.value, c.body-body.ensures.value) at c.in_err-check_header.ensures in
+    let header = c.in_err-check_header.ensures in
     rw (p.1, p.2) (λ frames before k m. absurd
     (named-memory _ (err-named (header_demands (8 * c.args.unit.now.from) (header_of c.args.unit.now)) _ (sym header)) m))
 
@@ -108,9 +108,9 @@ returns-in_err-close_if-clause-no_memory g c =
 
 pub returns-clause-no_memory : goal.returns-clause-no_memory
 returns-clause-no_memory g c =
-    let closes = rw (c.ends_picture-ends.ensures, c.of.ensures, c.body-body.ensures.value) at c.in_ok-close_if.ensures.closes in
+    let closes = rw c.is_ending.ensures at c.in_ok-close_if.ensures.closes in
     λ frames before k m.
-    let slices = rw (c.ends_picture-ends.ensures, c.of.ensures, c.body-body.ensures.value) at (c.in_ok-close_if.ensures.ended before k.slices) in
+    let slices = rw c.is_ending.ensures at (c.in_ok-close_if.ensures.ended before k.slices) in
     let e = closes c.args.extent.depth frames before k.slices k.decoder in
     c.join.ensures.no_memory e.made before (within {depth = c.args.extent.depth} {frames = frames} {made = e.made} {before = before} c.args.state.now
     c.close_if.new.slices c.close_if.new.decoder k slices e.keeps) m
@@ -124,7 +124,7 @@ returns-in_err-check_emulation-clause-pauses g c =
 pub returns-in_err-check_header-clause-pauses : goal.returns-in_err-check_header-clause-pauses
 returns-in_err-check_header-clause-pauses g c =
     let p = err_from_is_err_and c.from_residual-in_err-check_header.result c.from_residual-in_err-check_header.ensures.1 in
-    let header = rw (c.from-from.ensures.value, c.body-body.ensures.value) at c.in_err-check_header.ensures in
+    let header = c.in_err-check_header.ensures in
     rw (p.1, p.2) (λ frames before k m. absurd
     (named-memory _ (err-named (header_demands (8 * c.args.unit.now.from) (header_of c.args.unit.now)) _ (sym header)) m))
 
@@ -140,11 +140,11 @@ returns-in_err-close_if-clause-pauses g c =
 
 pub returns-clause-pauses : goal.returns-clause-pauses
 returns-clause-pauses g c =
-    let header = rw (c.from-from.ensures.value, c.body-body.ensures.value) at c.in_ok-check_header.ensures in
-    let says = rw (c.from-from.ensures.value, c.body-body.ensures.value) at c.in_ok-tell_unit.ensures.plays in
-    let closes = rw (c.ends_picture-ends.ensures, c.of.ensures, c.body-body.ensures.value) at c.in_ok-close_if.ensures.closes in
+    let header = c.in_ok-check_header.ensures in
+    let says = c.in_ok-tell_unit.ensures.plays in
+    let closes = rw c.is_ending.ensures at c.in_ok-close_if.ensures.closes in
     λ frames before k m.
-    let slices = rw (c.ends_picture-ends.ensures, c.of.ensures, c.body-body.ensures.value) at (c.in_ok-close_if.ensures.ended before k.slices) in
+    let slices = rw c.is_ending.ensures at (c.in_ok-close_if.ensures.ended before k.slices) in
     let e = closes c.args.extent.depth frames before k.slices k.decoder in
     pauses-on c.args.extent _ _ before c.args.unit.now frames c.args.state.now _ _ c.in_ok-check_emulation.ensures.value _ header _ _ says _ _ _ e _
     (c.join.ensures.pauses e.made before (within {depth = c.args.extent.depth} {frames = frames} {made = e.made} {before = before} c.args.state.now
