@@ -29,7 +29,7 @@ use Rattle.h264_verify.specs.StepOutcome.{steps_outcome, structure_from, course_
 use Rattle.h264_verify.specs.UnitOutcome.{end_outcome}
 use Rattle.h264_verify.proofs.CourseOutcome.{outcome, steps-append}
 use Rattle.h264_verify.proofs.OutcomesPlayed.{plays-on, plays-stops, gives-plays, plays-as}
-use Rattle.h264_verify.proofs.UnitEnded.{closing-of}
+use Rattle.h264_verify.proofs.ToldInOrder.{closing-of}
 
 -- one part after another, in either bracketing
 bind-calls : {A B : Type 0} (calls : List Told) (o : Outcome A) (g : A → Outcome B) → (with_calls calls o >>= g) ≡ with_calls calls (o >>= g)

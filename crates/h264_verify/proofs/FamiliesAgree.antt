@@ -115,6 +115,12 @@ decoded-both frames (Said call ∷ xs) ys h k = decoded-both frames xs ys h k
 decoded-both frames (Decodes ps ∷ xs) ys h k = (h.0, decoded-both frames xs ys h.1 k)
 decoded-both frames (Shows e ∷ xs) ys h k = decoded-both frames xs ys h k
 
+pub decoded-first : (frames : Family) (xs ys : List Told) → AreDecoded frames (xs ++ ys) → AreDecoded frames xs
+decoded-first frames [] ys h = tt
+decoded-first frames (Said call ∷ xs) ys h = decoded-first frames xs ys h
+decoded-first frames (Decodes pictures ∷ xs) ys h = (h.0, decoded-first frames xs ys h.1)
+decoded-first frames (Shows e ∷ xs) ys h = decoded-first frames xs ys h
+
 pub decoded-last : (frames : Family) (xs ys : List Told) → AreDecoded frames (xs ++ ys) → AreDecoded frames ys
 decoded-last frames [] ys h = h
 decoded-last frames (Said call ∷ xs) ys h = decoded-last frames xs ys h

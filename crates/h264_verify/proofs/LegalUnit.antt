@@ -25,7 +25,7 @@ use Rattle.h264_header.specs.declared.header.SliceUnit.{SliceUnit}
 use Rattle.h264_header.specs.Header.{header}
 use Rattle.h264_header.specs.Layout.{sets_of}
 use Rattle.h264_header.specs.Picture.{is_idr}
-use Rattle.h264_verify.specs.Telling.{Told, Said, Decodes, Shows, HasFrame, AreDecoded, Family}
+use Rattle.h264_verify.specs.Telling.{Told, Said}
 use Rattle.h264_verify.specs.Content.{Content}
 use Rattle.h264_verify.specs.Content as contents
 use Rattle.h264_verify.specs.Demands.{Demand, judged}
@@ -39,7 +39,6 @@ use Rattle.h264_verify.specs.Units.{unit_call, slice_unit, other_content}
 use Rattle.h264_units.specs.UnitHeader.{is_slice}
 use Rattle.h264_verify.specs.Order.{content, content_steps, data_course, frames_at, content_course}
 use Rattle.h264_verify.specs.Verdict.{IsLegal}
-use Rattle.h264_verify.proofs.FamiliesAgree.{decoded-last}
 use Rattle.h264_verify.proofs.HeaderSets.{sets-given}
 use Rattle.h264_verify.proofs.HeaderMarking.{IsOfUnit, header-of, marked-of}
 use Rattle.h264_verify.proofs.NamedSizes.{LeavesAlone}
@@ -78,48 +77,6 @@ met-judged (d ∷ ds) h = by d.met h.0 (met-judged ds h.1)
     by true e k = k
     by false e k = cc
 
--- the pictures that end among these have their frames
-abbrev pub HaveDecoded : Family → List Step → Type 0
-HaveDecoded frames [] = Unit {0}
-HaveDecoded frames (Needs d ∷ steps) = HaveDecoded frames steps
-HaveDecoded frames (Tells (Said call) ∷ steps) = HaveDecoded frames steps
-HaveDecoded frames (Tells (Decodes pictures) ∷ steps) = HasFrame frames pictures × HaveDecoded frames steps
-HaveDecoded frames (Tells (Shows e) ∷ steps) = HaveDecoded frames steps
-
-pub have-decoded : (frames : Family) (steps : List Step) (calls : List Told) → AreMet steps calls → AreDecoded frames calls → HaveDecoded frames steps
-have-decoded frames [] calls h d = tt
-have-decoded frames (Needs x ∷ steps) calls h d = have-decoded frames steps calls h.1 d
-have-decoded frames (Tells (Said call) ∷ steps) calls h d = have-decoded frames steps h.0 h.2 (subst (AreDecoded frames) h.1 d)
-have-decoded frames (Tells (Decodes pictures) ∷ steps) calls h d = let k : HasFrame frames pictures ×
-    AreDecoded frames h.0 = subst (AreDecoded frames) h.1 d in (k.0, have-decoded frames steps h.0 h.2 k.1)
-have-decoded frames (Tells (Shows e) ∷ steps) calls h d = have-decoded frames steps h.0 h.2 (subst (AreDecoded frames) h.1 d)
-
-pub have-first : (frames : Family) (xs ys : List Step) → HaveDecoded frames (xs ++ ys) → HaveDecoded frames xs
-have-first frames [] ys h = tt
-have-first frames (Needs d ∷ xs) ys h = have-first frames xs ys h
-have-first frames (Tells (Said call) ∷ xs) ys h = have-first frames xs ys h
-have-first frames (Tells (Decodes pictures) ∷ xs) ys h = (h.0, have-first frames xs ys h.1)
-have-first frames (Tells (Shows e) ∷ xs) ys h = have-first frames xs ys h
-
-pub have-last : (frames : Family) (xs ys : List Step) → HaveDecoded frames (xs ++ ys) → HaveDecoded frames ys
-have-last frames [] ys h = h
-have-last frames (Needs d ∷ xs) ys h = have-last frames xs ys h
-have-last frames (Tells (Said call) ∷ xs) ys h = have-last frames xs ys h
-have-last frames (Tells (Decodes pictures) ∷ xs) ys h = have-last frames xs ys h.1
-have-last frames (Tells (Shows e) ∷ xs) ys h = have-last frames xs ys h
-
-pub decoded-first : (frames : Family) (xs ys : List Told) → AreDecoded frames (xs ++ ys) → AreDecoded frames xs
-decoded-first frames [] ys h = tt
-decoded-first frames (Said call ∷ xs) ys h = decoded-first frames xs ys h
-decoded-first frames (Decodes pictures ∷ xs) ys h = (h.0, decoded-first frames xs ys h.1)
-decoded-first frames (Shows e ∷ xs) ys h = decoded-first frames xs ys h
-
-decoded-before : (frames : Family) (calls first later : List Told) → calls ≡ first ++ later → AreDecoded frames calls → AreDecoded frames first
-decoded-before frames calls first later e d = decoded-first frames first later (subst (AreDecoded frames) e d)
-
-decoded-after : (frames : Family) (calls first later : List Told) → calls ≡ first ++ later → AreDecoded frames calls → AreDecoded frames later
-decoded-after frames calls first later e d = decoded-last frames first later (subst (AreDecoded frames) e d)
-
 -- ---- a course that comes to its end
 
 takes : (body : Body) (steps : List Step) (course : Course) (calls : List Told) (c : Content) → Runs body (Takes steps course) calls (Ok c) →
@@ -156,21 +113,15 @@ end_steps_at before unit = whole_at depths.Full (nal_unit_type (header_of unit))
 abbrev after_content : History → NalUnit → Content → ℕ → Course
 after_content before unit found bit = Takes (content_steps depths.Full before unit found) (data_course depths.Full before unit found bit)
 
--- before its content the picture that may go on has ended, if it ends there
-pub record HasEnded (before : History) (unit : NalUnit) (calls : List Told) : Type 0 where
-  pub met : Met (end_steps_at before unit)
-  pub decoded : (frames : Family) → AreDecoded frames calls → HaveDecoded frames (end_steps_at before unit)
-
 -- What a unit after these with this content has met, in its parts.
 pub record HasMet (target : Target) (before : History) (unit : NalUnit) (c : Content) (calls : List Told) : Type 0 where
   pub header : Met (byte_steps unit)
-  pub ends : HasEnded before unit calls
+  pub ends : Met (end_steps_at before unit)
   pub found : Content
   pub bit : ℕ
   pub elements : List Element
   pub says : Says (content (extent_at depths.Full target) (nal_unit_type (header_of unit)) before unit) (body_of unit) 0 elements (Ok (found, bit))
   pub rules : Met (content_steps depths.Full before unit found)
-  pub frames : (frames : Family) → AreDecoded frames calls → HaveDecoded frames (content_steps depths.Full before unit found)
   pub rest : List Told
   pub following : Runs (body_of unit) (data_course depths.Full before unit found bit) rest (Ok c)
 
@@ -188,24 +139,14 @@ has-met target before r calls l =
     let third = takes body (end_steps_at before unit) (content_course (extent_at depths.Full target) before unit) second.1 c second.3 in
     let fourth = reads body (content (extent_at depths.Full target) kind before unit) 0 (after_content before unit) third.1 c third.3 in
     let fifth = takes body (content_steps depths.Full before unit fourth.1) (data_course depths.Full before unit fourth.1 fourth.2) fourth.3 c fourth.5 in
-    let inner : (frames : Family) → AreDecoded frames calls → AreDecoded frames second.1 = λ frames d.
-    decoded-after frames first.1 second.0 second.1 second.4 (decoded-after frames calls first.0 first.1 first.4 d) in
     record {
       header = met (byte_steps unit) first.0 first.2;
-      ends = record {
-        met = met (end_steps_at before unit) third.0 third.2;
-        decoded = λ frames d. have-decoded frames (end_steps_at before unit) third.0 third.2
-            (decoded-before frames second.1 third.0 third.1 third.4 (inner frames d));
-      };
+      ends = met (end_steps_at before unit) third.0 third.2;
       found = fourth.1;
       bit = fourth.2;
       elements = fourth.0;
       says = fourth.4;
       rules = met (content_steps depths.Full before unit fourth.1) fifth.0 fifth.2;
-      frames = λ frames d.
-          let content_told = decoded-after frames second.1 third.0 third.1 third.4 (inner frames d) in
-          let last = decoded-after frames third.1 (told body fourth.0) fourth.3 fourth.6 content_told in
-          have-decoded frames (content_steps depths.Full before unit fourth.1) fifth.0 fifth.2 (decoded-before frames fourth.3 fifth.0 fifth.1 fifth.4 last);
       rest = fifth.1;
       following = fifth.3;
     }

@@ -1,5 +1,5 @@
 -- What legal units leave: slices that were read, pictures that are sound, and frames of those that have ended.
-use Rattle.std.proofs.Common.{◌≡◌, ℕ, ◌*◌, ◌||◌, ◌&&◌, not, Bool, true, false, List, [], ◌∷◌, ◌++◌, length, Option, Some, None, Ok, refl, sym, ◌∙◌, subst}
+use Rattle.std.proofs.Common.{◌≡◌, ℕ, ◌*◌, ◌||◌, ◌&&◌, not, Bool, true, false, List, [], ◌∷◌, ◌++◌, Option, Some, None, Ok, refl, sym, ◌∙◌, subst}
 use Rattle.std.proofs.Common.{if◌then◌else◌}
 use Rattle.std.specs.Option.{is_some}
 use Rattle.h264_verify.specs.Units.{extent_at}
@@ -20,8 +20,7 @@ use Rattle.h264_mbsyntax.proofs.OfSlice.{of-slice}
 use Rattle.h264_vectors.specs.declared.slice.SliceContext.{SliceContext}
 use Rattle.h264_picture.specs.Context.{slice_context}
 use Rattle.h264_picture.specs.Levels.{transform_fits}
-use Rattle.h264_base.specs.declared.summary.Summary.{Summary}
-use Rattle.h264_verify.specs.Telling.{Told, Said, HasFrame, AreDecoded, Family}
+use Rattle.h264_verify.specs.Telling.{Told, Said}
 use Rattle.h264_verify.specs.Content.{Content}
 use Rattle.h264_verify.specs.Content as contents
 use Rattle.h264_verify.specs.Steps.{Step, needs, AreMet, Reads, Ends, Runs}
@@ -38,61 +37,26 @@ use Rattle.h264_verify.specs.Order.{standing_demands, coded_before, slice_rules,
 use Rattle.h264_verify.specs.Steps as step
 use Rattle.h264_verify.specs.Data.{picture_set, coded_so_far, slice_syntax, data_by, slice_data_at}
 use Rattle.h264_verify.specs.Decoding.{EachSlice}
-use Rattle.h264_verify.specs.Buffering.{end_frames, closing_frames, last_frames}
-use Rattle.h264_verify.specs.Pictures.{ended_pictures}
+use Rattle.h264_verify.specs.Buffering.{closing_frames, last_frames}
 use Rattle.h264_verify.specs.Sound.{IsMarked, AreSound, has_ended, HasActive}
 use Rattle.h264_verify.specs.Units.{slice_unit, picture_demand}
 use Rattle.h264_verify.specs.Order.{content_steps, data_course, frames_at, end_steps}
-use Rattle.h264_verify.specs.Verdict.{IsLegal, AreLegal, Holds}
-use Rattle.h264_verify.proofs.FamiliesAgree.{decoded-last}
+use Rattle.h264_verify.specs.Verdict.{IsLegal, AreLegal}
 use Rattle.h264_verify.proofs.FamiliesInPicture.{last-of}
 use Rattle.h264_verify.proofs.KeepsEntered.{IsNoSlice, left-active}
 use Rattle.h264_verify.proofs.UnitJoins.{runs-with}
-use Rattle.h264_verify.proofs.LegalUnit.{byte_steps, Met, met-first, met-last, met-judged, HaveDecoded, have-decoded, have-first, have-last, decoded-first, met}
-use Rattle.h264_verify.proofs.LegalUnit.{HasEnded, has-met, IsHeader, IsContent, is-content, marked-alone, header-marked, rest-ends, rest-reads}
+use Rattle.h264_verify.proofs.LegalUnit.{byte_steps, Met, met-first, met-last, met-judged, met}
+use Rattle.h264_verify.proofs.LegalUnit.{end_steps_at, has-met, IsHeader, IsContent, is-content, marked-alone, header-marked, rest-ends, rest-reads}
 use Rattle.h264_verify.proofs.NamedSizes.{IsOfKind, AreRead}
 use Rattle.h264_verify.proofs.SoundUnits.{closes-sound, passed-sound, begun-sound, begun-filled}
 use Rattle.h264_verify.proofs.SliceSets.{stands-set, stands-if, usable-set, idr-same, joined-sound, joined-active}
 
--- ---- frames of the pictures that have ended
-
-abbrev pub HaveFrames : Family → List CodedPicture → Type 0
-HaveFrames frames [] = Unit {0}
-HaveFrames frames (p ∷ ps) = HasFrame frames (p ∷ ps) × HaveFrames frames ps
-
--- the picture that may go on ends
-closes : (frames : Family) (on : Bool) (pictures : List CodedPicture) → HaveFrames frames (ended_pictures on false pictures) →
-    HaveDecoded frames (if on then end_frames depths.Full pictures else []) → HaveFrames frames pictures
-closes frames on [] h d = tt
-closes frames true (p ∷ ps) h d = (d.0, h)
-closes frames false (p ∷ ps) h d = h
-
-whole-frames : (frames : Family) (pictures : List CodedPicture) → HaveFrames frames pictures → HaveFrames frames (ended_pictures false false pictures)
-whole-frames frames [] h = tt
-whole-frames frames (p ∷ ps) h = h
-
-passed-frames : (frames : Family) (ends on : Bool) (pictures : List CodedPicture) → HaveFrames frames (ended_pictures on false pictures) →
-    HaveDecoded frames (if ends then (if on then end_frames depths.Full pictures else []) else []) →
-    HaveFrames frames (ended_pictures (not ends && on) false pictures)
-passed-frames frames true on pictures h d = whole-frames frames pictures (closes frames on pictures h d)
-passed-frames frames false on pictures h d = h
-
-slice-frames : (frames : Family) (begins on : Bool) (pictures : List CodedPicture) (s : CodedSlice) → begins ≡
-    begins_after (open_of on pictures) s.header → HaveFrames frames (ended_pictures on false pictures) →
-    HaveDecoded frames (if begins then (if on then end_frames depths.Full pictures else []) else []) →
-    HaveFrames frames (ended_pictures true false (joined_to begins s pictures))
-slice-frames frames true on pictures s b h d = closes frames on pictures h d
-slice-frames frames false on [] s b h d = cc
-slice-frames frames false true (p ∷ ps) s b h d = h
-slice-frames frames false false (p ∷ ps) s b h d = cc
-
 -- ---- what legal units leave
 
-pub record Stands (before : History) (calls : List Told) : Type 0 where
+pub record Stands (before : History) : Type 0 where
   pub read : AreRead (runs_of before)
   pub active : HasActive (is_idr_due before) (runs_of before) (maps_of before)
   pub sound : AreSound (has_ended (goes_on before) false) (runs_of before)
-  pub frames : (frames : Family) → AreDecoded frames calls → HaveFrames frames (ended_pictures (goes_on before) false (runs_of before))
 
 -- ---- a slice
 
@@ -198,14 +162,8 @@ module _ (before : History) (unit : NalUnit) (h : Header) (ms : List CodedMacrob
       (usable-set maps h.pic_parameter_set_id.value pps sps named)
       (stands-if begins (is_idr_due before) pictures maps sps (8 * unit.from) h a ok) (begun-filled begins (is_idr_due before) maps pictures bare rules)
 
-  closing-decoded : (frames : Family) → HaveDecoded frames (slice_steps depths.Full before unit h) →
-      HaveDecoded frames (if begins then (if goes_on before then end_frames depths.Full pictures else []) else [])
-  closing-decoded frames d = have-first frames shows own (have-last frames closing (shows ++ own) (have-last frames whole (closing ++ (shows ++ own)) d))
-
-  slice-stands : (earlier last : List Told) → Stands before earlier → Met (slice_steps depths.Full before unit h) →
-      ((frames : Family) → AreDecoded frames last → HaveDecoded frames (slice_steps depths.Full before unit h)) → IsOwn begins pictures ms →
-      Stands after (earlier ++ last)
-  slice-stands earlier last s met decoded read =
+  slice-stands : Stands before → Met (slice_steps depths.Full before unit h) → IsOwn begins pictures ms → Stands after
+  slice-stands s met read =
       let rules = rules-met met in
       let runs : joined_to begins slice pictures ≡ runs_of after = runs-with before unit h ms maps begins (pps, sps) refl refl named in
       record {
@@ -214,9 +172,6 @@ module _ (before : History) (unit : NalUnit) (h : Header) (ms : List CodedMacrob
             (joined-active maps slice named begins (goes_on before) pictures (is_idr_due before) (8 * unit.from) refl s.active
             (met-judged (standing_demands begins sps (is_idr_due before) maps (8 * unit.from) h) (standing-met begins (is_idr_due before) pictures rules)));
         sound = subst (λ ps. AreSound false ps) runs (slice-sound s.active s.sound met);
-        frames = λ frames d. subst (λ ps. HaveFrames frames (ended_pictures true false ps)) runs
-            (slice-frames frames begins (goes_on before) pictures slice refl (s.frames frames (decoded-first frames earlier last d))
-            (closing-decoded frames (decoded frames (decoded-last frames earlier last d))));
       }
 
 -- its slice data
@@ -247,95 +202,62 @@ module _ (before : History) (unit : NalUnit) (h : Header) (pps : Pps) (sps : Sps
 
 -- ---- one unit more
 
-module _ (before : History) (unit : NalUnit) (earlier last : List Told) (s : Stands before earlier) where
+module _ (before : History) (unit : NalUnit) (s : Stands before) where
   abbrev kind : ℕ
   kind = nal_unit_type (header_of unit)
 
   abbrev one_more : Content → History
   one_more c = record { unit = unit; content = c } ∷ before
 
-  left-sound : HasEnded before unit last → AreSound (has_ended (not (ends_picture kind) && goes_on before) false) (runs_of before)
+  left-sound : Met (end_steps_at before unit) → AreSound (has_ended (not (ends_picture kind) && goes_on before) false) (runs_of before)
   left-sound e =
       passed-sound (ends_picture kind) (goes_on before) (runs_of before) s.sound
       (met-first (needs (closing_at kind before)) (frames_at depths.Full kind before)
-      (met-last (whole_at depths.Full kind before) (needs (closing_at kind before) ++ frames_at depths.Full kind before) e.met))
+      (met-last (whole_at depths.Full kind before) (needs (closing_at kind before) ++ frames_at depths.Full kind before) e))
 
-  left-frames : HasEnded before unit last → (frames : Family) → AreDecoded frames (earlier ++ last) →
-      HaveFrames frames (ended_pictures (not (ends_picture kind) && goes_on before) false (runs_of before))
-  left-frames e frames d =
-      passed-frames frames (ends_picture kind) (goes_on before) (runs_of before) (s.frames frames (decoded-first frames earlier last d))
-      (have-last frames (needs (closing_at kind before)) (frames_at depths.Full kind before)
-      (have-last frames (whole_at depths.Full kind before) (needs (closing_at kind before) ++ frames_at depths.Full kind before)
-      (e.decoded frames (decoded-last frames earlier last d))))
-
-  passed-stands : HasEnded before unit last → (c : Content) → IsNoSlice c → Stands (one_more c) (earlier ++ last)
+  passed-stands : Met (end_steps_at before unit) → (c : Content) → IsNoSlice c → Stands (one_more c)
   passed-stands e (contents.OfSps set) n =
-      record {
-        read = s.read;
-        active = left-active _ (is_idr_due before) (runs_of before) (maps_of before) _ refl s.active;
-        sound = left-sound e;
-        frames = left-frames e;
-      }
+      record { read = s.read; active = left-active _ (is_idr_due before) (runs_of before) (maps_of before) _ refl s.active; sound = left-sound e }
   passed-stands e (contents.OfPps set) n =
-      record {
-        read = s.read;
-        active = left-active _ (is_idr_due before) (runs_of before) (maps_of before) _ refl s.active;
-        sound = left-sound e;
-        frames = left-frames e;
-      }
+      record { read = s.read; active = left-active _ (is_idr_due before) (runs_of before) (maps_of before) _ refl s.active; sound = left-sound e }
   passed-stands e (contents.OfSlice h ms) n = absurd n
-  passed-stands e contents.Passed n = record {
-    read = s.read;
-    active = left-active _ (is_idr_due before) (runs_of before) (maps_of before) _ refl s.active;
-    sound = left-sound e;
-    frames = left-frames e;
-  }
+  passed-stands e contents.Passed n =
+      record { read = s.read; active = left-active _ (is_idr_due before) (runs_of before) (maps_of before) _ refl s.active; sound = left-sound e }
 
   with-data : (h : Header) (c : Content) (bit : ℕ) (rest : List Told) → Met (byte_steps unit) → IsHeader (sets_of (maps_of before)) (slice_unit unit) h →
       Met (slice_steps depths.Full before unit h) →
-      ((frames : Family) → AreDecoded frames last → HaveDecoded frames (slice_steps depths.Full before unit h)) →
       Runs (body_of unit) (Reads (slice_data_at before unit h >>= (λ ms. Done (contents.OfSlice h ms))) bit (λ whole end. Ends whole)) rest (Ok c) →
-      (o : Option (Pps × Sps)) → sets_at before h ≡ o → is_some o ≡ true → Stands (one_more c) (earlier ++ last)
-  with-data h c bit rest top k m d r None e t = cc
-  with-data h c bit rest top k m d r (Some sets) e t =
+      (o : Option (Pps × Sps)) → sets_at before h ≡ o → is_some o ≡ true → Stands (one_more c)
+  with-data h c bit rest top k m r None e t = cc
+  with-data h c bit rest top k m r (Some sets) e t =
       let x = rest-reads (body_of unit) (slice_data_at before unit h >>= (λ ms. Done (contents.OfSlice h ms))) bit rest c
       (IsSlice before unit h sets.0 sets.1 e) (whole-gives before unit h sets.0 sets.1 e) r in
-      subst (λ y. Stands (one_more y) (earlier ++ last)) (sym x.1)
-      (slice-stands before unit h x.0 sets.0 sets.1 e (header-marked before unit h top k) earlier last s m d x.2)
+      subst (λ y. Stands (one_more y)) (sym x.1) (slice-stands before unit h x.0 sets.0 sets.1 e (header-marked before unit h top k) s m x.2)
 
-  by-content : (c found : Content) (bit : ℕ) (rest : List Told) → Met (byte_steps unit) → HasEnded before unit last → IsContent before unit found →
-      Met (content_steps depths.Full before unit found) →
-      ((frames : Family) → AreDecoded frames last → HaveDecoded frames (content_steps depths.Full before unit found)) →
-      Runs (body_of unit) (data_course depths.Full before unit found bit) rest (Ok c) → Stands (one_more c) (earlier ++ last)
-  by-content c (contents.OfSps set) bit rest top e k m d r =
-      subst (λ y. Stands (one_more y) (earlier ++ last)) (sym (rest-ends (body_of unit) (contents.OfSps set) c rest r))
-      (passed-stands e (contents.OfSps set) tt)
-  by-content c (contents.OfPps set) bit rest top e k m d r =
-      subst (λ y. Stands (one_more y) (earlier ++ last)) (sym (rest-ends (body_of unit) (contents.OfPps set) c rest r))
-      (passed-stands e (contents.OfPps set) tt)
-  by-content c (contents.OfSlice h ms) bit rest top e k m d r = with-data h c bit rest top k m d r (sets_at before h) refl k.named
-  by-content c contents.Passed bit rest top e k m d r =
-      subst (λ y. Stands (one_more y) (earlier ++ last)) (sym (rest-ends (body_of unit) contents.Passed c rest r)) (passed-stands e contents.Passed tt)
+  by-content : (c found : Content) (bit : ℕ) (rest : List Told) → Met (byte_steps unit) → Met (end_steps_at before unit) → IsContent before unit found →
+      Met (content_steps depths.Full before unit found) → Runs (body_of unit) (data_course depths.Full before unit found bit) rest (Ok c) →
+      Stands (one_more c)
+  by-content c (contents.OfSps set) bit rest top e k m r =
+      subst (λ y. Stands (one_more y)) (sym (rest-ends (body_of unit) (contents.OfSps set) c rest r)) (passed-stands e (contents.OfSps set) tt)
+  by-content c (contents.OfPps set) bit rest top e k m r =
+      subst (λ y. Stands (one_more y)) (sym (rest-ends (body_of unit) (contents.OfPps set) c rest r)) (passed-stands e (contents.OfPps set) tt)
+  by-content c (contents.OfSlice h ms) bit rest top e k m r = with-data h c bit rest top k m r (sets_at before h) refl k.named
+  by-content c contents.Passed bit rest top e k m r =
+      subst (λ y. Stands (one_more y)) (sym (rest-ends (body_of unit) contents.Passed c rest r)) (passed-stands e contents.Passed tt)
 
-stands-next : (target : Target) (before : History) (r : ReadUnit) (earlier last : List Told) → Stands before earlier →
-    IsLegal (extent_at depths.Full target) before r last → Stands (r ∷ before) (earlier ++ last)
-stands-next target before r earlier last s l =
-    let m = has-met target before r last l in
-    by-content before r.unit earlier last s r.content m.found m.bit m.rest m.header m.ends (is-content target before r.unit r.content last m) m.rules m.frames
-    m.following
+stands-next : (target : Target) (before : History) (r : ReadUnit) (calls : List Told) → Stands before →
+    IsLegal (extent_at depths.Full target) before r calls → Stands (r ∷ before)
+stands-next target before r calls s l =
+    let m = has-met target before r calls l in
+    by-content before r.unit s r.content m.found m.bit m.rest m.header m.ends (is-content target before r.unit r.content calls m) m.rules m.following
 
-pub stands : (target : Target) (before : History) (calls : List Told) → AreLegal (extent_at depths.Full target) before calls → Stands before calls
-stands target [] calls l = record { read = tt; active = refl; sound = tt; frames = λ frames d. tt }
-stands target (r ∷ before) calls l = subst (Stands (r ∷ before)) (sym l.4) (stands-next target before r l.0 l.1 (stands target before l.0 l.2) l.3)
+pub stands : (target : Target) (before : History) (calls : List Told) → AreLegal (extent_at depths.Full target) before calls → Stands before
+stands target [] calls l = record { read = tt; active = refl; sound = tt }
+stands target (r ∷ before) calls l = stands-next target before r l.1 (stands target before l.0 l.2) l.3
 
 -- their slices were read
 pub legal-read : (target : Target) (before : History) (calls : List Told) → AreLegal (extent_at depths.Full target) before calls → AreRead (runs_of before)
 legal-read target before calls l = (stands target before calls l).read
-
--- the pictures that have ended have their frames
-pub legal-frames : (target : Target) (before : History) (calls : List Told) → AreLegal (extent_at depths.Full target) before calls →
-    (frames : Family) → AreDecoded frames calls → HaveFrames frames (ended_pictures (goes_on before) false (runs_of before))
-legal-frames target before calls l frames d = (stands target before calls l).frames frames d
 
 -- ---- at the end of the input
 
@@ -347,17 +269,3 @@ all-sound target units first last bit l e =
     closes-sound (goes_on units) (runs_of units) (stands target units first l).sound
     (met-first (needs (closing_demands units)) rest
     (met-last (whole_steps depths.Full units) (needs (closing_demands units) ++ rest) (met (end_steps depths.Full units bit) last e)))
-
-module _ (target : Target) (bytes : List ℕ) (calls : List Told) (summary : Summary) (h : Holds (extent_at depths.Full target) bytes calls summary) where
-  abbrev shown : List Step
-  shown = needs (picture_demand depths.Full h.units (8 * length bytes) ∷ []) ++ last_frames depths.Full (runs_of h.units)
-
-  -- all pictures have their frames
-  pub all-frames : (frames : Family) → AreDecoded frames calls → HaveFrames frames (runs_of h.units)
-  all-frames frames d =
-      let all = subst (AreDecoded frames) h.calls_are d in
-      let last = have-decoded frames (end_steps depths.Full h.units (8 * length bytes)) h.last h.end (decoded-last frames h.first h.last all) in
-      closes frames (goes_on h.units) (runs_of h.units) (legal-frames target h.units h.first h.legal frames (decoded-first frames h.first h.last all))
-      (have-first frames (closing_frames depths.Full h.units) shown
-      (have-last frames (needs (closing_demands h.units)) (closing_frames depths.Full h.units ++ shown)
-      (have-last frames (whole_steps depths.Full h.units) (needs (closing_demands h.units) ++ (closing_frames depths.Full h.units ++ shown)) last)))

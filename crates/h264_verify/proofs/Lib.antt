@@ -1,10 +1,12 @@
 pub mod FamiliesAgree
 pub mod HeaderSets
-pub mod UnitEnded
 pub mod HeaderMarking
 pub mod UnitJoins
 pub mod UnitParts
+pub mod ShownFirst
+pub mod ToldInOrder
 pub mod CourseParts
+pub mod CourseCalls
 pub mod ReadsStructures
 pub mod WantOfMemory
 pub mod ToldTogether
@@ -62,8 +64,6 @@ pub mod DecodablePictures
 pub mod OneFamily
 pub mod WithoutFrames
 pub mod OneOutput
-pub mod CourseCalls
-pub mod OneFront
 pub mod WithinAtEnds
 pub mod BaselineIsMainIp
 pub mod AccountTaken

@@ -1,5 +1,5 @@
 -- A stream has one family of frames.
-use Rattle.std.proofs.Common.{ℕ, Bool, true, false, List, [], ◌∷◌, length, inl, inr, sym, subst, Some}
+use Rattle.std.proofs.Common.{ℕ, false, List, [], ◌∷◌, length, inl, inr, sym, subst, Some, ◌++◌, Ok}
 use Rattle.h264_verify.specs.Units.{extent_at}
 use Rattle.h264_base.specs.declared.mode.Target.{Target}
 use Rattle.h264_verify.specs.declared.state.Depth.TheVariants as depths
@@ -15,7 +15,8 @@ use Rattle.h264_verify.specs.Verdict.{AreLegal, Holds}
 use Rattle.h264_verify.specs.Family.{HaveSameSamples, AreSameOn}
 use Rattle.h264_verify.proofs.FamiliesInSlice.{each-slice}
 use Rattle.h264_verify.proofs.FamiliesInPicture.{alike}
-use Rattle.h264_verify.proofs.LegalUnits.{HaveFrames, stands, all-frames}
+use Rattle.h264_verify.proofs.LegalUnits.{legal-read}
+use Rattle.h264_verify.proofs.ToldInOrder.{HaveFrames, ToldOf, in-frames, verdict-in, legal-told}
 use Rattle.h264_verify.proofs.NamedSizes.{AreRead, HasSize, names-size}
 
 -- ---- two families
@@ -38,23 +39,26 @@ module _ (frames others : ℕ → Frame) where
         rest,
       )
 
-  ended-read : (on : Bool) (pictures : List CodedPicture) → AreRead pictures → AreRead (ended_pictures on false pictures)
-  ended-read on [] r = tt
-  ended-read true (p ∷ ps) r = r.1
-  ended-read false (p ∷ ps) r = r
+  -- of the last of them
+  last-read : (newer pictures : List CodedPicture) → AreRead (newer ++ pictures) → AreRead pictures
+  last-read [] pictures r = r
+  last-read (p ∷ newer) pictures r = last-read newer pictures r.1
 
-  -- of the pictures that have ended in units that are legal
-  pub legal-family : (target : Target) (before : History) (calls : List Told) → AreLegal (extent_at depths.Full target) before calls →
-      AreDecoded (Some frames) calls →
-      AreDecoded (Some others) calls → AreSameOn frames others (ended_pictures (goes_on before) false (runs_of before))
-  legal-family target before calls l d e =
-      let s = stands target before calls l in
-      same-on (ended_pictures (goes_on before) false (runs_of before)) (ended-read (goes_on before) (runs_of before) s.read) (s.frames (Some frames) d)
-      (s.frames (Some others) e)
+  -- what is told of a stream in order makes the two the same of the pictures that have ended
+  pub told-family : (target : Target) (told : List Told) (t : ToldOf (extent_at depths.Full target) told) → AreDecoded (Some frames) told →
+      AreDecoded (Some others) told → AreSameOn frames others t.done
+  told-family target told t d e =
+      same-on t.done (last-read t.last.0 t.done (subst AreRead t.last.1 (legal-read target t.before t.first t.legal)))
+      (in-frames (Some frames) told [] t.done t.order tt d) (in-frames (Some others) told [] t.done t.order tt e)
 
   -- of all pictures of a stream
-  pub one-family : (target : Target) (bytes : List ℕ) (calls : List Told) (summary : Summary) (h : Holds (extent_at depths.Full target) bytes calls summary) →
-      AreDecoded (Some frames) calls → AreDecoded (Some others) calls → AreSameOn frames others (runs_of h.units)
-  one-family target bytes calls summary h d e =
-      same-on (runs_of h.units) (stands target h.units h.first h.legal).read (all-frames target bytes calls summary h (Some frames) d)
-      (all-frames target bytes calls summary h (Some others) e)
+  pub one-family : (target : Target) (bytes : List ℕ) (told : List Told) (summary : Summary) (h : Holds (extent_at depths.Full target) bytes told summary) →
+      AreDecoded (Some frames) told → AreDecoded (Some others) told → AreSameOn frames others (runs_of h.units)
+  unfolding verdict-in
+  one-family target bytes told summary h d e = told-family target told (verdict-in (extent_at depths.Full target) bytes told (Ok summary) h) d e
+
+  -- of the pictures that have ended in units that are legal
+  pub legal-family : (target : Target) (before : History) (told : List Told) → AreLegal (extent_at depths.Full target) before told →
+      AreDecoded (Some frames) told → AreDecoded (Some others) told → AreSameOn frames others (ended_pictures (goes_on before) false (runs_of before))
+  unfolding legal-told
+  legal-family target before told l d e = told-family target told (legal-told (extent_at depths.Full target) before told l) d e

@@ -1,4 +1,4 @@
--- What a sink is told of a stream, frames among it, is one list of calls.
+-- What a sink is told of a stream, or of a front of it, is one list of calls.
 use Rattle.std.proofs.Common.{◌≡◌, ℕ, ◌+◌, ◌-◌, ◌*◌, ◌<◌, ◌≤◌, List, [], ◌∷◌, length, ℤ, refl, ap, sym, ◌∙◌, subst, arith, ⊎_elim, Some}
 use Rattle.std.proofs.lemmas.Bool.{cases_lt}
 use Rattle.h264_verify.specs.Units.{extent_at}
@@ -17,16 +17,22 @@ use Rattle.h264_dpb.specs.Shown.{width_in, height_in, cropped, frame_call}
 use Rattle.h264_dpb.specs.Kept.{shown_call}
 use Rattle.h264_dpb.specs.declared.entry.Rectangle.{Rectangle}
 use Rattle.h264_verify.specs.Telling.{Told, Said, Decodes, Shows, calls_of, AreOf}
-use Rattle.h264_verify.specs.Outcome.{Outcome}
-use Rattle.h264_verify.specs.History.{History}
 use Rattle.h264_verify.specs.Pictures.{CodedPicture}
-use Rattle.h264_verify.specs.Keeping.{ended_in}
-use Rattle.h264_verify.specs.Verdict.{AreLegal}
 use Rattle.h264_verify.specs.Family.{AreSameOn}
-use Rattle.h264_verify.proofs.FamiliesAgree.{of-both, of-more}
-use Rattle.h264_verify.proofs.UnitEnded.{unit-grows}
-use Rattle.h264_verify.proofs.LegalUnits.{HaveFrames}
-use Rattle.h264_verify.proofs.AfterLegal.{legal-unit}
+use Rattle.std.proofs.Common.{◌≡◌, ℕ, ◌*◌, arith, append_assoc, ⊎_elim, List, [], ◌∷◌, ◌++◌, length, ◌⊎◌, inl, inr, Some}
+use Rattle.std.proofs.Common.{Result, refl, ap, sym, ◌∙◌, subst}
+use Rattle.h264_base.specs.declared.stop.Stop.{Stop}
+use Rattle.h264_base.specs.Call.{Call}
+use Rattle.h264_base.specs.declared.summary.Summary.{Summary}
+use Rattle.h264_verify.specs.Telling.{Told, Said, Decodes, Shows, calls_of, AreDecoded, AreOf}
+use Rattle.h264_verify.specs.Steps.{told}
+use Rattle.h264_verify.specs.Pictures.{CodedPicture}
+use Rattle.h264_verify.specs.Family.{IsFrontOf}
+use Rattle.h264_verify.specs.Verdict.{Verdict}
+use Rattle.h264_verify.proofs.FamiliesAgree.{decoded-first, calls-both}
+use Rattle.h264_verify.proofs.OneVerdict.{one-verdict}
+use Rattle.h264_verify.proofs.ToldInOrder.{HaveFrames, ToldOf, in-frames, in-of, front-in, verdict-in}
+use Rattle.h264_verify.proofs.OneFamily.{told-family}
 
 -- ---- a frame
 
@@ -72,13 +78,62 @@ module _ (frames others : ℕ → Frame) where
       ap (λ (c : Call). c ∷ calls_of (Some frames) told) (a e.of.picture h.0 e.count e.of.rectangle)
       ∙ ap (λ (l : List Call). shown_call others e ∷ l) (calls-same n told a h.1)
 
--- ---- what legal units tell is of the pictures that have ended
+  -- what is told in order is the same calls with both
+  pub told-output : (target : Target) (told : List Told) → ToldOf (extent_at depths.Full target) told → AreDecoded (Some frames) told →
+      AreDecoded (Some others) told → calls_of (Some frames) told ≡ calls_of (Some others) told
+  told-output target told t d e =
+      let one = in-frames (Some frames) told [] t.done t.order tt d in
+      let other = in-frames (Some others) told [] t.done t.order tt e in
+      calls-same (length t.done) told (shown-alike t.done (told-family frames others target told t d e) one other) (in-of told [] t.done t.order)
 
-pub legal-of : (target : Target) (before : History) (told : List Told) → AreLegal (extent_at depths.Full target) before told → AreOf (ended_in before) told
-legal-of target [] told l = subst (AreOf (ended_in [])) (sym l) tt
-legal-of target (r ∷ before) told l =
-    let e = legal-unit (extent_at depths.Full target) before r l.1 l.3 in
-    let g = unit-grows (extent_at depths.Full target) before (r ∷ before) r.unit (ap (λ (o : Outcome History). o.answer) e) in
-    let last : AreOf (ended_in (r ∷ before)) l.1 = subst (AreOf (ended_in (r ∷ before))) (ap (λ (o : Outcome History). o.calls) e) g.1 in
-    subst (AreOf (ended_in (r ∷ before))) (sym l.4)
-    (of-both (ended_in (r ∷ before)) l.0 l.1 (of-more (ended_in before) (ended_in (r ∷ before)) l.0 g.0 (legal-of target before l.0 l.2)) last)
+  -- a front of what is told of a stream up to its verdict
+  pub front-output : (target : Target) (bytes : List ℕ) (told rest : List Told) (answer : Result Summary Stop) →
+      Verdict (extent_at depths.Full target) bytes (told ++ rest) answer → AreDecoded (Some frames) told → AreDecoded (Some others) told →
+      calls_of (Some frames) told ≡ calls_of (Some others) told
+  front-output target bytes told rest answer h = let whole = extent_at depths.Full target in
+      told-output target told (front-in whole told rest (verdict-in whole bytes (told ++ rest) answer h))
+
+-- ---- fronts
+
+-- a front of two lists in turn is one of the first, or has all of that and a front of the second
+pub front-of : (told rest xs ys : List Told) → told ++ rest ≡ xs ++ ys → ((more : List Told) × (xs ≡ told ++ more)) ⊎
+    ((part : List Told) × (told ≡ xs ++ part) × (ys ≡ part ++ rest))
+front-of [] rest xs ys e = inl (xs, refl)
+front-of (t ∷ told) rest [] ys e = inr (t ∷ told, refl, sym e)
+front-of (t ∷ told) rest (x ∷ xs) ys e =
+    let head : t ≡ x = cc in
+    let tail : told ++ rest ≡ xs ++ ys = cc in
+    by head (front-of told rest xs ys tail)
+  where
+    by : t ≡ x → ((more : List Told) × (xs ≡ told ++ more)) ⊎ ((part : List Told) × (told ≡ xs ++ part) × (ys ≡ part ++ rest)) →
+        ((more : List Told) × (x ∷ xs ≡ (t ∷ told) ++ more)) ⊎ ((part : List Told) × (t ∷ told ≡ (x ∷ xs) ++ part) × (ys ≡ part ++ rest))
+    by head (inl m) = inl (m.0, ap (λ (y : Told). y ∷ xs) (sym head) ∙ ap (λ (l : List Told). t ∷ l) m.1)
+    by head (inr m) = inr (m.0, ap (λ (y : Told). y ∷ told) head ∙ ap (λ (l : List Told). x ∷ l) m.1, m.2)
+
+-- the longer of two fronts begins with the shorter
+longer : (frames others : ℕ → Frame) (target : Target) (bytes : List ℕ) (told other part more : List Told) (answer : Result Summary Stop) → other ≡ told ++
+    part → Verdict (extent_at depths.Full target) bytes (other ++ more) answer → AreDecoded (Some frames) told → AreDecoded (Some others) other →
+    (rest : List Call) ×
+    (calls_of (Some others) other ≡ calls_of (Some frames) told ++ rest)
+longer frames others target bytes told other part more answer e v d d' =
+    let first = decoded-first (Some others) told part (subst (AreDecoded (Some others)) e d') in
+    let front = subst (λ (l : List Told). Verdict (extent_at depths.Full target) bytes l answer)
+    (ap (λ (l : List Told). l ++ more) e ∙ append_assoc told part more) v in
+    let same = front-output frames others target bytes told (part ++ more) answer front d first in (
+      calls_of (Some others) part,
+      ap (λ (l : List Told). calls_of (Some others) l) e ∙ calls-both (Some others) told part ∙
+          ap (λ (l : List Call). l ++ calls_of (Some others) part) (sym same),
+    )
+
+-- two fronts, with two families: one begins with the other
+pub fronts-output : (target : Target) (bytes : List ℕ) (told rest other more : List Told) (answer another : Result Summary Stop) →
+    Verdict (extent_at depths.Full target) bytes (told ++ rest) answer → Verdict (extent_at depths.Full target) bytes (other ++ more) another →
+    (frames others : ℕ → Frame) → AreDecoded (Some frames) told → AreDecoded (Some others) other →
+    IsFrontOf (calls_of (Some frames) told) (calls_of (Some others) other) ⊎
+    IsFrontOf (calls_of (Some others) other) (calls_of (Some frames) told)
+fronts-output target bytes told rest other more answer another v w frames others d d' = ⊎_elim
+    (λ (m : (extra : List Told) × (other ≡ told ++ extra)). let l = longer frames others target bytes told other m.0 more another m.1 w d d' in
+    inl (record { rest = l.0; whole = l.1 }))
+    (λ (m : (part : List Told) × (told ≡ other ++ part) × (more ≡ part ++ rest)). let l =
+    longer others frames target bytes other told m.0 rest answer m.1 v d' d in inr (record { rest = l.0; whole = l.1 }))
+    (front-of told rest other more (one-verdict (extent_at depths.Full target) bytes (told ++ rest) (other ++ more) answer another v w).0)

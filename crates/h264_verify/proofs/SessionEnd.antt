@@ -30,8 +30,7 @@ use Rattle.h264_verify.proofs.AfterLegal.{holds-after, stops-after, after-end, j
 use Rattle.h264_verify.proofs.CourseOutcome.{outcome}
 use Rattle.h264_verify.proofs.FamiliesAgree.{tells-agree}
 use Rattle.h264_verify.proofs.SessionUnits.{next-some, shows-length}
-use Rattle.h264_verify.proofs.UnitEnded.{unit-grows}
-use Rattle.h264_verify.proofs.SessionSteps.{comes-as, agree-both, judged-after}
+use Rattle.h264_verify.proofs.SessionSteps.{grows-after, comes-as, agree-both, judged-after}
 use Rattle.h264_verify.proofs.SessionRest.{comes-memory, comes-tail, comes-unit, rest-tail, rest-from}
 
 -- what the end comes to after legal units
@@ -145,8 +144,8 @@ module _ {terms : Terms} {split : Splitting} {state : State} {bytes : List ℕ} 
       finish-both s s' s'' x end r n quiet t last =
           let ext = extent_by terms in
           let o = unit_outcome ext f.before unit in
-          let grows = unit-grows ext f.before t.after unit t.plays.plays.0 in
           let j = joined ext f.before unit o.calls t.after (ap (λ (a : Result History Stop). outcome o.calls a) t.plays.plays.0) in
+          let grows = grows-after ext f.before unit o.calls t.after j in
           let legal : AreLegal ext t.after (told ++ o.calls) =
           subst (λ (h : History). AreLegal ext h (told ++ o.calls)) (sym j.after_is) (told, o.calls, f.legal, j.legal, refl) in
           let from = rest-from f [] unit new.rest (last-next finished taken) in

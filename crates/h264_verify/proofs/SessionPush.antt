@@ -25,8 +25,7 @@ use Rattle.h264_verify.proofs.FamiliesAgree.{agree-none, of-both, of-more}
 use Rattle.h264_verify.proofs.FamiliesByPurpose.{family-on}
 use Rattle.h264_verify.proofs.SessionUnits.{in-order, shows-both, shows-more}
 use Rattle.h264_verify.proofs.ToldTogether.{tells-none}
-use Rattle.h264_verify.proofs.UnitEnded.{unit-grows}
-use Rattle.h264_verify.proofs.SessionSteps.{comes-as, not-less}
+use Rattle.h264_verify.proofs.SessionSteps.{grows-after, comes-as, not-less}
 use Rattle.h264_verify.proofs.SessionRest.{comes-memory, comes-tail, comes-unit}
 
 pub push-not-read : (old new : Splitting) (piece : List ℕ) (stop : Stop) → PushStops old new piece stop → stop ≡ Read → ⊥
@@ -109,8 +108,8 @@ module _ {terms : Terms} {split : Splitting} {state : State} {bytes : List ℕ} 
             GoesOn f (span took failures s s') (going terms new later) (take n piece)
         goes-unit t =
             let o = unit_outcome (extent_by terms) f.before unit in
-            let grows = unit-grows (extent_by terms) f.before t.after unit t.plays.plays.0 in
             let j = joined (extent_by terms) f.before unit o.calls t.after (ap (λ (a : Result History Stop). outcome o.calls a) t.plays.plays.0) in
+            let grows = grows-after (extent_by terms) f.before unit o.calls t.after j in
             record {
               made = t.made;
               same = t.same;

@@ -19,7 +19,9 @@ use Rattle.h264_verify.specs.Verdict.{in_order, AreLegal, Verdict, Whole, Front}
 use Rattle.h264_verify.specs.Verdict.{WantsAt, Wanting, JudgedBy, Judged, SameTold}
 use Rattle.h264_verify.specs.Progress.{Progress, going, IsFresh}
 use Rattle.h264_verify.specs.Feeding.{ShowsUnits, WasFed, WasFedSome, IsReady, IsSession, IsFed, GoesOn, ComesTo}
-use Rattle.h264_verify.proofs.AfterLegal.{stopped}
+use Rattle.h264_verify.proofs.AfterLegal.{Joined}
+use Rattle.h264_verify.proofs.ToldInOrder.{unit-grows}
+use Rattle.h264_verify.specs.History.{History}
 use Rattle.h264_verify.proofs.FamiliesAgree.{agree-none, agree-less, agree-then, of-last, calls-agree, decoded-told-agree, tells-agree}
 use Rattle.h264_verify.proofs.FamiliesByPurpose.{family-on}
 use Rattle.h264_verify.proofs.ToldTogether.{tells-none, tells-both}
@@ -78,6 +80,13 @@ told-agree n frames others told a h = record {
   calls = sym (calls-agree n frames others told a h);
   decoded = decoded-told-agree n frames others told a h;
 }
+
+-- no fewer pictures have ended after a unit that joined, and what it told is of those
+pub grows-after : (extent : Extent) (before : History) (unit : NalUnit) (calls : List Told) (after : History) → Joined extent before unit calls after →
+    (ended_in before ≤ ended_in after) × AreOf (ended_in after) calls
+grows-after extent before unit calls after j =
+    subst (λ (h : History). (ended_in before ≤ ended_in h) × AreOf (ended_in h) calls) (sym j.after_is)
+    (unit-grows extent before (record { unit = unit; content = j.content }) calls j.legal)
 
 -- ---- an answer after some calls
 

@@ -10,7 +10,7 @@ use Rattle.h264_verify.specs.declared.state.Depth.{Depth}
 use Rattle.h264_verify.specs.Content as contents
 use Rattle.h264_verify.specs.Memory.{reads_slices, bytes_of}
 use Rattle.h264_verify.proofs.FamiliesAgree.{agree-none}
-use Rattle.h264_verify.proofs.UnitEnded.{slice-goes}
+use Rattle.h264_verify.proofs.ToldInOrder.{slice-goes}
 use Rattle.h264_verify.proofs.UnitJoins.{joins-on, passed-joins, some-slice}
 use Rattle.h264_verify.proofs.WantOfMemory.{bytes-by, unread, read-bytes, read-slice}
 use Rattle.h264_verify.proofs.OutcomesPlayed.{gives-plays}

@@ -16,7 +16,7 @@ use Rattle.h264_verify.specs.Keeping.{KeepsFrames, KeepsPictures, EntersBy, form
 use Rattle.h264_header.proofs.Entries.{where-ok}
 use Rattle.h264_verify.specs.declared.slices.Slice.{Slice}
 use Rattle.h264_verify.proofs.FamiliesAgree.{agree-none}
-use Rattle.h264_verify.proofs.UnitEnded.{slice-goes}
+use Rattle.h264_verify.proofs.ToldInOrder.{slice-goes}
 use Rattle.h264_verify.proofs.SliceSteps.{some-of, sets-after}
 use Rattle.h264_verify.proofs.SlicePlaced.{some-rules, goes-on-with, slice-plays, keeps-with, sound-slice}
 use Rattle.h264_marking.specs.Ended.{numbering_of}
