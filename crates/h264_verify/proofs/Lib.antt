@@ -6,7 +6,6 @@ pub mod UnitParts
 pub mod ShownFirst
 pub mod ToldInOrder
 pub mod CourseParts
-pub mod CourseCalls
 pub mod ReadsStructures
 pub mod WantOfMemory
 pub mod ToldTogether

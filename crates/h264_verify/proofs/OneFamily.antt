@@ -1,5 +1,5 @@
 -- A stream has one family of frames.
-use Rattle.std.proofs.Common.{ℕ, false, List, [], ◌∷◌, length, inl, inr, sym, subst, Some, ◌++◌, Ok}
+use Rattle.std.proofs.Common.{ℕ, false, List, [], ◌∷◌, length, inl, inr, sym, subst, Some}
 use Rattle.h264_verify.specs.Units.{extent_at}
 use Rattle.h264_base.specs.declared.mode.Target.{Target}
 use Rattle.h264_verify.specs.declared.state.Depth.TheVariants as depths
@@ -16,7 +16,7 @@ use Rattle.h264_verify.specs.Family.{HaveSameSamples, AreSameOn}
 use Rattle.h264_verify.proofs.FamiliesInSlice.{each-slice}
 use Rattle.h264_verify.proofs.FamiliesInPicture.{alike}
 use Rattle.h264_verify.proofs.LegalUnits.{legal-read}
-use Rattle.h264_verify.proofs.ToldInOrder.{HaveFrames, ToldOf, in-frames, verdict-in, legal-told}
+use Rattle.h264_verify.proofs.ToldInOrder.{HaveFrames, InOrder, HoldsAtEnds, ended_at, in-fact, in-frames, legal-in, whole-in-order}
 use Rattle.h264_verify.proofs.NamedSizes.{AreRead, HasSize, names-size}
 
 -- ---- two families
@@ -39,26 +39,26 @@ module _ (frames others : ℕ → Frame) where
         rest,
       )
 
-  -- of the last of them
-  last-read : (newer pictures : List CodedPicture) → AreRead (newer ++ pictures) → AreRead pictures
-  last-read [] pictures r = r
-  last-read (p ∷ newer) pictures r = last-read newer pictures r.1
+-- the slices of the pictures were read, whatever they met at their ends
+pub read-ends : (target : Target) → HoldsAtEnds AreRead (extent_at depths.Full target)
+read-ends target before told l m on = legal-read target before told l
 
+module _ (frames others : ℕ → Frame) where
   -- what is told of a stream in order makes the two the same of the pictures that have ended
-  pub told-family : (target : Target) (told : List Told) (t : ToldOf (extent_at depths.Full target) told) → AreDecoded (Some frames) told →
-      AreDecoded (Some others) told → AreSameOn frames others t.done
-  told-family target told t d e =
-      same-on t.done (last-read t.last.0 t.done (subst AreRead t.last.1 (legal-read target t.before t.first t.legal)))
-      (in-frames (Some frames) told [] t.done t.order tt d) (in-frames (Some others) told [] t.done t.order tt e)
+  pub told-family : (told : List Told) (done : List CodedPicture) → InOrder AreRead [] told done → AreDecoded (Some frames) told →
+      AreDecoded (Some others) told → AreSameOn frames others done
+  told-family told done t d e =
+      same-on frames others done (in-fact AreRead told [] done t tt) (in-frames AreRead (Some frames) told [] done t tt d)
+      (in-frames AreRead (Some others) told [] done t tt e)
 
   -- of all pictures of a stream
   pub one-family : (target : Target) (bytes : List ℕ) (told : List Told) (summary : Summary) (h : Holds (extent_at depths.Full target) bytes told summary) →
       AreDecoded (Some frames) told → AreDecoded (Some others) told → AreSameOn frames others (runs_of h.units)
-  unfolding verdict-in
-  one-family target bytes told summary h d e = told-family target told (verdict-in (extent_at depths.Full target) bytes told (Ok summary) h) d e
+  one-family target bytes told summary h =
+      told-family told (runs_of h.units) (whole-in-order AreRead (extent_at depths.Full target) (read-ends target) bytes told summary h)
 
   -- of the pictures that have ended in units that are legal
   pub legal-family : (target : Target) (before : History) (told : List Told) → AreLegal (extent_at depths.Full target) before told →
       AreDecoded (Some frames) told → AreDecoded (Some others) told → AreSameOn frames others (ended_pictures (goes_on before) false (runs_of before))
-  unfolding legal-told
-  legal-family target before told l d e = told-family target told (legal-told (extent_at depths.Full target) before told l) d e
+  legal-family target before told l =
+      told-family told (ended_at depths.Full before) (legal-in AreRead (extent_at depths.Full target) (read-ends target) before told l)

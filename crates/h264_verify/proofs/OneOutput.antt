@@ -28,11 +28,13 @@ use Rattle.h264_verify.specs.Telling.{Told, Said, Decodes, Shows, calls_of, AreD
 use Rattle.h264_verify.specs.Steps.{told}
 use Rattle.h264_verify.specs.Pictures.{CodedPicture}
 use Rattle.h264_verify.specs.Family.{IsFrontOf}
-use Rattle.h264_verify.specs.Verdict.{Verdict}
+use Rattle.h264_verify.specs.History.{History}
+use Rattle.h264_verify.specs.Verdict.{AreLegal, Verdict}
 use Rattle.h264_verify.proofs.FamiliesAgree.{decoded-first, calls-both}
 use Rattle.h264_verify.proofs.OneVerdict.{one-verdict}
-use Rattle.h264_verify.proofs.ToldInOrder.{HaveFrames, ToldOf, in-frames, in-of, front-in, verdict-in}
-use Rattle.h264_verify.proofs.OneFamily.{told-family}
+use Rattle.h264_verify.proofs.ToldInOrder.{HaveFrames, ToSome, ended_at, in-frames, in-of, front-in, verdict-in, legal-in}
+use Rattle.h264_verify.proofs.NamedSizes.{AreRead}
+use Rattle.h264_verify.proofs.OneFamily.{told-family, read-ends}
 
 -- ---- a frame
 
@@ -79,19 +81,32 @@ module _ (frames others : ℕ → Frame) where
       ∙ ap (λ (l : List Call). shown_call others e ∷ l) (calls-same n told a h.1)
 
   -- what is told in order is the same calls with both
-  pub told-output : (target : Target) (told : List Told) → ToldOf (extent_at depths.Full target) told → AreDecoded (Some frames) told →
-      AreDecoded (Some others) told → calls_of (Some frames) told ≡ calls_of (Some others) told
-  told-output target told t d e =
-      let one = in-frames (Some frames) told [] t.done t.order tt d in
-      let other = in-frames (Some others) told [] t.done t.order tt e in
-      calls-same (length t.done) told (shown-alike t.done (told-family frames others target told t d e) one other) (in-of told [] t.done t.order)
+  pub told-output : (told : List Told) → ToSome AreRead [] told → AreDecoded (Some frames) told → AreDecoded (Some others) told →
+      calls_of (Some frames) told ≡ calls_of (Some others) told
+  told-output told t d e =
+      let one = in-frames AreRead (Some frames) told [] t.0 t.1 tt d in
+      let other = in-frames AreRead (Some others) told [] t.0 t.1 tt e in
+      calls-same (length t.0) told (shown-alike t.0 (told-family frames others told t.0 t.1 d e) one other) (in-of AreRead told [] t.0 t.1)
 
-  -- a front of what is told of a stream up to its verdict
+  -- all that is told of a stream up to its verdict
+  pub verdict-output : (target : Target) (bytes : List ℕ) (told : List Told) (answer : Result Summary Stop) →
+      Verdict (extent_at depths.Full target) bytes told answer → AreDecoded (Some frames) told → AreDecoded (Some others) told →
+      calls_of (Some frames) told ≡ calls_of (Some others) told
+  verdict-output target bytes told answer h =
+      told-output told (verdict-in AreRead (extent_at depths.Full target) (read-ends target) bytes told answer h)
+
+  -- a front of it
   pub front-output : (target : Target) (bytes : List ℕ) (told rest : List Told) (answer : Result Summary Stop) →
       Verdict (extent_at depths.Full target) bytes (told ++ rest) answer → AreDecoded (Some frames) told → AreDecoded (Some others) told →
       calls_of (Some frames) told ≡ calls_of (Some others) told
-  front-output target bytes told rest answer h = let whole = extent_at depths.Full target in
-      told-output target told (front-in whole told rest (verdict-in whole bytes (told ++ rest) answer h))
+  front-output target bytes told rest answer h =
+      told-output told (front-in AreRead told rest (verdict-in AreRead (extent_at depths.Full target) (read-ends target) bytes (told ++ rest) answer h))
+
+  -- what legal units tell
+  pub legal-output : (target : Target) (before : History) (told : List Told) → AreLegal (extent_at depths.Full target) before told →
+      AreDecoded (Some frames) told → AreDecoded (Some others) told → calls_of (Some frames) told ≡ calls_of (Some others) told
+  legal-output target before told l =
+      told-output told (ended_at depths.Full before, legal-in AreRead (extent_at depths.Full target) (read-ends target) before told l)
 
 -- ---- fronts
 
