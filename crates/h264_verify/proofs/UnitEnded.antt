@@ -64,7 +64,7 @@ use Rattle.h264_verify.specs.Keeping.{ended_in}
 use Rattle.h264_verify.specs.Pictures.{ended_pictures}
 use Rattle.h264_verify.specs.Buffering.{gap_on, gaps_turn, missing_before, gaps_before, ended_picture, ended_turn, after_all, within_newest, told_frames}
 use Rattle.h264_verify.specs.Buffering.{told_picture, end_frames, closing_frames, missing_on, missing_steps, last_frames}
-use Rattle.h264_cavlc.proofs.Gives.{Gives, gives-done, gives-any, gives-bind, gives-if}
+use Rattle.h264_base.proofs.Gives.{Gives, gives-done, gives-any, gives-bind, gives-if, gives-run}
 use Rattle.h264_verify.proofs.HeaderSets.{sets-given, gives-choice}
 use Rattle.h264_verify.proofs.FamiliesAgree.{of-both as told-both}
 
@@ -336,7 +336,8 @@ data-ends depths.Full before unit (contents.OfSlice h macroblocks) bit found e =
     let j = in-turn (structure_from g (body_of unit) bit) (λ x. gives x.0) found e in
     let same : j.value.0 ≡ found = cc (j.ends) in
     record {
-      same = subst (IsWith (contents.OfSlice h macroblocks)) same ((whole-gives before unit h macroblocks).gives (body_of unit) bit j.value.0 j.value.1 j.is);
+      same = subst (IsWith (contents.OfSlice h macroblocks)) same 
+          (gives-run (IsWith (contents.OfSlice h macroblocks)) g (body_of unit) bit j.value.1 j.value.0 (whole-gives before unit h macroblocks) j.is);
       any = λ n. in-turn-of n j (elements-of n (body_of unit) (run g (body_of unit) bit).elements) tt;
     }
 data-ends depth before unit contents.Passed bit found e = record { same = cc; any = λ n. tt }
@@ -540,7 +541,7 @@ module _ (extent : Extent) (before : History) (unit : NalUnit) where
       let x = read.value in
       let met = in-turn (steps_outcome (content_steps extent.depth before unit x.0)) (λ _. following x) found read.ends in
       let rest = data-ends extent.depth before unit x.0 x.1 found met.ends in
-      let grown = content-grows x.0 ((content-gives extent kind before unit).gives body 0 x.0 x.1 read.is) found rest.same in
+      let grown = content-grows x.0 (gives-run (IsSound kind before) g body 0 x.1 x.0 (content-gives extent kind before unit) read.is) found rest.same in
       record {
         grows = grown.grows;
         ends = grown.ends;
