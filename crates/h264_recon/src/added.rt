@@ -25,6 +25,7 @@ use h264_near::block::{column, row};
 use h264_scale::{TransformRange, dc2};
 
 /// Adds the residual of the luma block of this number.
+#[tactic(auto, unfolding(h264_plane::specs::Blocks::column_of, h264_plane::specs::Blocks::row_of))]
 #[inline(always)]
 pub fn add_luma_block(
     samples: &mut [u8; 256],
