@@ -22,7 +22,6 @@ use Rattle.h264_header.specs.declared.header.PredWeightTable.{PredWeightTable}
 use Rattle.h264_header.specs.declared.header.RefPicList0.{RefPicList0}
 use Rattle.h264_header.specs.declared.header.SliceKind.{SliceKind}
 use Rattle.h264_header.specs.declared.header.SliceUnit.{SliceUnit}
-use Rattle.h264_header.specs.declared.layout.Layout.{Layout}
 use Rattle.h264_header.specs.Header.{header}
 use Rattle.h264_header.specs.PredWeightTable.{stated_weight, inferred_weight, luma_weight, with_chroma, index_weights, pred_weight_table}
 use Rattle.h264_header.specs.RefList.{ref_pic_list0, slice_kind}
@@ -101,7 +100,7 @@ unfolding Gives optional
 table-or-none false active = tt
 table-or-none true active = gives-bind (λ t. IsTable (Some t)) IsTable _ _ (table-gives active) (λ t h. h)
 
-kind-gives : (layout : Layout) (type : SliceType) → Gives (slice_kind layout type) (λ k. IsTable (table_of k))
+kind-gives : (layout : _) (type : SliceType) → Gives (slice_kind layout type) (λ k. IsTable (table_of k))
 unfolding Gives slice_kind ref_pic_list0
 kind-gives layout slice_type.I = tt
 kind-gives layout slice_type.P = gives-bind (λ (l : RefPicList0). IsTable l.pred_weight_table) _ (ref_pic_list0 layout) _

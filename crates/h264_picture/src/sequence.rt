@@ -147,9 +147,9 @@ impl Sequence {
         requires qp { context.now.qp ≤ 51 }
         requires room { HasRoom S.failures sink.old }
         ensures meets { (width size : ℕ) (making : Option Making) (picture : List CodedMacroblock) → HoldsMade width size making picture self.old →
-            MakesWith making (beginning_at (length picture) context.now) samples.now base self.old →
+            MakesWith making (beginning_at self.old.picture.next context.now) samples.now base self.old →
             Meets (span S.took S.failures sink.old sink.new) (λ _ after. HoldsMade width size making after self.new)
-            (slice_data (transform_fits context.now) width size (beginning_at (length picture) context.now) picture) bits.old bits.new result }
+            (slice_data (transform_fits context.now) width size (beginning_at self.old.picture.next context.now) picture) bits.old bits.new result }
         ensures quiet { OnOk result (IsQuiet S.failures sink.old sink.new) }
         ensures frames { IsBegun self.old.canvas → KeepsLent (frames_in self.old.canvas) (frames_in self.new.canvas) }
         ensures same { KeepsPlace self.old self.new }

@@ -1,4 +1,4 @@
-use Rattle.std.proofs.Common.{length, refl, arith}
+use Rattle.std.proofs.Common.{refl, arith}
 use Rattle.std.proofs.lemmas.Result.{err_from_is_err_and}
 use Rattle.h264_base.proofs.Steps.{bind, stop, checked}
 use Rattle.h264_mbsyntax.specs.Slice.{slice_data}
@@ -18,13 +18,13 @@ pub returns-clause-meets : goal.returns-clause-meets
 unfolding slice_data
 returns-clause-meets g c width size making picture h m =
     let k = h.holds in
-    let context = beginning_at (length picture) c.args.context.now in
+    let context = beginning_at c.args.self.now.picture.next c.args.context.now in
     bind _ c.look-ahead.ensures (bind _ (checked _ _ _ _ c.in_ok-check.ensures)
     (left-is _ _ (transform_fits context) width context Next picture (let a = k.macroblocks in let b = k.next in omega arith)
     (c.read_macroblocks.ensures.meets width size making picture (record {
       holds = moved width size picture _ _ k refl refl refl refl;
-      first = omega arith;
-      predicted = qp-first context picture refl k.past;
+      first = (let b = k.next in omega arith);
+      predicted = qp-first context picture k.next k.past;
       samples = same-samples making picture c.args.self.now _ refl refl refl h.samples;
       makes = makes-with making picture _ c.args.samples.now c.args.base c.args.self.now c.places_in.ensures.values refl refl h.samples m;
     }))))
