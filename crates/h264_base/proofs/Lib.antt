@@ -5,3 +5,4 @@ pub mod Steps
 pub mod Reading
 pub mod OneAnswer
 pub mod Plain
+pub mod Gives

@@ -9,3 +9,4 @@ pub mod Supported
 pub mod Repeated
 pub mod Stretches
 pub mod Held
+pub mod Given

@@ -14,7 +14,7 @@ use Rattle.h264_cavlc.specs.Level.{level_value, level, more_levels, next_suffix_
 use Rattle.h264_cavlc.specs.Zeros.{coded_total_zeros, total_zeros}
 use Rattle.h264_cavlc.specs.Place.{place_of, by_place}
 use Rattle.h264_cavlc.specs.Block.{Block, nonzero_count, all_levels, coefficients}
-use Rattle.h264_cavlc.proofs.Gives.{Gives, gives-done, gives-any, gives-bind, gives-check}
+use Rattle.h264_base.proofs.Gives.{Gives, gives-done, gives-any, gives-bind, gives-check}
 use Rattle.h264_cavlc.proofs.Places.{PlacedTo, placed-none, placed-more, all-placed, lower, inside}
 
 -- ---- levels are not 0

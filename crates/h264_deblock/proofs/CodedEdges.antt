@@ -12,7 +12,8 @@ use Rattle.std.proofs.lemmas.Bool.Decides.{nat_tests, Decides-int_eq}
 use Rattle.h264_tables.specs.declared.thresholds.Strength.TheVariants.{One, Two, Three}
 use Rattle.h264_plane.specs.declared.frame.Component.{Component}
 use Rattle.h264_plane.specs.declared.frame.Component.TheVariants.{Y, Cb, Cr}
-use Rattle.h264_near.specs.Coded.{CodedMacroblock, is_intra, number_of, chroma_number_of, are_blank}
+use Rattle.h264_plane.specs.Blocks.{number_of}
+use Rattle.h264_near.specs.Coded.{CodedMacroblock, is_intra, chroma_number_of, are_blank}
 use Rattle.h264_near.specs.Keeps.{AreContexts, Borders, IsEdge, filter_qp_of}
 use Rattle.h264_near.specs.Raster.{last_in, last_left}
 use Rattle.h264_near.specs.declared.context.Contexts.{Contexts}

@@ -2,7 +2,8 @@
 use Rattle.std.proofs.Common.{true, ◌≡◌, ℕ, Some, refl, pos, replicate}
 use Rattle.h264_intra.specs.declared.luma16.Intra16x16PredMode.TheVariants as luma
 use Rattle.h264_intra.specs.declared.chroma.IntraChromaPredMode.TheVariants as chroma
-use Rattle.h264_near.specs.Coded.{CodedMacroblock, Inter, Intra16x16, no_residual, number_of}
+use Rattle.h264_plane.specs.Blocks.{number_of}
+use Rattle.h264_near.specs.Coded.{CodedMacroblock, Inter, Intra16x16, no_residual}
 use Rattle.h264_tables.specs.declared.thresholds.Strength.TheVariants.{One, Two, Three}
 use Rattle.h264_deblock.specs.Strength.{side_part, strength_of}
 use Rattle.h264_deblock.specs.CodedEdges.{block_at, strength_at}

@@ -6,7 +6,7 @@ use Rattle.h264_near.specs.declared.partition.SubPartition.{SubPartition}
 use Rattle.h264_near.specs.declared.partition.SubPartition.TheVariants as sub
 use Rattle.h264_near.specs.declared.partition.Partition.{Partition}
 use Rattle.h264_near.specs.declared.partition.Partition.TheVariants.{P16x16, P16x8, P8x16, P8x8}
-use Rattle.h264_near.specs.Coded.{number_of}
+use Rattle.h264_plane.specs.Blocks.{number_of}
 use Rattle.h264_near.specs.Partition.{first_of, MovesByPartition}
 use Rattle.h264_deblock.specs.Steps.{number_at, AreJoined}
 use Rattle.h264_deblock.proofs.CodedEdges.{few-at}

@@ -5,7 +5,8 @@ use Rattle.std.specs.List.{list_all}
 use Rattle.std.specs.Option.{option_map}
 use Rattle.h264_tables.specs.ChromaQp.{chroma_qp_of}
 use Rattle.h264_tables.specs.declared.thresholds.Strength.TheVariants.{One, Two}
-use Rattle.h264_near.specs.Coded.{CodedMacroblock, number_of, are_blank}
+use Rattle.h264_plane.specs.Blocks.{number_of}
+use Rattle.h264_near.specs.Coded.{CodedMacroblock, are_blank}
 use Rattle.h264_near.specs.Keeps.{Lower, Right, filter_qp_of}
 use Rattle.h264_near.specs.Partition.{MovesByPartition}
 use Rattle.h264_near.specs.declared.partition.Partition.{Partition}

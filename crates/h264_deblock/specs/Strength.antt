@@ -2,7 +2,8 @@
 use Rattle.std.specs.Prelude.{ℕ, ◌==◌, nat_lt, nat_le, not, Bool, false, ◌||◌, Option, Some, None, ◌-ℤ◌, unsigned_abs, if◌then◌else◌}
 use Rattle.std.specs.Option.{option_and_then}
 use Rattle.std.proofs.Common.{get_or}
-use Rattle.h264_near.specs.Coded.{CodedMacroblock, is_intra, motion_in, number_of}
+use Rattle.h264_plane.specs.Blocks.{number_of}
+use Rattle.h264_near.specs.Coded.{CodedMacroblock, is_intra, motion_in}
 use Rattle.h264_near.specs.declared.motion.Motion.{Motion}
 use Rattle.h264_near.specs.declared.motion.Vector.{Vector}
 

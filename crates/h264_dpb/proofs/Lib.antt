@@ -19,3 +19,4 @@ pub mod Draining
 pub mod Answering
 pub mod Truths
 pub mod Finding
+pub mod Cropping

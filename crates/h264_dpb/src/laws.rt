@@ -1,10 +1,14 @@
 //! What holds of the steps of the buffer. Nothing here runs.
 #![tactic(auto)]
 
-ghost use Rattle.std.specs.Prelude.{◌≡◌, ℕ, ◌+◌, ◌<◌, ◌≤◌, Bool, true, List, length};
+ghost use Rattle.std.specs.Prelude.{◌≡◌, ℕ, ◌+◌, ◌<◌, ◌≤◌, Bool, true, List, Some, length};
+ghost use Rattle.h264_sps.specs.declared.sps.FrameCropping.{FrameCropping};
+ghost use Rattle.h264_sps.specs.declared.sps.Sps.{Sps};
+ghost use Rattle.h264_sps.specs.Usable.{is_accepted};
 ghost use Rattle.h264_dpb.specs.Bumping.{is_held, missing_in, made_room, marked, stored_reference, stored_other, flushed};
 ghost use Rattle.h264_dpb.specs.Buffered.{Buffered, AreUsed, HasRoomBy, stored_by};
 ghost use Rattle.h264_dpb.specs.Numbered.{AreRising, number_of};
+ghost use Rattle.h264_dpb.specs.Rectangles.{rectangle_of};
 ghost use Rattle.h264_dpb.specs.Renamed.{renamed, all_renamed, renamed_step};
 ghost use Rattle.h264_dpb.specs.declared.entry.Entry.{Entry};
 ghost use Rattle.h264_dpb.specs.declared.entry.Kind.TheVariants as kinds;
@@ -48,4 +52,10 @@ pub fn names_are_open<N, M>()
         made_room (length (all_renamed f es)) places (all_renamed f es) ≡ renamed_step f (made_room (length es) places es) }
     ensures marking { (f : N → M) (held : M → Bool) (es : List (Entry N)) → marked held (all_renamed f es) ≡ all_renamed f (marked (λ n. held (f n)) es) }
     ensures all { (f : N → M) (write : Bool) (es : List (Entry N)) → flushed write (all_renamed f es) ≡ renamed_step f (flushed write es) }
+{}
+
+/// In each set that some unit gives the cropping rectangle lies in the frame, and is what is shown (7.4.2.1.1).
+pub fn cropping_is_shown()
+    ensures { (sps : Sps) (c : FrameCropping) → is_accepted sps ≡ true → sps.frame_cropping ≡ Some c →
+        rectangle_of sps ≡ record { left = c.left; right = c.right; top = c.top; bottom = c.bottom } }
 {}

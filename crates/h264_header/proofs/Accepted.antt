@@ -5,7 +5,8 @@ use Rattle.h264_base.specs.declared.mode.Target.{Target}
 use Rattle.h264_sps.specs.declared.sps.Sps.{Sps}
 use Rattle.h264_sps.specs.Sps.{sps}
 use Rattle.h264_sps.specs.Usable.{is_accepted}
-use Rattle.h264_sps.proofs.Gives.{Gives, gives-following, gives-to, gives-derived}
+use Rattle.h264_base.proofs.Gives.{Gives, gives-following, gives-derived}
+use Rattle.h264_bits.proofs.Given.{gives-to}
 use Rattle.h264_sps.proofs.Accepted.{gives-accepted}
 use Rattle.h264_pps.specs.declared.Pps.{Pps}
 use Rattle.h264_pps.specs.Pps.{pps}
@@ -17,7 +18,7 @@ abbrev HasId : Pps → Type 0
 HasId p = p.seq_parameter_set_id ≤ 31
 
 pps-gives : (target : Target) → Gives (pps target) HasId
-unfolding pps
+unfolding pps Gives
 pps-gives target = gives-following _ _ _
     (λ id. gives-to _ _ _ _ (λ sps low. gives-following _ _ _
     (λ _. gives-following _ _ _ (λ _. gives-following _ _ _

@@ -4,10 +4,11 @@ use Rattle.std.proofs.Common.{refl, ap, sym, ◌∙◌, subst}
 use Rattle.std.specs.Option.{is_some}
 use Rattle.std.specs.List.{list_all, list_any, range_with_len}
 use Rattle.std.proofs.Math.ListN as math
-use Rattle.h264_cavlc.proofs.Gives.{Gives, gives-done, gives-any, gives-bind, gives-if}
+use Rattle.h264_base.proofs.Gives.{Gives, gives-done, gives-any, gives-bind, gives-if, gives-weaker}
 use Rattle.h264_near.specs.declared.motion.Motion.{Motion}
 use Rattle.h264_near.specs.declared.motion.Vector.{Vector}
-use Rattle.h264_near.specs.Coded.{CodedMacroblock, column_of, row_of}
+use Rattle.h264_plane.specs.Blocks.{column_of, row_of}
+use Rattle.h264_near.specs.Coded.{CodedMacroblock}
 use Rattle.h264_vectors.specs.declared.slice.SliceContext.{SliceContext}
 use Rattle.h264_vectors.specs.declared.part.Part.{Part}
 use Rattle.h264_vectors.specs.declared.part.Direction.TheVariants as direction
@@ -185,8 +186,8 @@ module _ (width : ℕ) (slice : SliceContext) (picture : List CodedMacroblock) w
   whole-gives bit kind = gives-bind _ Same _ _ (gives-any _) (λ x t. gives-by (is_inferred slice kind) kind)
 
   pub one-flag : (bit kind : ℕ) → Gives (motions width slice picture bit kind) (λ d. d.fit ≡ all_fit slice.vector_limit d.motions)
-  one-flag bit kind = record { gives = λ body i v j e. ((whole-gives bit kind).gives body i v j e).1 }
+  one-flag bit kind = gives-weaker (motions width slice picture bit kind) Same _ (whole-gives bit kind) (λ d g. g.1)
 
   -- each block is in a part
   pub all-derived : (bit kind : ℕ) → Gives (motions width slice picture bit kind) (λ d. map is_some d.motions ≡ replicate 16 true)
-  all-derived bit kind = record { gives = λ body i v j e. ((whole-gives bit kind).gives body i v j e).0 }
+  all-derived bit kind = gives-weaker (motions width slice picture bit kind) Same _ (whole-gives bit kind) (λ d g. g.0)

@@ -11,7 +11,7 @@ use Rattle.std.proofs.Math.Seq.{take-append_seam}
 use Rattle.h264_base.specs.declared.mode.SliceType.{SliceType}
 use Rattle.h264_base.specs.declared.mode.SliceType.TheVariants as slice_type
 use Rattle.h264_base.specs.Grammar.{Grammar}
-use Rattle.h264_cavlc.proofs.Gives.{Gives, gives-done, gives-any, gives-bind, gives-check, gives-if}
+use Rattle.h264_base.proofs.Gives.{Gives, gives-done, gives-any, gives-bind, gives-check, gives-if, gives-both, gives-weaker}
 use Rattle.h264_near.specs.declared.motion.Motion.{Motion}
 use Rattle.h264_near.specs.declared.motion.Vector.{Vector}
 use Rattle.h264_near.specs.Coded.{CodedMacroblock}
@@ -21,7 +21,7 @@ use Rattle.h264_vectors.specs.Derived.{picture_of, has_picture, motion_of}
 use Rattle.h264_mbsyntax.specs.Macroblock.{coded, pcm_of, intra4x4, intra16x16, pcm, intra, inter, by_type, macroblock}
 use Rattle.h264_mbsyntax.specs.declared.slice.Standing.{Standing}
 use Rattle.h264_mbsyntax.specs.declared.slice.Standing.TheVariants.{Next, Skipping}
-use Rattle.h264_mbsyntax.specs.Possible.{Refers}
+use Rattle.h264_mbsyntax.specs.Possible.{Refers, IsPossible}
 use Rattle.h264_mbsyntax.specs.Slice.{Step, skipped_of, skip, unskipped, after_run, run_of_skips, by_slice_type, next, go_on, macroblocks, slice_data}
 use Rattle.h264_mbsyntax.specs.OfSlice.{IsDerived, IsOfSlice, AreOfSlice}
 use Rattle.h264_mbsyntax.proofs.Fits.{all-derived}
@@ -73,11 +73,9 @@ module _ (width : ℕ) (slice : SliceContext) (picture : List CodedMacroblock) w
   IsNext m = IsOfSlice width slice picture m
 
   gives-macroblock : Gives (macroblock width slice picture) (λ v. IsNext v.macroblock)
-  gives-macroblock = record {
-    gives = λ body i v j e.
-        let own = own-macroblock.gives body i v j e in
-        record { number = own.0; possible = (possible width slice picture).gives body i v j e; derived = own.1 };
-  }
+  gives-macroblock = gives-weaker (macroblock width slice picture) _ (λ v. IsNext v.macroblock)
+      (gives-both (λ v. Own v.macroblock) (λ v. IsPossible width slice picture v.macroblock.prediction) _ own-macroblock (possible width slice picture))
+      (λ v b. record { number = b.0.0; possible = b.1; derived = b.0.1 })
 
   -- ---- a skipped one
 

@@ -13,7 +13,7 @@ use Rattle.h264_base.specs.declared.stop.Stop.TheVariants.{No, Outside, Memory, 
 use Rattle.h264_base.specs.Call.{Call, span}
 use Rattle.h264_base.specs.Grammar.{Grammar}
 use Rattle.h264_base.specs.Meets.{Reader, Meets}
-use Rattle.h264_cavlc.proofs.Gives.{Gives, gives-done, gives-any, gives-bind, gives-check, gives-if}
+use Rattle.h264_base.proofs.Gives.{Gives, gives-done, gives-any, gives-bind, gives-check, gives-if, gives-run, gives-weaker}
 use Rattle.h264_near.specs.declared.motion.Motion.{Motion}
 use Rattle.h264_intra.specs.declared.luma4.Intra4x4PredMode.{Intra4x4PredMode}
 use Rattle.h264_intra.specs.declared.luma4.Intra4x4PredMode.TheVariants.{Vertical}
@@ -38,7 +38,7 @@ met-by : {X A S : Type 0} (took : S → List Call → Type 0) (failures : S → 
     Meets (span took failures s s') R' g old new r
 met-by took failures R R' P g old new s s' (Ok x) h k m =
     record {
-      meets = (m.meets.0, k x m.meets.0 m.meets.1 (h.gives old.body old.at m.meets.0 new.at m.meets.2), m.meets.2, m.meets.3, m.meets.4);
+      meets = (m.meets.0, k x m.meets.0 m.meets.1 (gives-run P g old.body old.at new.at m.meets.0 h m.meets.2), m.meets.2, m.meets.3, m.meets.4);
       same = m.same;
     }
 met-by took failures R R' P g old new s s' (Err (No bit rule)) h k m = record { meets = m.meets; same = m.same }
@@ -79,16 +79,9 @@ module _ (width : ℕ) (slice : SliceContext) (picture : List CodedMacroblock) w
   unfolding block_modes
   gives-modes zero modes h = gives-done _ modes (omega arith, h)
   gives-modes (suc n) modes h = gives-bind _ _ _ _ (gives-mode _ (samples modes))
-      (λ mode m. longer mode (gives-modes n (modes ++ mode ∷ []) (sides-next modes mode h m)))
-    where
-      longer : (mode : Intra4x4PredMode) → Gives (block_modes width picture slice.number slice.constrained_intra n (modes ++ mode ∷ []))
-          (λ all. (length all ≡ length (modes ++ mode ∷ []) + n) × HaveSides width slice picture all) →
-          Gives (block_modes width picture slice.number slice.constrained_intra n (modes ++ mode ∷ []))
-          (λ all. (length all ≡ length modes + suc n) × HaveSides width slice picture all)
-      longer mode g = record {
-        gives = λ body i v j e. let r = g.gives body i v j e in let l = length-append modes (mode ∷ []) in let k = r.0 in
-            (omega arith, r.1);
-      }
+      (λ mode m. gives-weaker (block_modes width picture slice.number slice.constrained_intra n (modes ++ mode ∷ [])) _ _
+      (gives-modes n (modes ++ mode ∷ []) (sides-next modes mode h m))
+      (λ all r. let l = length-append modes (mode ∷ []) in let k = r.0 in (omega arith, r.1)))
 
   gives-chroma : Gives (chroma_mode (macroblock_samples width picture slice.number slice.constrained_intra)) (HasChromaSides width slice picture)
   unfolding chroma_mode

@@ -17,7 +17,8 @@ use Rattle.h264_cavlc.specs.Block.{residual_block, coefficients as block_coeffic
 use Rattle.h264_cavlc.specs.Token.{coeff_token, coeff_token_table, trailing_one}
 use Rattle.h264_cavlc.specs.Level.{first_suffix_length, next_suffix_length, level, more_levels}
 use Rattle.h264_near.specs.declared.motion.Motion.{Motion}
-use Rattle.h264_near.specs.Coded.{CodedMacroblock, Prediction, Inter, number_of, column_of, row_of, chroma_number_of, total_part, chroma_part, mode_part}
+use Rattle.h264_plane.specs.Blocks.{number_of, column_of, row_of}
+use Rattle.h264_near.specs.Coded.{CodedMacroblock, Prediction, Inter, chroma_number_of, total_part, chroma_part, mode_part}
 use Rattle.h264_near.specs.Coded.{motion_part}
 use Rattle.h264_near.specs.Place.{part_at, around}
 use Rattle.h264_near.specs.Intra.{luma_nc, chroma_nc, predicted_mode, block_samples, macroblock_samples}

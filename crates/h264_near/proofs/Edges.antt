@@ -6,7 +6,8 @@ use Rattle.std.proofs.lemmas.Option.{slice_get-get_or}
 use Rattle.h264_near.specs.declared.context.Contexts.{Contexts}
 use Rattle.h264_near.specs.declared.context.Edge.{Edge}
 use Rattle.h264_intra.specs.declared.luma4.Intra4x4PredMode.TheVariants.{Vertical}
-use Rattle.h264_near.specs.Coded.{CodedMacroblock, number_of, chroma_number_of, total_part, chroma_part, mode_part, motion_part}
+use Rattle.h264_plane.specs.Blocks.{number_of}
+use Rattle.h264_near.specs.Coded.{CodedMacroblock, chroma_number_of, total_part, chroma_part, mode_part, motion_part}
 use Rattle.h264_near.specs.Along.{edge_total, edge_chroma, edge_mode, edge_motion}
 use Rattle.h264_near.specs.Keeps.{AreContexts, Borders, IsEdge, Lower, Right}
 use Rattle.h264_plane.proofs.Below.{below_4}

@@ -8,7 +8,8 @@ use Rattle.h264_near.specs.declared.near.Near.{Near}
 use Rattle.h264_near.specs.Along.{edge_total, edge_chroma, edge_mode, edge_motion}
 use Rattle.h264_intra.specs.declared.luma4.Intra4x4PredMode.{Intra4x4PredMode}
 use Rattle.h264_intra.specs.declared.luma4.Intra4x4PredMode.TheVariants.{Vertical}
-use Rattle.h264_near.specs.Coded.{CodedMacroblock, number_of, chroma_number_of, column_of, row_of, total_part, chroma_part, mode_part, motion_part}
+use Rattle.h264_plane.specs.Blocks.{number_of, column_of, row_of}
+use Rattle.h264_near.specs.Coded.{CodedMacroblock, chroma_number_of, total_part, chroma_part, mode_part, motion_part}
 use Rattle.h264_near.specs.Intra.{with_totals, with_modes}
 use Rattle.h264_near.specs.Motions.{with_motions, neighbour}
 use Rattle.h264_near.specs.declared.motion.Motion.{Motion}

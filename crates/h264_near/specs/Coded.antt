@@ -1,8 +1,9 @@
 -- The coded picture: what the macroblocks of a picture say, in decoding order, as far as they are decoded (7.4.5). To be read beside the standard.
-use Rattle.std.specs.Prelude.{ℕ, ◌+◌, ◌*◌, ◌/◌, ◌%◌, Bool, true, false, not, List, [], Option, Some, None, ℤ, ◌==◌, ◌&&◌, ◌||◌, if◌then◌else◌, slice_get}
+use Rattle.std.specs.Prelude.{ℕ, ◌+◌, ◌*◌, Bool, true, false, not, List, [], Option, Some, None, ℤ, ◌==◌, ◌&&◌, ◌||◌, if◌then◌else◌, slice_get}
 use Rattle.std.specs.Option.{option_map}
 use Rattle.std.specs.List.{list_all}
 use Rattle.std.proofs.Common.{get_or}
+use Rattle.h264_plane.specs.Blocks.{number_of}
 use Rattle.h264_intra.specs.declared.luma4.Intra4x4PredMode.{Intra4x4PredMode}
 use Rattle.h264_intra.specs.declared.luma4.Intra4x4PredMode.TheVariants.{Dc}
 use Rattle.h264_intra.specs.declared.luma16.Intra16x16PredMode.{Intra16x16PredMode}
@@ -45,16 +46,6 @@ pub record CodedMacroblock : Type 0 where
 
 abbrev pub no_residual : Residual
 no_residual = record { luma_dc = []; luma = []; chroma_dc = []; chroma = [] }
-
--- The number of a 4x4 luma block by its column and row in the macroblock (6.4.3), and the reverse.
-unfoldable pub number_of : ℕ → ℕ → ℕ
-number_of x y = y / 2 * 8 + x / 2 * 4 + y % 2 * 2 + x % 2
-
-unfoldable pub column_of : ℕ → ℕ
-column_of b = b / 4 % 2 * 2 + b % 2
-
-unfoldable pub row_of : ℕ → ℕ
-row_of b = b / 8 * 2 + b / 2 % 2
 
 -- The number of a 4x4 chroma block of component c, 0 for Cb and 1 for Cr.
 unfoldable pub chroma_number_of : ℕ → ℕ → ℕ → ℕ

@@ -6,7 +6,8 @@ use Rattle.h264_intra.specs.declared.luma4.Intra4x4PredMode.TheVariants.{Dc}
 use Rattle.h264_intra.specs.declared.chroma.IntraChromaPredMode.TheVariants as chroma_mode
 use Rattle.h264_intra.specs.declared.sides.Sides.{Sides}
 use Rattle.h264_intra.specs.Luma4.{number4}
-use Rattle.h264_near.specs.Coded.{CodedMacroblock, Intra4x4, Inter, no_residual, total_part, chroma_part, mode_part, column_of, row_of}
+use Rattle.h264_plane.specs.Blocks.{column_of, row_of}
+use Rattle.h264_near.specs.Coded.{CodedMacroblock, Intra4x4, Inter, no_residual, total_part, chroma_part, mode_part}
 use Rattle.h264_near.specs.Place.{around}
 
 -- the macroblock that is being decoded, as far as these totals, or these modes, are

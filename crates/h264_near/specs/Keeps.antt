@@ -6,7 +6,8 @@ use Rattle.h264_near.specs.declared.context.Contexts.{Contexts}
 use Rattle.h264_near.specs.declared.context.Edge.{Edge}
 use Rattle.h264_near.specs.declared.near.Near.{Near}
 use Rattle.h264_near.specs.declared.skipped.Skipped.{Skipped}
-use Rattle.h264_near.specs.Coded.{CodedMacroblock, Prediction, Pcm, is_intra, mode_in, motion_in, number_of, chroma_number_of}
+use Rattle.h264_plane.specs.Blocks.{number_of}
+use Rattle.h264_near.specs.Coded.{CodedMacroblock, Prediction, Pcm, is_intra, mode_in, motion_in, chroma_number_of}
 use Rattle.h264_near.specs.Raster.{last_in, last_left, last_corner}
 
 -- the quantisation parameter that the deblocking filter takes (8.7.2.2)

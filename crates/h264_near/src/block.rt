@@ -2,10 +2,11 @@
 #![tactic(auto)]
 
 ghost use Rattle.std.specs.Prelude.{◌≡◌, ◌-◌, ◌<◌, IfSome, None};
-ghost use Rattle.h264_near.specs.Coded.{column_of, row_of, number_of, are_blank};
+ghost use Rattle.h264_plane.specs.Blocks.{number_of, column_of, row_of};
+ghost use Rattle.h264_near.specs.Coded.{are_blank};
 
 /// The column of a block in its macroblock, by its number.
-#[tactic(auto, unfolding(crate::specs::Coded::column_of))]
+#[tactic(auto, unfolding(h264_plane::specs::Blocks::column_of))]
 #[inline(always)]
 pub fn column(b: usize) -> usize
     requires { b < 16 }
@@ -16,7 +17,7 @@ pub fn column(b: usize) -> usize
 }
 
 /// The row of a block in its macroblock, by its number.
-#[tactic(auto, unfolding(crate::specs::Coded::row_of))]
+#[tactic(auto, unfolding(h264_plane::specs::Blocks::row_of))]
 #[inline(always)]
 pub fn row(b: usize) -> usize
     requires { b < 16 }
@@ -27,7 +28,7 @@ pub fn row(b: usize) -> usize
 }
 
 /// The number of a block by where it stands.
-#[tactic(auto, unfolding(crate::specs::Coded::number_of))]
+#[tactic(auto, unfolding(h264_plane::specs::Blocks::number_of))]
 #[inline(always)]
 pub fn number(x: usize, y: usize) -> usize
     requires column { x < 4 }
@@ -39,7 +40,7 @@ pub fn number(x: usize, y: usize) -> usize
 }
 
 /// The block to the left of another one, in the same macroblock.
-#[tactic(auto, unfolding(crate::specs::Coded::column_of, crate::specs::Coded::row_of, crate::specs::Coded::number_of))]
+#[tactic(auto, unfolding(h264_plane::specs::Blocks::column_of, h264_plane::specs::Blocks::row_of, h264_plane::specs::Blocks::number_of))]
 #[inline(always)]
 pub(crate) fn left_of(b: usize) -> Option<usize>
     requires { b < 16 }
@@ -55,7 +56,7 @@ pub(crate) fn left_of(b: usize) -> Option<usize>
 }
 
 /// The block above another one, in the same macroblock.
-#[tactic(auto, unfolding(crate::specs::Coded::column_of, crate::specs::Coded::row_of, crate::specs::Coded::number_of))]
+#[tactic(auto, unfolding(h264_plane::specs::Blocks::column_of, h264_plane::specs::Blocks::row_of, h264_plane::specs::Blocks::number_of))]
 #[inline(always)]
 pub(crate) fn above_of(b: usize) -> Option<usize>
     requires { b < 16 }

@@ -2,7 +2,8 @@
 #![tactic(auto)]
 
 ghost use Rattle.std.specs.Prelude.{◌≡◌, ℕ, suc, ◌+◌, ◌/◌, ◌%◌, ◌<◌, ◌≤◌, List, [], ◌∷◌, ◌++◌, take, length, vec_len, IfOk, is_some, None};
-ghost use Rattle.h264_near.specs.Coded.{CodedMacroblock, total_part, chroma_part, mode_part, motion_part, column_of, row_of};
+ghost use Rattle.h264_plane.specs.Blocks.{column_of, row_of};
+ghost use Rattle.h264_near.specs.Coded.{CodedMacroblock, total_part, chroma_part, mode_part, motion_part};
 ghost use Rattle.h264_near.specs.Intra.{with_totals, with_modes, luma_nc, chroma_nc as chroma_nc_of, predicted_mode, block_samples, macroblock_samples};
 ghost use Rattle.h264_near.specs.Place.{around};
 ghost use Rattle.h264_near.specs.Motions.{neighbour};

@@ -13,3 +13,5 @@ pub mod Skipped
 pub mod Made
 pub mod Sources
 pub mod Passing
+pub mod Clamps
+pub mod StatedWeights

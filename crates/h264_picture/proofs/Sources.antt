@@ -9,11 +9,12 @@ use Rattle.std.proofs.lemmas.Option.{slice_get-get_or, slice_get_past, slice_get
 use Rattle.h264_plane.specs.Clip.{clip1}
 use Rattle.h264_plane.specs.declared.frame.Component.{Component}
 use Rattle.h264_plane.specs.declared.frame.Component.TheVariants.{Y, Cb, Cr}
+use Rattle.h264_plane.specs.Blocks.{number_of}
 use Rattle.h264_plane.specs.Places.{side}
 use Rattle.h264_plane.proofs.Raster.{side_least}
 use Rattle.h264_near.specs.declared.motion.Motion as derived
 use Rattle.h264_near.specs.Coded as coded
-use Rattle.h264_near.specs.Coded.{CodedMacroblock, number_of}
+use Rattle.h264_near.specs.Coded.{CodedMacroblock}
 use Rattle.h264_near.specs.Raster.{before, last_in, last_left}
 use Rattle.h264_near.proofs.Places.{taken, length-taken, number-at-place}
 use Rattle.h264_scale.specs.Macroblock.{residual}

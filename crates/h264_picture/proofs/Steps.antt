@@ -21,7 +21,7 @@ use Rattle.h264_mbsyntax.proofs.Quantiser.{predicted-next}
 use Rattle.h264_picture.specs.declared.sequence.Sequence.{Sequence}
 use Rattle.h264_mbsyntax.specs.declared.slice.Standing.{Standing}
 use Rattle.h264_picture.specs.Holds.{HoldsIn, IsPast, IsWithin, KeepsPlace}
-use Rattle.h264_picture.specs.Making.{Making, MakesWith, HasSamples, HasSamplesIn, MakesIn, Reads, setting_of}
+use Rattle.h264_picture.specs.Making.{Making, MakesWith, HasSamples, HasSamplesIn, MakesIn, Reads, setting_of, beginning_at}
 use Rattle.std.proofs.Common.{get_or, ◌≢◌, IsTrue}
 use Rattle.std.specs.Prelude.{nat_le}
 use Rattle.std.proofs.lemmas.Bool.Decides.{nat_tests}
@@ -71,6 +71,10 @@ skipped-slice slice picture v = refl
 
 pub within-on : (a b : ℕ) (s : Standing) → a ≡ b → IsWithin a s → IsWithin b s
 within-on a b s e h = rw (sym e) h
+
+-- a slice that begins there
+pub begins-there : (slice : SliceContext) (n : ℕ) → slice.number ≡ n → beginning_at n slice ≡ slice
+begins-there slice n e = rw (sym e) refl
 
 -- the first macroblock of a slice is predicted from SliceQP_Y
 pub qp-first : (slice : SliceContext) (picture : List CodedMacroblock) → slice.number ≡ length picture → IsPast picture → slice.qp ≡ predicted_qp slice picture

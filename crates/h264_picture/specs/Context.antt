@@ -1,5 +1,5 @@
 -- What macroblocks take from their slice, by its header, its parameter sets and its reference list (7.4.3, 7.4.5). To be read beside the standard.
-use Rattle.std.specs.Prelude.{ℕ, ◌*◌, min, List, length, Option, None, pos, ◌+ℤ◌, slice_get}
+use Rattle.std.specs.Prelude.{ℕ, ◌*◌, min, List, length, Option, None, ℤ, pos, ◌+ℤ◌, slice_get}
 use Rattle.std.specs.Option.{option_and_then, option_map_or}
 use Rattle.h264_tables.specs.ChromaQp.{clip_51}
 use Rattle.h264_tables.specs.Level.{limits_of}
@@ -18,9 +18,13 @@ abbrev pub picture_in : RefSlot → Option ℕ
 picture_in slot.NoPicture = None
 picture_in (slot.Held frame) = frame.picture
 
+-- SliceQPY as it is stated (7-30)
+abbrev pub stated_qp : Pps → Header → ℤ
+stated_qp pps h = (pos 26 +ℤ pps.pic_init_qp_minus26) +ℤ h.slice_qp_delta.value
+
 -- SliceQPY, which lies in 0 to 51
 abbrev pub slice_qp : Pps → Header → ℕ
-slice_qp pps h = clip_51 ((pos 26 +ℤ pps.pic_init_qp_minus26) +ℤ h.slice_qp_delta.value)
+slice_qp pps h = clip_51 (stated_qp pps h)
 
 -- v of the level in quarter samples (A.3.1)
 unfoldable pub vector_limit : Sps → ℕ

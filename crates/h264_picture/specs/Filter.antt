@@ -1,5 +1,5 @@
 -- The deblocking filter of a slice, by its header and its picture parameter set (7.4.3). To be read beside the standard.
-use Rattle.std.specs.Prelude.{ℤ, pos, negsuc, ◌*ℤ◌, min}
+use Rattle.std.specs.Prelude.{◌≡◌, ℤ, pos, negsuc, ◌*ℤ◌, min}
 use Rattle.h264_pps.specs.declared.Pps.{Pps}
 use Rattle.h264_header.specs.declared.header.Deblocking.{Deblocking}
 use Rattle.h264_header.specs.declared.header.Deblocking.TheVariants as stated
@@ -13,6 +13,16 @@ use Rattle.h264_deblock.specs.declared.slice_filter.SliceFilter.{SliceFilter}
 abbrev pub clip_6 : ℤ → ℤ
 clip_6 (pos n) = pos (min n 6)
 clip_6 (negsuc n) = negsuc (min n 5)
+
+-- the offsets of this header are what they are without the clamp
+abbrev pub AreStated : FilterOffsets → Type 0
+AreStated offsets =
+    (clip_6 offsets.slice_alpha_c0_offset_div2 ≡ offsets.slice_alpha_c0_offset_div2) × (clip_6 offsets.slice_beta_offset_div2 ≡ offsets.slice_beta_offset_div2)
+
+abbrev pub HasOffsets : Deblocking → Type 0
+HasOffsets (stated.AllEdges offsets) = AreStated offsets
+HasOffsets stated.Off = Unit {0}
+HasOffsets (stated.WithinSlice offsets) = AreStated offsets
 
 -- FilterOffsetA and FilterOffsetB
 abbrev pub filter_by : Edges → FilterOffsets → ℤ → SliceFilter

@@ -81,6 +81,10 @@ abbrev pub MakesWith : Option Making → SliceContext → SliceSamples → ℕ �
 MakesWith None slice samples base s = Unit {0}
 MakesWith (Some making) slice samples base s = MakesSliceWith making slice samples base s
 
+-- the slice, where it begins with this macroblock
+abbrev pub beginning_at : ℕ → SliceContext → SliceContext
+beginning_at number slice = record slice { number = number }
+
 -- it holds these macroblocks of a picture, with their samples
 pub record HoldsMade (width size : ℕ) (making : Option Making) (picture : List CodedMacroblock) (s : Sequence) : Type 0 where
   pub holds : HoldsIn width size picture s

@@ -8,7 +8,20 @@ ghost use Rattle.h264_near.specs.Coded.{CodedMacroblock};
 ghost use Rattle.h264_recon.specs.Inter.{Setting};
 ghost use Rattle.h264_recon.specs.Constructed.{IsPossible};
 ghost use Rattle.h264_picture.specs.Decoded.{Parameters, macroblock_at, IsDecoded};
-ghost use Rattle.std.specs.Prelude.{Some, None};
+ghost use Rattle.std.specs.Prelude.{◌≤◌, Option, Some, None, ℤ, pos, true, max, unwrap_or};
+ghost use Rattle.h264_base.specs.Body.{Body};
+ghost use Rattle.h264_base.specs.Grammar.{Element, Derives};
+ghost use Rattle.h264_sps.specs.declared.sps.Sps.{Sps};
+ghost use Rattle.h264_sps.specs.Usable.{is_accepted, given_frames, dpb_frames};
+ghost use Rattle.h264_pps.specs.declared.Pps.{Pps};
+ghost use Rattle.h264_header.specs.declared.header.Header.{Header};
+ghost use Rattle.h264_header.specs.declared.header.SliceUnit.{SliceUnit};
+ghost use Rattle.h264_header.specs.Header.{header};
+ghost use Rattle.h264_header.specs.Weights.{weights_of};
+ghost use Rattle.h264_picture.specs.Buffer.{buffer_size};
+ghost use Rattle.h264_picture.specs.Context.{stated_qp, slice_qp};
+ghost use Rattle.h264_picture.specs.Filter.{HasOffsets};
+ghost use Rattle.h264_picture.specs.Weights.{weights_at};
 ghost use Rattle.h264_plane.specs.declared.frame.Frame.{Frame};
 ghost use Rattle.h264_picture.specs.declared.work.Work.{Work};
 ghost use Rattle.h264_picture.specs.declared.frames.TheConstants.{PLACES};
@@ -49,4 +62,15 @@ pub fn references_are_lent()
 /// Where pictures are decoded for the verdict alone, no frame is lent.
 pub fn nothing_is_lent()
     ensures { (work : Work) → purpose_of work ≡ Verdict → (p : ℕ) → lent work p ≡ None }
+{}
+
+/// No clamp of the definitions changes what a slice or its sets say: SliceQPY where its rule is met (7.4.3), the filter's offsets and the weights of each
+/// header that some unit gives, and the size of the picture buffer by each set that some unit gives. Only a buffer of no frame counts as one place.
+pub fn no_clamp_is_felt()
+    ensures qp { (pps : Pps) (h : Header) (n : ℕ) → stated_qp pps h ≡ pos n → n ≤ 51 → slice_qp pps h ≡ n }
+    ensures offsets { (sets : ℕ → Option (Pps × Sps)) (unit : SliceUnit) (body : Body) (i j : ℕ) (es : List Element) (h : Header) →
+        Derives (header sets unit) body i es j h → HasOffsets h.deblocking }
+    ensures weights { (sets : ℕ → Option (Pps × Sps)) (unit : SliceUnit) (body : Body) (i j : ℕ) (es : List Element) (h : Header) (k : ℕ) →
+        Derives (header sets unit) body i es j h → weights_at h k ≡ weights_of h k }
+    ensures buffer { (sps : Sps) → is_accepted sps ≡ true → buffer_size sps ≡ max 1 (unwrap_or (given_frames sps) (dpb_frames sps)) }
 {}

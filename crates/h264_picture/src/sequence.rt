@@ -60,7 +60,7 @@ impl Sequence {
     ghost use Rattle.h264_picture.specs.Purposes.{makes_frames};
     ghost use Rattle.h264_picture.specs.Holds.{ServesIn, HoldsIn, KeepsPlace};
     ghost use Rattle.h264_sps.specs.Usable.{is_frame_size};
-    ghost use Rattle.h264_picture.specs.Making.{Making, HasSamples, HoldsMade, MakesWith, IsMadeOf, setting_of};
+    ghost use Rattle.h264_picture.specs.Making.{Making, HasSamples, HoldsMade, MakesWith, IsMadeOf, setting_of, beginning_at};
 
     /// Takes all memory of a sequence whose pictures are decoded for this: contexts, and where frames are asked for that of samples.
     pub(crate) fn new(alloc: Global, purpose: Purpose, sps: &Sps) -> Result<Sequence, AllocError>
@@ -134,7 +134,7 @@ impl Sequence {
         }
     }
 
-    /// Reads the slice data of a slice whose frames' places begin with `base`.
+    /// Reads the slice data of a slice, which begins with the next macroblock, whatever its number is. The places of its frames begin with `base`.
     pub(crate) fn slice<S: Elements>(
         &mut self,
         bits: &mut Bits,
@@ -147,9 +147,9 @@ impl Sequence {
         requires qp { context.now.qp ≤ 51 }
         requires room { HasRoom S.failures sink.old }
         ensures meets { (width size : ℕ) (making : Option Making) (picture : List CodedMacroblock) → HoldsMade width size making picture self.old →
-            context.now.number ≡ length picture → MakesWith making context.now samples.now base self.old →
+            MakesWith making (beginning_at self.old.picture.next context.now) samples.now base self.old →
             Meets (span S.took S.failures sink.old sink.new) (λ _ after. HoldsMade width size making after self.new)
-            (slice_data (transform_fits context.now) width size context.now picture) bits.old bits.new result }
+            (slice_data (transform_fits context.now) width size (beginning_at self.old.picture.next context.now) picture) bits.old bits.new result }
         ensures quiet { OnOk result (IsQuiet S.failures sink.old sink.new) }
         ensures frames { IsBegun self.old.canvas → KeepsLent (frames_in self.old.canvas) (frames_in self.new.canvas) }
         ensures same { KeepsPlace self.old self.new }
@@ -157,12 +157,13 @@ impl Sequence {
         let ahead = look(bits, sink);
         check(ahead.follows, Rule::SliceEmpty, ahead.bit)?;
         self.mb.qp = context.qp;
-        let slice = Slice {
+        let mut slice = Slice {
             context: *context,
             places: places_in(&self.canvas, &samples.places, base),
             filter: samples.filter,
             weights: samples.weights,
         };
+        slice.context.number = self.picture.next;
         let left = self.size - self.picture.next;
         self.read_macroblocks(bits, &slice, left, sink)
     }

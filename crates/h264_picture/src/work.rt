@@ -203,7 +203,8 @@ impl Work {
         }
     }
 
-    /// Reads the slice data of a slice from this bit on, after the macroblocks that it holds (7.3.4).
+    /// Reads the slice data of a slice from this bit on, after the macroblocks that it holds (7.3.4). A slice of another number is read as if it
+    /// began with the next macroblock.
     ///
     /// Ok: the elements that the sink was told are the one derivation of the slice data, with every rule met, and the work holds
     /// the picture with the slice's macroblocks, and with their samples where it held those of the macroblocks before. No: the first rule
@@ -231,7 +232,6 @@ impl Work {
             Meets (span S.took S.failures sink.old sink.new) (λ _ after. HoldsSamples width size making after self.new)
             (slice_data (transform_fits slice.now) width size slice.now picture) bits.old bits.new result }
         ensures no_memory { (width size : ℕ) (picture : List CodedMacroblock) → HoldsMacroblocks width size picture self.old →
-            slice.now.number ≡ length picture →
             IsErrOf result Stop.Memory → ⊥ }
         ensures quiet { OnOk result (IsQuiet S.failures sink.old sink.new) }
         ensures kept { (place : ℕ) → HasBegun place self.old → KeepsFrames self.old self.new }

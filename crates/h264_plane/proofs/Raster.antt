@@ -2,7 +2,8 @@
 use Rattle.std.proofs.Common.{◌≡◌, ◌⊎◌, inl, inr, ⊎_elim, ℕ, zero, suc, ◌+◌, ◌*◌, ◌/◌, ◌%◌, ◌<◌, ◌≤◌, arith, add-one, refl, sym, ◌∙◌}
 use Rattle.std.proofs.lemmas.Bool.{cases_lt}
 use Rattle.std.proofs.lemmas.Nat.{mod-mul-add, div-mul-add}
-use Rattle.h264_plane.specs.Places.{Before, After, Agree, side, index_of, column_of, row_of}
+use Rattle.h264_plane.specs.Blocks.{number_of, column_of, row_of}
+use Rattle.h264_plane.specs.Places.{Before, After, Agree, side}
 use Rattle.h264_plane.specs.declared.frame.Component.{Component}
 use Rattle.h264_plane.specs.declared.frame.Component.TheVariants.{Y, Cb, Cr}
 
@@ -107,8 +108,10 @@ side_least Y = omega arith
 side_least Cb = omega arith
 side_least Cr = omega arith
 
-pub index_back : (b : ℕ) → b < 16 → index_of (column_of b) (row_of b) ≡ b
+pub index_back : (b : ℕ) → b < 16 → number_of (column_of b) (row_of b) ≡ b
+unfolding number_of column_of row_of
 index_back b p = omega arith
 
-pub index_once : (b x y : ℕ) → x < 4 → y < 4 → index_of x y ≡ b → (x ≡ column_of b) × (y ≡ row_of b)
+pub index_once : (b x y : ℕ) → x < 4 → y < 4 → number_of x y ≡ b → (x ≡ column_of b) × (y ≡ row_of b)
+unfolding number_of column_of row_of
 index_once b x y p q e = (omega arith, omega arith)

@@ -1,6 +1,6 @@
 -- To be read beside the standard. Places of a plane by macroblocks of n columns and rows, w to a row, in raster order (6.4.1). A macroblock is named by
 -- its column c and its row r.
-use Rattle.std.specs.Prelude.{◌≡◌, ◌⊎◌, ℕ, ◌+◌, ◌*◌, ◌/◌, ◌%◌, ◌<◌, ◌≤◌, ◌&&◌, nat_le, nat_lt, if◌then◌else◌}
+use Rattle.std.specs.Prelude.{◌≡◌, ◌⊎◌, ℕ, ◌+◌, ◌*◌, ◌<◌, ◌≤◌, ◌&&◌, nat_le, nat_lt, if◌then◌else◌}
 use Rattle.h264_plane.specs.declared.frame.Component.{Component}
 use Rattle.h264_plane.specs.declared.frame.Component.TheVariants.{Y, Cb, Cr}
 
@@ -30,16 +30,3 @@ pub record Agree (n w c r : ℕ) (s t : Grid) : Type 0 where
 unfoldable pub with_own : ℕ → ℕ → ℕ → Grid → Grid → Grid
 with_own n c r u s x y =
     if nat_le (n * c) x && nat_lt x (n * c + n) && nat_le (n * r) y && nat_lt y (n * r + n) then u x y else s x y
-
--- ---- 4x4 blocks of a luma macroblock, by their column x and row y of blocks
-
--- the number of a block in decoding order (6.4.13.1, figure 6-10)
-abbrev pub index_of : ℕ → ℕ → ℕ
-index_of x y = 8 * (y / 2) + 4 * (x / 2) + 2 * (y % 2) + x % 2
-
--- the column and the row of the block of this number (6.4.3)
-abbrev pub column_of : ℕ → ℕ
-column_of b = 2 * (b / 4 % 2) + b % 2
-
-abbrev pub row_of : ℕ → ℕ
-row_of b = 2 * (b / 8) + b / 2 % 2

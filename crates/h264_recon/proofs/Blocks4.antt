@@ -5,7 +5,7 @@ use Rattle.h264_intra.specs.Luma4.{is_possible4}
 use Rattle.h264_intra.specs.declared.luma4.Intra4x4PredMode.{Intra4x4PredMode}
 use Rattle.h264_intra.proofs.Depends.{predicted4_same}
 use Rattle.h264_plane.specs.Clip.{clip1}
-use Rattle.h264_plane.specs.Places.{index_of, column_of, row_of}
+use Rattle.h264_plane.specs.Blocks.{number_of, column_of, row_of}
 use Rattle.h264_plane.proofs.Raster.{index_back}
 use Rattle.h264_recon.specs.Blocks.{sides4_of}
 use Rattle.h264_recon.specs.Constructed.{mode_at}
@@ -18,21 +18,23 @@ use Rattle.h264_recon.specs.declared.store.Store.{Store}
 use Rattle.h264_recon.proofs.Local.{local_own, local_sides}
 use Rattle.h264_recon.proofs.Sides.{block_sides}
 
-index_once : (x y u v : ℕ) → x < 4 → y < 4 → u < 4 → v < 4 → index_of x y ≡ index_of u v → (x ≡ u) × (y ≡ v)
+index_once : (x y u v : ℕ) → x < 4 → y < 4 → u < 4 → v < 4 → number_of x y ≡ number_of u v → (x ≡ u) × (y ≡ v)
+unfolding number_of
 index_once x y u v p q a b e = (omega arith, omega arith)
 
-index_other : (x y u v : ℕ) → index_of x y < index_of u v → (x ≢ u) ⊎ (y ≢ v)
+index_other : (x y u v : ℕ) → number_of x y < number_of u v → (x ≢ u) ⊎ (y ≢ v)
+unfolding number_of
 index_other x y u v less = ⊎_elim (λ (same : x ≡ u). inr (λ (same' : y ≡ v). absurd (omega arith))) (λ n. inl n) (cases_eq x u)
 
 sample4_same : (modes : List Intra4x4PredMode) (a : Available) (residual : ℕ → ℕ → ℕ → ℕ → ℤ) (s t : ℕ → ℕ → ℕ) (x y i j : ℕ) → x < 4 → y < 4 → i < 4 → j < 4 →
-    IsTrue (is_possible4 (mode_at modes x y) (sides4_of a x y)) → SidesAgree 16 a s t → BlocksAgree 16 (index_of x y) s t →
+    IsTrue (is_possible4 (mode_at modes x y) (sides4_of a x y)) → SidesAgree 16 a s t → BlocksAgree 16 (number_of x y) s t →
     sample4 (intra4 modes a residual) s x y i j ≡ sample4 (intra4 modes a residual) t x y i j
 sample4_same modes a residual s t x y i j p q d e ok sides blocks =
     ap (λ n. clip1 (pos n +ℤ residual x y j i))
     (predicted4_same (mode_at modes x y) (sides4_of a x y) _ _ i j ok d e (block_sides a s t x y p q sides blocks))
 
 -- the samples of blocks other than one that was written
-others_agree : (l : Store) (c x y : ℕ) (old new : List ℕ) (f : ℕ → ℕ → ℕ) (b : ℕ) → b ≤ index_of x y → IsPut4 old new x y f →
+others_agree : (l : Store) (c x y : ℕ) (old new : List ℕ) (f : ℕ → ℕ → ℕ) (b : ℕ) → b ≤ number_of x y → IsPut4 old new x y f →
     BlocksAgree 16 b (local 16 l c old) (local 16 l c new)
 others_agree l c x y old new f b most put = record {
   each = λ u v i j p q d e less.
@@ -44,22 +46,22 @@ others_agree l c x y old new f b most put = record {
 pub block_more : (x y : ℕ) (modes : List Intra4x4PredMode) (a : Available) (residual : ℕ → ℕ → ℕ → ℕ → ℤ) (l : Store) (c : ℕ) (old new : List ℕ)
     (f : ℕ → ℕ → ℕ) → x < 4 → y < 4 →
     ((x y : ℕ) → x < 4 → y < 4 → IsTrue (is_possible4 (mode_at modes x y) (sides4_of a x y))) →
-    AreMade4 (index_of x y) (intra4 modes a residual) l c old → IsPut4 old new x y f →
+    AreMade4 (number_of x y) (intra4 modes a residual) l c old → IsPut4 old new x y f →
     ((i j : ℕ) → i < 4 → j < 4 → f i j ≡ sample4 (intra4 modes a residual) (local 16 l c old) x y i j) →
-    AreMade4 (index_of x y + 1) (intra4 modes a residual) l c new
+    AreMade4 (number_of x y + 1) (intra4 modes a residual) l c new
 block_more x y modes a residual l c old new f p q ok done put is = record {
   each = λ u v i j p' q' d e less. ⊎_elim
-      (λ (earlier : index_of u v < index_of x y).
+      (λ (earlier : number_of u v < number_of x y).
       put.kept u v i j p' q' d e (index_other u v x y earlier)
       ∙ done.each u v i j p' q' d e earlier
       ∙ sample4_same modes a residual (local 16 l c old) (local 16 l c new) u v i j p' q' d e (ok u v p' q') (local_sides 16 a l c old new)
-      (others_agree l c x y old new f (index_of u v) (omega arith) put))
-      (λ (here : index_of x y ≤ index_of u v).
+      (others_agree l c x y old new f (number_of u v) (omega arith) put))
+      (λ (here : number_of x y ≤ number_of u v).
       let same = index_once u v x y p' q' p q (omega arith) in
       rw (same.0, same.1) (put.here i j d e ∙ is i j d e
       ∙ sample4_same modes a residual (local 16 l c old) (local 16 l c new) x y i j p q d e (ok x y p q) (local_sides 16 a l c old new)
-      (others_agree l c x y old new f (index_of x y) (omega arith) put)))
-      (cases_lt (index_of u v) (index_of x y));
+      (others_agree l c x y old new f (number_of x y) (omega arith) put)))
+      (cases_lt (number_of u v) (number_of x y));
 }
 
 -- at block number b
@@ -69,9 +71,10 @@ pub block_next : (b : ℕ) (modes : List Intra4x4PredMode) (a : Available) (resi
     AreMade4 b (intra4 modes a residual) l c old → IsPut4 old new (column_of b) (row_of b) f →
     ((i j : ℕ) → i < 4 → j < 4 → f i j ≡ sample4 (intra4 modes a residual) (local 16 l c old) (column_of b) (row_of b) i j) →
     AreMade4 (b + 1) (intra4 modes a residual) l c new
+unfolding column_of row_of
 block_next b modes a residual l c old new f p ok done put is =
     let back = index_back b p in
-    let before : AreMade4 (index_of (column_of b) (row_of b)) (intra4 modes a residual) l c old = rw back done in
+    let before : AreMade4 (number_of (column_of b) (row_of b)) (intra4 modes a residual) l c old = rw back done in
     rw back at (block_more (column_of b) (row_of b) modes a residual l c old new f (omega arith) (omega arith) ok before put is)
 
 -- a block that is predicted, and then has its residual added

@@ -3,7 +3,7 @@ use Rattle.std.proofs.Common.{◌≡◌, ◌≢◌, ◌⊎◌, inl, inr, ⊎_eli
 use Rattle.std.proofs.Common.{refl, sym, ap, ◌∙◌}
 use Rattle.std.proofs.lemmas.Bool.{cases_lt, cases_eq}
 use Rattle.h264_plane.specs.Clip.{clip1}
-use Rattle.h264_plane.specs.Places.{index_of, column_of, row_of}
+use Rattle.h264_plane.specs.Blocks.{number_of, column_of, row_of}
 use Rattle.h264_plane.specs.declared.frame.Component.TheVariants.{Y, Cb, Cr}
 use Rattle.h264_plane.proofs.Raster.{index_back, index_once}
 use Rattle.h264_scale.specs.Residual.{residual_at, d_of, d_with_dc, HasEntries}
@@ -68,11 +68,11 @@ added_more n b number f x y old own new e once done put = record {
       done.rest u v i j p q d d' (omega arith);
 }
 
-pub luma_more : (b : ℕ) (f : ℕ → ℕ → ℕ → ℕ → ℤ) (old own new : List ℕ) → b < 16 → AreBlocksAdded 16 b index_of f old own →
+pub luma_more : (b : ℕ) (f : ℕ → ℕ → ℕ → ℕ → ℤ) (old own new : List ℕ) → b < 16 → AreBlocksAdded 16 b number_of f old own →
     IsBlockAdded 16 own new (column_of b) (row_of b) (f (column_of b) (row_of b)) →
-    AreBlocksAdded 16 (b + 1) index_of f old new
+    AreBlocksAdded 16 (b + 1) number_of f old new
 luma_more b f old own new p done put =
-    added_more 16 b index_of f (column_of b) (row_of b) old own new (index_back b p) (λ u v i j e. index_once b u v (omega arith) (omega arith) e) done put
+    added_more 16 b number_of f (column_of b) (row_of b) old own new (index_back b p) (λ u v i j e. index_once b u v (omega arith) (omega arith) e) done put
 
 raster_once : (b u v : ℕ) → b < 4 → 4 * u + 4 ≤ 8 → 4 * v + 4 ≤ 8 → raster u v ≡ b → (u ≡ b % 2) × (v ≡ b / 2)
 raster_once b u v p i j e = (omega arith, omega arith)
@@ -87,8 +87,8 @@ chroma_more b f old own new p done put = added_more 8 b raster f (b % 2) (b / 2)
 
 -- ---- a whole plane
 
-pub luma_added : (l : Levels) (old new : List ℕ) → AreBlocksAdded 16 16 index_of (λ x y. residual_at (luma_d l.qp l.luma x y)) old new → IsAdded l Y old new
-unfolding residual block_d
+pub luma_added : (l : Levels) (old new : List ℕ) → AreBlocksAdded 16 16 number_of (λ x y. residual_at (luma_d l.qp l.luma x y)) old new → IsAdded l Y old new
+unfolding residual block_d number_of
 luma_added l old new made = record {
   each = λ x y i j.
       let there : 16 * y + x ≡ place 16 (x / 4) (y / 4) (x % 4) (y % 4) = omega arith in

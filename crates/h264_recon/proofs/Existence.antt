@@ -5,7 +5,8 @@ use Rattle.std.specs.Prelude.{nat_eq}
 use Rattle.std.proofs.lemmas.Bool.Decides.{nat_tests}
 use Rattle.std.proofs.lemmas.Bool.{cases_lt, cond-true, cond-false}
 use Rattle.std.proofs.lemmas.Nat.{mul-le}
-use Rattle.h264_plane.specs.Places.{side, Before, Agree, with_own, index_of}
+use Rattle.h264_plane.specs.Blocks.{number_of}
+use Rattle.h264_plane.specs.Places.{side, Before, Agree, with_own}
 use Rattle.h264_plane.specs.declared.frame.Component.{Component}
 use Rattle.h264_plane.proofs.Own.{moved, own_in, own_out}
 use Rattle.h264_plane.proofs.Raster.{rows, side_least}
@@ -19,7 +20,7 @@ use Rattle.h264_recon.proofs.Unique.{made_by_same, IsMadeIn, side_most, sides_be
 
 -- whether a place seen from the macroblock is one of its block number b
 abbrev test : ℕ → ℕ → ℕ → Bool
-test b x y = nat_lt 0 x && nat_lt 0 y && nat_eq (index_of ((x - 1) / 4) ((y - 1) / 4)) b
+test b x y = nat_lt 0 x && nat_lt 0 y && nat_eq (number_of ((x - 1) / 4) ((y - 1) / 4)) b
 
 -- its blocks before number b are constructed
 abbrev built : ℕ → Setting → ℕ → ℕ → Coded → Component → (ℕ → ℕ → ℕ) → ℕ → ℕ → ℕ
@@ -35,32 +36,32 @@ outer : (b : ℕ) (k : Setting) (c r : ℕ) (m : Coded) (p : Component) (s : ℕ
 outer zero k c r m p s x y out = refl
 outer (suc b) k c r m p s x y out = cond-false _ _ _ (test_outer b x y out) ∙ outer b k c r m p s x y out
 
-test_own : (b x y : ℕ) → index_of (x / 4) (y / 4) ≡ b → test b (x + 1) (y + 1) ≡ true
+test_own : (b x y : ℕ) → number_of (x / 4) (y / 4) ≡ b → test b (x + 1) (y + 1) ≡ true
 test_own b x y e =
     let column : x + 1 - 1 ≡ x = omega arith in
     let row : y + 1 - 1 ≡ y = omega arith in
     rw (column, row, e) (grind (arith, nat_tests))
 
-test_other : (b x y : ℕ) → index_of (x / 4) (y / 4) ≢ b → test b (x + 1) (y + 1) ≡ false
+test_other : (b x y : ℕ) → number_of (x / 4) (y / 4) ≢ b → test b (x + 1) (y + 1) ≡ false
 test_other b x y n =
     let column : x + 1 - 1 ≡ x = omega arith in
     let row : y + 1 - 1 ≡ y = omega arith in
     rw (column, row) (grind (arith, nat_tests))
 
 -- a block stays as it was constructed from those before it
-stays : (n : ℕ) (k : Setting) (c r : ℕ) (m : Coded) (p : Component) (s : ℕ → ℕ → ℕ) (x y : ℕ) → index_of (x / 4) (y / 4) < n →
-    built n k c r m p s (x + 1) (y + 1) ≡ made k (position_at c r) m p (built (index_of (x / 4) (y / 4)) k c r m p s) x y
+stays : (n : ℕ) (k : Setting) (c r : ℕ) (m : Coded) (p : Component) (s : ℕ → ℕ → ℕ) (x y : ℕ) → number_of (x / 4) (y / 4) < n →
+    built n k c r m p s (x + 1) (y + 1) ≡ made k (position_at c r) m p (built (number_of (x / 4) (y / 4)) k c r m p s) x y
 stays zero k c r m p s x y less = absurd (omega arith)
 stays (suc n) k c r m p s x y less = ⊎_elim
-    (λ (earlier : index_of (x / 4) (y / 4) < n). cond-false _ _ _ (test_other n x y (λ e. absurd (omega (arith, e)))) ∙ stays n k c r m p s x y earlier)
-    (λ (here : n ≤ index_of (x / 4) (y / 4)).
-    let e : index_of (x / 4) (y / 4) ≡ n = omega arith in
+    (λ (earlier : number_of (x / 4) (y / 4) < n). cond-false _ _ _ (test_other n x y (λ e. absurd (omega (arith, e)))) ∙ stays n k c r m p s x y earlier)
+    (λ (here : n ≤ number_of (x / 4) (y / 4)).
+    let e : number_of (x / 4) (y / 4) ≡ n = omega arith in
     let column : x + 1 - 1 ≡ x = omega arith in
     let row : y + 1 - 1 ≡ y = omega arith in
     cond-true _ _ _ (test_own n x y e) ∙ ap (λ z. made k (position_at c r) m p (built n k c r m p s) z (y + 1 - 1)) column ∙
     ap (λ z. made k (position_at c r) m p (built n k c r m p s) x z) row
     ∙ ap (λ z. made k (position_at c r) m p (built z k c r m p s) x y) (sym e))
-    (cases_lt (index_of (x / 4) (y / 4)) n)
+    (cases_lt (number_of (x / 4) (y / 4)) n)
 
 sides_stay : (a b : ℕ) (k : Setting) (c r : ℕ) (m : Coded) (p : Component) (s : ℕ → ℕ → ℕ) →
     SidesAgree (side p) m.available (built a k c r m p s) (built b k c r m p s)
@@ -75,11 +76,12 @@ blocks_stay : (a b n : ℕ) (k : Setting) (c r : ℕ) (m : Coded) (p : Component
     BlocksAgree (side p) n (built a k c r m p s) (built b k c r m p s)
 blocks_stay a b n k c r m p s f g = record {
   each = λ x y i j q q' d e less.
-      let number : index_of ((4 * x + i) / 4) ((4 * y + j) / 4) < n = rw (quotient x i d, quotient y j e) less in
+      let number : number_of ((4 * x + i) / 4) ((4 * y + j) / 4) < n = rw (quotient x i d, quotient y j e) less in
       stays a k c r m p s (4 * x + i) (4 * y + j) (omega arith) ∙ sym (stays b k c r m p s (4 * x + i) (4 * y + j) (omega arith));
 }
 
-few_blocks : (x y : ℕ) → x < 16 → y < 16 → index_of (x / 4) (y / 4) < 16
+few_blocks : (x y : ℕ) → x < 16 → y < 16 → number_of (x / 4) (y / 4) < 16
+unfolding number_of
 few_blocks x y p q = omega arith
 
 -- all of them meet the equations
@@ -88,7 +90,7 @@ built_made : (k : Setting) (c r : ℕ) (m : Coded) (p : Component) (s : ℕ → 
 built_made k c r m p s ok = record {
   each = λ x y i j.
       let most = side_most p in
-      let b = index_of (x / 4) (y / 4) in
+      let b = number_of (x / 4) (y / 4) in
       let few = few_blocks x y (omega arith) (omega arith) in
       stays 16 k c r m p s x y few
       ∙ made_by_same m.prediction k c r m p (built b k c r m p s) (built 16 k c r m p s) x y i j ok (sides_stay b 16 k c r m p s)

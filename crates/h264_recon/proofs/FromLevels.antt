@@ -2,7 +2,7 @@
 use Rattle.std.proofs.Common.{◌≡◌, ◌≢◌, ◌↔◌, ℕ, zero, suc, ◌+◌, ◌*◌, ◌/◌, ◌%◌, ◌<◌, Bool}
 use Rattle.std.proofs.Common.{true, false, ◌&&◌, IsTrue, IsOk, IfOk, Result, Ok, Err, List, [], get_or, replicate}
 use Rattle.std.proofs.Common.{ℤ, pos, arith, refl, sym, ap, ◌∙◌}
-use Rattle.h264_plane.specs.Places.{index_of, column_of, row_of}
+use Rattle.h264_plane.specs.Blocks.{number_of, column_of, row_of}
 use Rattle.h264_plane.specs.declared.frame.Component.TheVariants.{Y}
 use Rattle.h264_plane.proofs.Raster.{index_back}
 use Rattle.h264_mbsyntax.specs.Stored.{shown}
@@ -62,23 +62,23 @@ uncoded_of qp = record { dc = refl; each = λ x y p q. refl }
 
 pub plain_of : (qp : ℕ) (mb : Macroblock) (b : PlainBlocks) → b.totals.now ≡ mb.contexts.totals → b.levels.now ≡ mb.residual.luma →
     are_blank mb.contexts.totals ≡ false → AreBlocksOf qp (Plain b) (luma_read mb)
-unfolding luma_blocks luma_dc_fits
+unfolding luma_blocks luma_dc_fits number_of
 plain_of qp mb b e f some = rw (e, f, some) (record {
   dc = refl;
   each = λ x y p q.
       let levels : ℕ → List ℤ = λ k. shown 16 (get_or mb.contexts.totals k 0) (get_or mb.residual.luma k (replicate 16 (pos 0))) in
-      d_of_blocks qp x y (table 16 levels) (levels (index_of x y)) (sym (table-at 16 levels (index_of x y) [] (omega arith)));
+      d_of_blocks qp x y (table 16 levels) (levels (number_of x y)) (sym (table-at 16 levels (number_of x y) [] (omega arith)));
 })
 
 pub dc16_of : (qp : ℕ) (mb : Macroblock) (b : BlocksWithDc) → b.totals.now ≡ mb.contexts.totals → b.levels.now ≡ mb.residual.luma_ac →
     HasEntries b.dc (dc16_at (shown 16 mb.residual.luma_dc_total mb.residual.luma_dc) qp) →
     dc16_fits (shown 16 mb.residual.luma_dc_total mb.residual.luma_dc) qp ≡ true → AreBlocksOf qp (WithDc b) (luma16_read mb)
-unfolding luma_dc_fits
+unfolding luma_dc_fits number_of
 dc16_of qp mb b e f has fits = rw (e, f) (record {
   dc = fits;
   each = λ x y p q.
       let levels : ℕ → List ℤ = λ k. shown 15 (get_or mb.contexts.totals k 0) (get_or mb.residual.luma_ac k (replicate 15 (pos 0))) in
-      d_of_dc16 qp x y _ (levels (index_of x y)) b.dc _ p q (sym (table-at 16 levels (index_of x y) [] (omega arith))) refl has;
+      d_of_dc16 qp x y _ (levels (number_of x y)) b.dc _ p q (sym (table-at 16 levels (number_of x y) [] (omega arith))) refl has;
 })
 
 pub plain_at : (qp b : ℕ) (p : PlainBlocks) (l : List ℤ) → b < 16 → l ≡ get_or p.levels.now b (replicate 16 (pos 0)) →
@@ -99,6 +99,7 @@ with_dc_at qp b w dc l i same e =
 -- ---- macroblocks of which no block has a level
 
 pub uncoded_fits : (qp : ℕ) (l : LumaLevels) → AreBlocksOf qp NotCoded l → luma_fits qp l ≡ true
+unfolding column_of row_of
 uncoded_fits qp l h = luma_whole qp l h.dc
     (all_to 16 _ (λ b p. ap residual_fits (sym (h.each (column_of b) (row_of b) (omega arith) (omega arith))) ∙ none_fit qp))
 

@@ -9,6 +9,7 @@ use Rattle.h264_intra.specs.declared.luma4.Intra4x4PredMode.{Intra4x4PredMode}
 use Rattle.h264_intra.specs.declared.luma16.Intra16x16PredMode.{Intra16x16PredMode}
 use Rattle.h264_intra.specs.declared.chroma.IntraChromaPredMode.{IntraChromaPredMode}
 use Rattle.h264_plane.specs.Clip.{clip1}
+use Rattle.h264_plane.specs.Blocks.{number_of}
 use Rattle.h264_recon.specs.Blocks.{sides_of}
 use Rattle.h264_scale.specs.Residual.{residual_at}
 use Rattle.h264_scale.specs.Macroblock.{luma_d, block_d, residual}
@@ -41,7 +42,7 @@ made_pcm k c r m p s x y bytes e = rw e refl
 pub blocks_made : (luma : IntraLuma) (modes : List Intra4x4PredMode) (a : Available) (levels : Levels) (c : ℕ) (l : Store) (own : List ℕ) → luma ≡
     Blocks modes →
     AreMade4 16 (intra4 modes a (λ x y. residual_at (luma_d levels.qp levels.luma x y))) l c own → IsLumaMade luma a levels c l own
-unfolding predicted_luma residual block_d
+unfolding predicted_luma residual block_d number_of
 blocks_made luma modes a levels c l own e made = record {
   each = λ x y i j.
       let place : place4 (x / 4) (y / 4) (x % 4) (y % 4) ≡ 16 * y + x = omega arith in

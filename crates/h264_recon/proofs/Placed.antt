@@ -9,7 +9,8 @@ use Rattle.h264_near.specs.Coded as coded
 use Rattle.h264_near.specs.Partition.{first_of, MovesByPartition}
 use Rattle.h264_near.specs.declared.partition.Partition.{Partition}
 use Rattle.h264_near.specs.declared.partition.Partition.TheVariants.{P16x16}
-use Rattle.h264_near.specs.Coded.{CodedMacroblock, number_of}
+use Rattle.h264_plane.specs.Blocks.{number_of}
+use Rattle.h264_near.specs.Coded.{CodedMacroblock}
 use Rattle.h264_near.specs.Keeps.{AreContexts}
 use Rattle.h264_near.specs.declared.context.Contexts.{Contexts}
 use Rattle.h264_vectors.specs.declared.slice.SliceContext.{SliceContext}

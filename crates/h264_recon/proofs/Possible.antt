@@ -6,7 +6,7 @@ use Rattle.std.specs.Option.{is_some, option_and_then}
 use Rattle.std.proofs.lemmas.Bool.{lt-ltb}
 use Rattle.std.proofs.lemmas.List.{get_or_default}
 use Rattle.std.proofs.lemmas.Bool.Decides.{nat_tests}
-use Rattle.h264_plane.specs.Places.{index_of}
+use Rattle.h264_plane.specs.Blocks.{number_of, column_of, row_of}
 use Rattle.h264_intra.specs.Luma4.{is_possible4}
 use Rattle.h264_intra.specs.Luma16.{is_possible16}
 use Rattle.h264_intra.specs.Chroma.{is_possible_chroma}
@@ -18,7 +18,7 @@ use Rattle.h264_intra.specs.declared.chroma.IntraChromaPredMode.{IntraChromaPred
 use Rattle.h264_intra.specs.declared.sides.Sides.{Sides}
 use Rattle.h264_intra.specs.declared.sides.Sides4.{Sides4}
 use Rattle.h264_near.specs.Coded as coded
-use Rattle.h264_near.specs.Coded.{CodedMacroblock, mode_part, mode_in, is_intra, number_of, column_of, row_of}
+use Rattle.h264_near.specs.Coded.{CodedMacroblock, mode_part, mode_in, is_intra}
 use Rattle.h264_near.specs.Intra.{with_modes, block_samples, macroblock_samples}
 use Rattle.h264_near.specs.Place.{around}
 use Rattle.h264_near.specs.Raster.{last_in, last_left}
@@ -144,13 +144,13 @@ module _ (w : ℕ) (picture : List CodedMacroblock) (slice : ℕ) (constrained :
   corner-at current (suc x) (suc y) h k t = let z : (suc x == 0) ≡ false = grind (arith, nat_tests) in
       let n : nat_lt 0 (suc y) ≡ true = lt-ltb 0 (suc y) (omega arith) in rw (z, n) refl
 
-  module _ (modes : List Intra4x4PredMode) (x y : ℕ) (hx : x < 4) (hy : y < 4) (b : length modes ≡ index_of x y) where
+  module _ (modes : List Intra4x4PredMode) (x y : ℕ) (hx : x < 4) (hy : y < 4) (b : length modes ≡ number_of x y) where
     column : column_of (length modes) ≡ x
-    unfolding column_of
+    unfolding column_of number_of
     column = omega arith
 
     row : row_of (length modes) ≡ y
-    unfolding row_of
+    unfolding row_of number_of
     row = omega arith
 
     block-above : IsTrue (block_samples w picture slice constrained modes).above → IsTrue (above_there (available w picture slice constrained) y)
@@ -169,8 +169,9 @@ module _ (w : ℕ) (picture : List CodedMacroblock) (slice : ℕ) (constrained :
 
 possible-4x4 : (w : ℕ) (slice : SliceContext) (picture : List CodedMacroblock) (modes : List Intra4x4PredMode) → 0 < w → length modes ≡ 16 →
     read.HaveSides w slice picture modes → IsPossibleLuma (Blocks modes) (available w picture slice.number slice.constrained_intra)
+unfolding number_of
 possible-4x4 w slice picture modes some long have x y hx hy =
-    let b = index_of x y in
+    let b = number_of x y in
     let small : b < length modes = omega arith in
     let is : mode_at modes x y ≡ get_or modes b Vertical = get_or_default modes b Dc Vertical small in
     let taken : length (take b modes) ≡ b = length-taken modes b (omega arith) in

@@ -4,7 +4,7 @@ use Rattle.std.proofs.lemmas.Bool.Decides.{nat_tests}
 use Rattle.std.proofs.lemmas.Bool.{cases_eq}
 use Rattle.h264_intra.specs.Sides.{SameSides}
 use Rattle.h264_intra.specs.Luma4.{SameSides4}
-use Rattle.h264_plane.specs.Places.{index_of}
+use Rattle.h264_plane.specs.Blocks.{number_of}
 use Rattle.h264_recon.specs.Blocks.{sides_of, sides4_of, left_there, above_there, corner_there, right_there}
 use Rattle.h264_recon.specs.Constructed.{block_window}
 use Rattle.h264_recon.specs.Around.{SidesAgree, BlocksAgree}
@@ -44,25 +44,28 @@ right_above : (a : Available) (x y : ℕ) → IsTrue (right_there a x y) → y �
 unfolding right_there
 right_above a x y t e e' = grind (arith, nat_tests)
 
-pub right_inner : (a : Available) (x y : ℕ) → IsTrue (right_there a x y) → y ≢ 0 → (x < 3) × (index_of (x + 1) (y - 1) < index_of x y)
-unfolding right_there
+pub right_inner : (a : Available) (x y : ℕ) → IsTrue (right_there a x y) → y ≢ 0 → (x < 3) × (number_of (x + 1) (y - 1) < number_of x y)
+unfolding right_there number_of
 right_inner a x y t e = (grind (arith, nat_tests), grind (arith, nat_tests))
 
 -- ---- the blocks beside a block come before it
 
-above_before : (x y : ℕ) → y ≢ 0 → index_of x (y - 1) < index_of x y
+above_before : (x y : ℕ) → y ≢ 0 → number_of x (y - 1) < number_of x y
+unfolding number_of
 above_before x y p = omega arith
 
-left_before : (x y : ℕ) → x ≢ 0 → index_of (x - 1) y < index_of x y
+left_before : (x y : ℕ) → x ≢ 0 → number_of (x - 1) y < number_of x y
+unfolding number_of
 left_before x y p = omega arith
 
-corner_before : (x y : ℕ) → x ≢ 0 → y ≢ 0 → index_of (x - 1) (y - 1) < index_of x y
+corner_before : (x y : ℕ) → x ≢ 0 → y ≢ 0 → number_of (x - 1) (y - 1) < number_of x y
+unfolding number_of
 corner_before x y p q = omega arith
 
 -- ---- the samples beside a block
 
 tap_left : (a : Available) (s t : ℕ → ℕ → ℕ) (x y k : ℕ) → x < 4 → y < 4 → k < 4 → IsTrue (left_there a x) → SidesAgree 16 a s t →
-    BlocksAgree 16 (index_of x y) s t →
+    BlocksAgree 16 (number_of x y) s t →
     s (4 * x + 0) (4 * y + (k + 1)) ≡ t (4 * x + 0) (4 * y + (k + 1))
 tap_left a s t x y k p q d there sides blocks = ⊎_elim
     (λ z. same_at s t _ _ 0 (4 * y + k + 1) (omega arith) (omega arith) (sides.left (left_outer a x there z) (4 * y + k) (omega arith)))
@@ -71,7 +74,7 @@ tap_left a s t x y k p q d there sides blocks = ⊎_elim
     (cases_eq x 0)
 
 tap_above : (a : Available) (s t : ℕ → ℕ → ℕ) (x y k : ℕ) → x < 4 → y < 4 → k < 4 → IsTrue (above_there a y) → SidesAgree 16 a s t →
-    BlocksAgree 16 (index_of x y) s t →
+    BlocksAgree 16 (number_of x y) s t →
     s (4 * x + (k + 1)) (4 * y + 0) ≡ t (4 * x + (k + 1)) (4 * y + 0)
 tap_above a s t x y k p q d there sides blocks = ⊎_elim
     (λ z. same_at s t _ _ (4 * x + k + 1) 0 (omega arith) (omega arith) (sides.above (above_outer a y there z) (4 * x + k) (omega arith)))
@@ -80,7 +83,7 @@ tap_above a s t x y k p q d there sides blocks = ⊎_elim
     (cases_eq y 0)
 
 tap_corner : (a : Available) (s t : ℕ → ℕ → ℕ) (x y : ℕ) → x < 4 → y < 4 → IsTrue (corner_there a x y) → SidesAgree 16 a s t →
-    BlocksAgree 16 (index_of x y) s t →
+    BlocksAgree 16 (number_of x y) s t →
     s (4 * x + 0) (4 * y + 0) ≡ t (4 * x + 0) (4 * y + 0)
 tap_corner a s t x y p q there sides blocks = ⊎_elim
     (λ z. ⊎_elim
@@ -95,7 +98,7 @@ tap_corner a s t x y p q there sides blocks = ⊎_elim
     (cases_eq x 0)
 
 tap_right : (a : Available) (s t : ℕ → ℕ → ℕ) (x y k : ℕ) → x < 4 → y < 4 → k < 4 → IsTrue (right_there a x y) → SidesAgree 16 a s t →
-    BlocksAgree 16 (index_of x y) s t →
+    BlocksAgree 16 (number_of x y) s t →
     s (4 * x + (k + 5)) (4 * y + 0) ≡ t (4 * x + (k + 5)) (4 * y + 0)
 tap_right a s t x y k p q d there sides blocks = ⊎_elim
     (λ z. ⊎_elim
@@ -108,7 +111,7 @@ tap_right a s t x y k p q d there sides blocks = ⊎_elim
     (cases_eq y 0)
 
 -- so the sides of a block that are available agree
-pub block_sides : (a : Available) (s t : ℕ → ℕ → ℕ) (x y : ℕ) → x < 4 → y < 4 → SidesAgree 16 a s t → BlocksAgree 16 (index_of x y) s t →
+pub block_sides : (a : Available) (s t : ℕ → ℕ → ℕ) (x y : ℕ) → x < 4 → y < 4 → SidesAgree 16 a s t → BlocksAgree 16 (number_of x y) s t →
     SameSides4 (sides4_of a x y) (block_window s x y) (block_window t x y)
 block_sides a s t x y p q sides blocks = record {
   left = λ there k d. tap_left a s t x y k p q d there sides blocks;

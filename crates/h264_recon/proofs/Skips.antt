@@ -7,7 +7,8 @@ use Rattle.h264_near.specs.declared.partition.Partition.TheVariants.{P16x16}
 use Rattle.h264_near.specs.declared.motion.Motion.{Motion}
 use Rattle.h264_near.specs.declared.skipped.Skipped.{Skipped}
 use Rattle.h264_near.specs.Coded as coded
-use Rattle.h264_near.specs.Coded.{CodedMacroblock, number_of}
+use Rattle.h264_plane.specs.Blocks.{number_of}
+use Rattle.h264_near.specs.Coded.{CodedMacroblock}
 use Rattle.h264_near.specs.Skips.{IsSkipped}
 use Rattle.h264_near.proofs.Skips.{contexts_of, skipped-contexts}
 use Rattle.h264_vectors.specs.declared.slice.SliceContext.{SliceContext}

@@ -6,7 +6,8 @@ use Rattle.h264_plane.specs.declared.frame.Component.{Component}
 use Rattle.h264_plane.specs.declared.frame.Component.TheVariants.{Y, Cb, Cr}
 use Rattle.h264_plane.specs.Clip.{clip1}
 use Rattle.h264_intra.proofs.Depends.{predicted4_same, predicted16_same, predicted_chroma_same}
-use Rattle.h264_plane.specs.Places.{side, index_of, Agree}
+use Rattle.h264_plane.specs.Blocks.{number_of}
+use Rattle.h264_plane.specs.Places.{side, Agree}
 use Rattle.h264_recon.specs.Blocks.{sides_of, sides4_of}
 use Rattle.h264_scale.specs.Macroblock.{residual}
 use Rattle.h264_recon.specs.Inter.{Setting, position_at}
@@ -25,7 +26,7 @@ use Rattle.h264_plane.proofs.Own.{moved}
 -- ---- a predicted sample depends on the available sides and on the blocks before its own
 
 luma_same : (l : IntraLuma) (a : Available) (s t : ℕ → ℕ → ℕ) (x y : ℕ) → x < 16 → y < 16 → IsPossibleLuma l a → SidesAgree 16 a s t →
-    BlocksAgree 16 (index_of (x / 4) (y / 4)) s t →
+    BlocksAgree 16 (number_of (x / 4) (y / 4)) s t →
     predicted_luma l a s x y ≡ predicted_luma l a t x y
 unfolding predicted_luma
 luma_same (Blocks modes) a s t x y p q ok sides blocks =
@@ -35,7 +36,7 @@ luma_same (Blocks modes) a s t x y p q ok sides blocks =
 luma_same (Whole mode) a s t x y p q ok sides blocks = predicted16_same mode (sides_of a) s t x y ok p q (whole_sides 16 a s t sides)
 
 intra_same : (modes : IntraModes) (a : Available) (p : Component) (s t : ℕ → ℕ → ℕ) (x y : ℕ) → x < side p → y < side p → IsPossible (Intra modes) a →
-    SidesAgree (side p) a s t → BlocksAgree (side p) (index_of (x / 4) (y / 4)) s t → predicted_intra modes a p s x y ≡ predicted_intra modes a p t x y
+    SidesAgree (side p) a s t → BlocksAgree (side p) (number_of (x / 4) (y / 4)) s t → predicted_intra modes a p s x y ≡ predicted_intra modes a p t x y
 unfolding predicted_intra
 intra_same modes a Y s t x y i j ok sides blocks = luma_same modes.luma a s t x y i j ok.0 sides blocks
 intra_same modes a Cb s t x y i j ok sides blocks = predicted_chroma_same modes.chroma (sides_of a) s t x y ok.1 i j (whole_sides 8 a s t sides)
@@ -44,7 +45,7 @@ intra_same modes a Cr s t x y i j ok sides blocks = predicted_chroma_same modes.
 -- and so does a constructed sample
 pub made_by_same : (d : Prediction) (k : Setting) (c r : ℕ) (m : Coded) (p : Component) (s t : ℕ → ℕ → ℕ) (x y : ℕ) → x < side p → y < side p →
     IsPossible d m.available →
-    SidesAgree (side p) m.available s t → BlocksAgree (side p) (index_of (x / 4) (y / 4)) s t →
+    SidesAgree (side p) m.available s t → BlocksAgree (side p) (number_of (x / 4) (y / 4)) s t →
     made_by d k (position_at c r) m p s x y ≡ made_by d k (position_at c r) m p t x y
 unfolding made_by
 made_by_same (Intra modes) k c r m p s t x y i j ok sides blocks =
@@ -69,15 +70,15 @@ blocks_unique (suc b) k c r m p s t ok sides ms mt =
     record {
       each = λ x y i j f g d e less. ⊎_elim
           (λ earlier. before.each x y i j f g d e earlier)
-          (λ (here : b ≤ index_of x y).
+          (λ (here : b ≤ number_of x y).
           let column = quotient x i d in
           let row = quotient y j e in
-          let number : index_of ((4 * x + i) / 4) ((4 * y + j) / 4) ≡ b = rw (column, row) (omega arith) in
-          let so_far : BlocksAgree (side p) (index_of ((4 * x + i) / 4) ((4 * y + j) / 4)) s t = rw number before in
+          let number : number_of ((4 * x + i) / 4) ((4 * y + j) / 4) ≡ b = rw (column, row) (omega arith) in
+          let so_far : BlocksAgree (side p) (number_of ((4 * x + i) / 4) ((4 * y + j) / 4)) s t = rw number before in
           ms.each (4 * x + i) (4 * y + j) (omega arith) (omega arith)
           ∙ made_by_same m.prediction k c r m p s t (4 * x + i) (4 * y + j) (omega arith) (omega arith) ok sides so_far
           ∙ sym (mt.each (4 * x + i) (4 * y + j) (omega arith) (omega arith)))
-          (cases_lt (index_of x y) b);
+          (cases_lt (number_of x y) b);
     }
 
 block_fits : (p : Component) (x : ℕ) → x < side p → 4 * (x / 4) + 4 ≤ side p
@@ -94,6 +95,7 @@ side_most Cr = omega arith
 pub own_unique : (k : Setting) (c r : ℕ) (m : Coded) (p : Component) (s t : ℕ → ℕ → ℕ) → IsPossible m.prediction m.available →
     SidesAgree (side p) m.available s t → IsMadeIn k c r m p s → IsMadeIn k c r m p t → (x y : ℕ) → x < side p → y < side p →
     s (x + 1) (y + 1) ≡ t (x + 1) (y + 1)
+unfolding number_of
 own_unique k c r m p s t ok sides ms mt x y i j =
     let all = blocks_unique 16 k c r m p s t ok sides ms mt in
     let most = side_most p in

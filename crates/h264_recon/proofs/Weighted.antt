@@ -8,7 +8,8 @@ use Rattle.h264_plane.specs.declared.frame.Component.{Component}
 use Rattle.std.specs.Option.{option_and_then, ForSome}
 use Rattle.h264_base.specs.declared.weight.Weights.{Weights}
 use Rattle.h264_near.specs.declared.motion.Motion.{Motion}
-use Rattle.h264_near.specs.Coded.{CodedMacroblock, number_of}
+use Rattle.h264_plane.specs.Blocks.{number_of}
+use Rattle.h264_near.specs.Coded.{CodedMacroblock}
 use Rattle.h264_near.specs.Keeps.{AreContexts}
 use Rattle.h264_near.specs.declared.context.Contexts.{Contexts}
 use Rattle.h264_recon.specs.Given.{weights_of}

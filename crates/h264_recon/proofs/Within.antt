@@ -6,7 +6,8 @@ use Rattle.std.specs.Option.{is_some, option_and_then}
 use Rattle.std.proofs.Math.Bool.{and-false}
 use Rattle.std.proofs.lemmas.Bool.{cases_lt, lt-ltb, ltb-true}
 use Rattle.h264_near.specs.Coded as coded
-use Rattle.h264_near.specs.Coded.{CodedMacroblock, mode_part, column_of, row_of}
+use Rattle.h264_plane.specs.Blocks.{column_of, row_of}
+use Rattle.h264_near.specs.Coded.{CodedMacroblock, mode_part}
 use Rattle.h264_near.specs.declared.motion.Motion as derived
 use Rattle.h264_near.specs.Intra.{with_modes, block_samples, macroblock_samples}
 use Rattle.h264_near.specs.Place.{around}

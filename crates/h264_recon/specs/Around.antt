@@ -1,6 +1,6 @@
 -- Samples round a macroblock that agree. A working form.
 use Rattle.std.specs.Prelude.{◌≡◌, ℕ, ◌+◌, ◌*◌, ◌<◌, ◌≤◌, IsTrue}
-use Rattle.h264_plane.specs.Places.{index_of}
+use Rattle.h264_plane.specs.Blocks.{number_of}
 use Rattle.h264_recon.specs.declared.macroblock.Available.{Available}
 
 -- s and t, seen from a macroblock, agree at its sides that are available
@@ -12,5 +12,5 @@ pub record SidesAgree (n : ℕ) (a : Available) (s t : ℕ → ℕ → ℕ) : Ty
 
 -- and at its 4x4 blocks before number b
 pub record BlocksAgree (n b : ℕ) (s t : ℕ → ℕ → ℕ) : Type 0 where
-  pub each : (x y i j : ℕ) → 4 * x + 4 ≤ n → 4 * y + 4 ≤ n → i < 4 → j < 4 → index_of x y < b →
+  pub each : (x y i j : ℕ) → 4 * x + 4 ≤ n → 4 * y + 4 ≤ n → i < 4 → j < 4 → number_of x y < b →
       s (4 * x + i + 1) (4 * y + j + 1) ≡ t (4 * x + i + 1) (4 * y + j + 1)

@@ -1,6 +1,6 @@
 -- The blocks of a macroblock, and which sides of them are available. To be read beside the standard.
 use Rattle.std.specs.Prelude.{ℕ, ◌+◌, ◌-◌, Bool, ◌&&◌, ◌||◌, ◌==◌, if◌then◌else◌, nat_lt}
-use Rattle.h264_plane.specs.Places.{index_of}
+use Rattle.h264_plane.specs.Blocks.{number_of}
 use Rattle.h264_intra.specs.declared.sides.Sides.{Sides}
 use Rattle.h264_intra.specs.declared.sides.Sides4.{Sides4}
 use Rattle.h264_recon.specs.declared.macroblock.Available.{Available}
@@ -23,7 +23,7 @@ corner_there a x y = if x == 0 then (if y == 0 then a.corner else a.left) else a
 unfoldable pub right_there : Available → ℕ → ℕ → Bool
 right_there a x y =
     if y == 0 then (if x == 3 then a.above_right else a.above)
-    else nat_lt x 3 && nat_lt (index_of (x + 1) (y - 1)) (index_of x y)
+    else nat_lt x 3 && nat_lt (number_of (x + 1) (y - 1)) (number_of x y)
 
 abbrev pub sides4_of : Available → ℕ → ℕ → Sides4
 sides4_of a x y = record { left = left_there a x; above = above_there a y; above_right = right_there a x y; corner = corner_there a x y }

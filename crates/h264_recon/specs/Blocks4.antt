@@ -3,7 +3,8 @@ use Rattle.std.specs.Prelude.{◌≡◌, ◌≢◌, ◌⊎◌, ℕ, ◌+◌, ◌
 use Rattle.h264_intra.specs.Luma4.{predicted4}
 use Rattle.h264_intra.specs.declared.luma4.Intra4x4PredMode.{Intra4x4PredMode}
 use Rattle.h264_plane.specs.Clip.{clip1}
-use Rattle.h264_plane.specs.Places.{index_of, Grid}
+use Rattle.h264_plane.specs.Blocks.{number_of}
+use Rattle.h264_plane.specs.Places.{Grid}
 use Rattle.h264_recon.specs.Blocks.{sides4_of}
 use Rattle.h264_recon.specs.Constructed.{block_window, mode_at}
 use Rattle.h264_recon.specs.Lines.{local}
@@ -31,7 +32,7 @@ sample4 m s x y i j =
 
 -- the blocks before number b are constructed
 pub record AreMade4 (b : ℕ) (m : Intra4) (l : Store) (c : ℕ) (own : List ℕ) : Type 0 where
-  pub each : (x y i j : ℕ) → x < 4 → y < 4 → i < 4 → j < 4 → index_of x y < b →
+  pub each : (x y i j : ℕ) → x < 4 → y < 4 → i < 4 → j < 4 → number_of x y < b →
       slice_index own (place4 x y i j) ≡ sample4 m (local 16 l c own) x y i j
 
 -- the samples f of a block are written, and each other one is kept

@@ -3,7 +3,8 @@
 use Rattle.std.specs.Prelude.{◌≡◌, ℕ, ◌+◌, ◌-◌, ◌*◌, ◌/◌, ◌%◌, ◌<◌, IsTrue, List, get_or, slice_index, Option, pos, ◌+ℤ◌}
 use Rattle.h264_base.specs.declared.weight.Weights.{Weights}
 use Rattle.h264_plane.specs.Clip.{clip1}
-use Rattle.h264_plane.specs.Places.{side, index_of, Grid}
+use Rattle.h264_plane.specs.Blocks.{number_of}
+use Rattle.h264_plane.specs.Places.{side, Grid}
 use Rattle.h264_plane.specs.declared.frame.Component.{Component}
 use Rattle.h264_plane.specs.declared.frame.Component.TheVariants.{Y, Cb, Cr}
 use Rattle.h264_intra.specs.declared.luma4.Intra4x4PredMode.{Intra4x4PredMode}
@@ -49,7 +50,7 @@ abbrev pub block_window : Grid → ℕ → ℕ → Grid
 block_window s x y i j = s (4 * x + i) (4 * y + j)
 
 abbrev pub mode_at : List Intra4x4PredMode → ℕ → ℕ → Intra4x4PredMode
-mode_at modes x y = get_or modes (index_of x y) Dc
+mode_at modes x y = get_or modes (number_of x y) Dc
 
 -- ---- the predicted sample at column x and row y of the macroblock
 

@@ -4,7 +4,8 @@ use Rattle.std.specs.Option.{is_some, option_and_then}
 use Rattle.h264_base.specs.declared.weight.Weights.{Weights}
 use Rattle.h264_near.specs.declared.motion.Motion as derived
 use Rattle.h264_near.specs.Coded as coded
-use Rattle.h264_near.specs.Coded.{CodedMacroblock, mode_part, motion_in, number_of}
+use Rattle.h264_plane.specs.Blocks.{number_of}
+use Rattle.h264_near.specs.Coded.{CodedMacroblock, mode_part, motion_in}
 use Rattle.h264_near.specs.Intra.{with_modes, macroblock_samples}
 use Rattle.h264_near.specs.Place.{around}
 use Rattle.h264_recon.specs.Constructed.{Coded}

@@ -1,7 +1,7 @@
 -- The motions that the code has, by the places that indexes of the reference list name. A working form.
 use Rattle.std.specs.Prelude.{◌≡◌, ℕ, ◌%◌, ◌/◌, ◌<◌, Bool, true, false, List, get_or, replicate, Option, Some, None, unwrap_or}
 use Rattle.h264_near.specs.declared.motion.Motion as derived
-use Rattle.h264_near.specs.Coded.{number_of}
+use Rattle.h264_plane.specs.Blocks.{number_of}
 use Rattle.h264_vectors.specs.declared.slice.SliceContext.{SliceContext}
 use Rattle.h264_recon.specs.Inter.{no_motion}
 use Rattle.h264_recon.specs.Table.{table}

@@ -1,7 +1,7 @@
 -- How a macroblock is predicted, as its equations have it, and as the code has it. A working form.
 use Rattle.std.specs.Prelude.{ℕ, ◌+◌, ◌%◌, ◌/◌, nat_lt, List, get_or, Option, Some, None, pos, if◌then◌else◌}
 use Rattle.h264_near.specs.declared.motion.Motion as derived
-use Rattle.h264_near.specs.Coded.{number_of}
+use Rattle.h264_plane.specs.Blocks.{number_of}
 use Rattle.h264_near.specs.Partition.{first_of}
 use Rattle.h264_near.specs.declared.partition.Partition.{Partition}
 use Rattle.h264_recon.specs.Table.{table}

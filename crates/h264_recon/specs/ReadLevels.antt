@@ -1,7 +1,7 @@
 -- The levels of a macroblock, as they were read, and as its transform takes them block by block. A working form.
 use Rattle.std.specs.Prelude.{◌≡◌, ℕ, ◌+◌, ◌*◌, ◌<◌, Bool, true, false, [], get_or, take, drop, replicate, ℤ, pos}
 use Rattle.h264_tables.specs.ChromaQp.{chroma_qp_of}
-use Rattle.h264_plane.specs.Places.{index_of}
+use Rattle.h264_plane.specs.Blocks.{number_of}
 use Rattle.h264_mbsyntax.specs.Stored.{shown}
 use Rattle.h264_mbsyntax.specs.declared.macroblock.Kind.{Kind}
 use Rattle.h264_mbsyntax.specs.declared.macroblock.Kind.TheVariants as kind
@@ -75,9 +75,9 @@ levels_in r = record {
 -- d of a luma block (8.5.9, 8.5.10)
 abbrev pub d_in : ℕ → LumaBlocks → ℕ → ℕ → ℕ → ℕ → ℤ
 d_in qp NotCoded x y = d_of [] qp
-d_in qp (Plain b) x y = d_of (shown 16 (get_or b.totals.now (index_of x y) 0) (get_or b.levels.now (index_of x y) (replicate 16 (pos 0)))) qp
+d_in qp (Plain b) x y = d_of (shown 16 (get_or b.totals.now (number_of x y) 0) (get_or b.levels.now (number_of x y) (replicate 16 (pos 0)))) qp
 d_in qp (WithDc b) x y = d_with_dc (get_or b.dc (4 * y + x) (pos 0))
-    (shown 15 (get_or b.totals.now (index_of x y) 0) (get_or b.levels.now (index_of x y) (replicate 15 (pos 0)))) qp
+    (shown 15 (get_or b.totals.now (number_of x y) 0) (get_or b.levels.now (number_of x y) (replicate 15 (pos 0)))) qp
 
 -- the blocks have these levels
 pub record AreBlocksOf (qp : ℕ) (blocks : LumaBlocks) (l : LumaLevels) : Type 0 where

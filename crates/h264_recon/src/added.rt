@@ -2,7 +2,7 @@
 #![tactic(auto)]
 
 ghost use Rattle.std.specs.Prelude.{◌≡◌, ◌↔◌, ℕ, ◌+◌, ◌*◌, ◌/◌, ◌%◌, ◌<◌, ◌≤◌, ◌&&◌, IsOk, IfOk, IsTrue, get_or, replicate, pos};
-ghost use Rattle.h264_plane.specs.Places.{column_of, row_of};
+ghost use Rattle.h264_plane.specs.Blocks.{column_of, row_of};
 ghost use Rattle.h264_tables.specs.ChromaQp.{chroma_qp_of};
 ghost use Rattle.h264_mbsyntax.specs.Stored.{shown};
 ghost use Rattle.h264_scale.specs.Residual.{residual_at, residual_fits, d_with_dc};
@@ -21,9 +21,11 @@ use crate::scaled::{
 use crate::store::Samples;
 use crate::sum::{add_nothing, add8, add16};
 use h264_mbsyntax::Macroblock;
+use h264_near::block::{column, row};
 use h264_scale::{TransformRange, dc2};
 
 /// Adds the residual of the luma block of this number.
+#[tactic(auto, unfolding(h264_plane::specs::Blocks::column_of, h264_plane::specs::Blocks::row_of))]
 #[inline(always)]
 pub fn add_luma_block(
     samples: &mut [u8; 256],
@@ -40,8 +42,8 @@ pub fn add_luma_block(
     match luma_block(blocks, b, qp)? {
         None => add_nothing::<256>(samples),
         Some(block) => {
-            let x = 2 * (b / 4 % 2) + b % 2;
-            let y = 2 * (b / 8) + b / 2 % 2;
+            let x = column(b);
+            let y = row(b);
             add16(samples, x, y, &block);
         }
     }

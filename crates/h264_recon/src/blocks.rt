@@ -13,6 +13,7 @@ use crate::macroblock::Available;
 use crate::scaled::{ReadLevels, luma_of};
 use crate::store::Store;
 use h264_intra::{Intra4x4PredMode, predict4};
+use h264_near::block;
 use h264_scale::TransformRange;
 
 /// Writes the samples of a block.
@@ -46,8 +47,8 @@ pub fn luma4(
     let qp = levels.read.qp;
     let blocks = luma_of(levels.read)?;
     for b in 0..16 {
-        let x = 2 * (b / 4 % 2) + b % 2;
-        let y = 2 * (b / 8) + b / 2 % 2;
+        let x = block::column(b);
+        let y = block::row(b);
         let neighbours = neighbours4(store, column, own, a, x, y);
         let predicted = predict4(modes[b], &neighbours);
         put_block4(own, x, y, &predicted);

@@ -1,5 +1,5 @@
 ghost use Rattle.std.specs.Prelude.{◌≡◌, ◌+◌, ◌*◌, ◌<◌, ◌≤◌, get_or, replicate, None};
-ghost use Rattle.h264_near.specs.Coded.{number_of};
+ghost use Rattle.h264_plane.specs.Blocks.{number_of};
 ghost use Rattle.h264_near.specs.declared.partition.Partition.TheVariants.{P16x8, P8x16, P8x8};
 ghost use Rattle.h264_plane.specs.Samples.{at};
 ghost use Rattle.h264_plane.specs.declared.frame.Component.TheVariants.{Y, Cb, Cr};

@@ -4,7 +4,6 @@ ghost use Rattle.h264_intra.specs.Sides.{SameSides};
 ghost use Rattle.h264_intra.specs.Luma4.{SameSides4, sides4, around4};
 ghost use Rattle.h264_intra.specs.Luma16.{sides16, around16};
 ghost use Rattle.h264_intra.specs.Chroma.{sides_chroma, around_chroma};
-ghost use Rattle.h264_plane.specs.Places.{index_of};
 ghost use Rattle.h264_recon.specs.Blocks.{sides_of, sides4_of, left_there, above_there, corner_there, right_there};
 ghost use Rattle.h264_recon.specs.Constructed.{block_window};
 ghost use Rattle.h264_recon.specs.Lines.{local};
@@ -12,6 +11,7 @@ ghost use Rattle.h264_recon.specs.Lines.{local};
 use crate::macroblock::Available;
 use crate::store::Store;
 use h264_intra::{Neighbours4, Neighbours16, NeighboursChroma};
+use h264_near::block::number;
 
 /// Samples of a row from a place on.
 #[inline(always)]
@@ -164,16 +164,6 @@ fn corner_of(a: Available, x: usize, y: usize) -> bool
     }
 }
 
-/// The number of the block.
-#[inline(always)]
-fn index(x: usize, y: usize) -> usize
-    requires { (x < 4) × (y < 4) }
-    ensures value { result ≡ index_of x y }
-    ensures small { result < 16 }
-{
-    8 * (y / 2) + 4 * (x / 2) + 2 * (y % 2) + x % 2
-}
-
 #[tactic(auto, unfolding(crate::specs::Blocks::right_there))]
 #[inline(always)]
 fn right_of(a: Available, x: usize, y: usize) -> bool
@@ -183,7 +173,7 @@ fn right_of(a: Available, x: usize, y: usize) -> bool
     if y == 0 {
         if x == 3 { a.above_right } else { a.above }
     } else {
-        x < 3 && index(x + 1, y - 1) < index(x, y)
+        x < 3 && number(x + 1, y - 1) < number(x, y)
     }
 }
 

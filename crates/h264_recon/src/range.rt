@@ -2,7 +2,7 @@
 #![tactic(auto)]
 
 ghost use Rattle.std.specs.Prelude.{◌≡◌, ℕ, ◌+◌, ◌*◌, ◌<◌, ◌≤◌, ◌&&◌, true, get_or, replicate, pos};
-ghost use Rattle.h264_plane.specs.Places.{column_of, row_of};
+ghost use Rattle.h264_plane.specs.Blocks.{column_of, row_of};
 ghost use Rattle.h264_mbsyntax.specs.Stored.{shown};
 ghost use Rattle.h264_scale.specs.Residual.{d_of, d_with_dc, residual_fits as values_fit};
 ghost use Rattle.h264_scale.specs.Macroblock.{luma_fits, chroma_fits, levels_fit};
@@ -15,6 +15,7 @@ use crate::scaled::{
     LumaBlocks, ReadLevels, dc_levels, is_pcm, is_plane_uncoded, levels_at, luma_of,
 };
 use h264_mbsyntax::Macroblock;
+use h264_near::block::{column, row};
 use h264_scale::{are_small_together, dc2, fits4, fits4_of_dc, fits4_with_dc};
 
 /// Of a block of 16 levels, so many of which are not 0.
@@ -54,8 +55,8 @@ fn luma_block_fits(blocks: &LumaBlocks<'_>, b: usize, qp: u8) -> bool
             plain_block_fits(plain.totals[b], levels_at(plain.levels, b), qp)
         }
         LumaBlocks::WithDc(with) => {
-            let x = 2 * (b / 4 % 2) + b % 2;
-            let y = 2 * (b / 8) + b / 2 % 2;
+            let x = column(b);
+            let y = row(b);
             block_with_dc_fits(
                 with.dc[4 * y + x],
                 with.totals[b],

@@ -2,7 +2,7 @@
 #![tactic(auto)]
 
 ghost use Rattle.std.specs.Prelude.{◌≡◌, ◌↔◌, ℕ, ◌*◌, ◌<◌, ◌≤◌, ◌&&◌, [], IsOk, IfOk, IsTrue, unwrap_or, get_or, replicate, take, drop, pos};
-ghost use Rattle.h264_plane.specs.Places.{column_of, row_of};
+ghost use Rattle.h264_plane.specs.Blocks.{column_of, row_of};
 ghost use Rattle.h264_near.specs.Coded.{CodedMacroblock};
 ghost use Rattle.h264_mbsyntax.specs.Stored.{shown};
 ghost use Rattle.h264_mbsyntax.specs.Holds.{HoldsMacroblock};
@@ -14,7 +14,7 @@ ghost use Rattle.h264_recon.specs.Levels.{are_zero as are_zero_of, levels_of};
 
 use crate::coefficients::{are_zero, shown4, shown16};
 use h264_mbsyntax::{Kind, Macroblock};
-use h264_near::block::are_blank;
+use h264_near::block::{are_blank, column, row};
 use h264_scale::{TransformRange, dc16, residual4, residual4_of_dc, residual4_with_dc};
 
 /// The levels of a macroblock as they were read, and chroma_qp_index_offset.
@@ -161,8 +161,8 @@ pub fn luma_block(
         LumaBlocks::NotCoded => Ok(None),
         LumaBlocks::Plain(plain) => plain_block(plain.totals[b], levels_at(plain.levels, b), qp),
         LumaBlocks::WithDc(with) => {
-            let x = 2 * (b / 4 % 2) + b % 2;
-            let y = 2 * (b / 8) + b / 2 % 2;
+            let x = column(b);
+            let y = row(b);
             block_with_dc(
                 with.dc[4 * y + x],
                 with.totals[b],

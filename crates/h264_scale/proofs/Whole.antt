@@ -3,7 +3,7 @@ use Rattle.std.proofs.Common.{◌≡◌, ⊎_elim, ℕ, zero, suc, ◌+◌, ◌*
 use Rattle.std.proofs.Common.{arith, refl, sym, ap, ◌∙◌, add-one}
 use Rattle.std.proofs.lemmas.Bool.{cases_lt, false≢true, false_from_ne_true, and_from}
 use Rattle.h264_plane.specs.declared.frame.Component.TheVariants.{Y, Cb, Cr}
-use Rattle.h264_plane.specs.Places.{index_of, column_of, row_of}
+use Rattle.h264_plane.specs.Blocks.{number_of, column_of, row_of}
 use Rattle.h264_scale.specs.Residual.{residual_at, residual_fits, d_of, d_with_dc, HasEntries}
 use Rattle.h264_scale.specs.Dc.{dc16_at, dc2_at, HasEntries2}
 use Rattle.h264_scale.specs.Macroblock.{luma_d, chroma_d, block_d, residual, all_below, luma_dc_fits, chroma_dc_fits, luma_blocks_fit, chroma_blocks_fit}
@@ -22,11 +22,11 @@ use Rattle.h264_scale.proofs.Small.{flat_fits, flat_is, zero_last}
 
 -- ---- the levels of a block
 
-pub d_of_blocks : (qp x y : ℕ) (levels : List (List ℤ)) (l : List ℤ) → l ≡ get_or levels (index_of x y) [] → d_of l qp ≡ luma_d qp (luma.Blocks levels) x y
+pub d_of_blocks : (qp x y : ℕ) (levels : List (List ℤ)) (l : List ℤ) → l ≡ get_or levels (number_of x y) [] → d_of l qp ≡ luma_d qp (luma.Blocks levels) x y
 unfolding luma_d
 d_of_blocks qp x y levels l e = ap (λ z. d_of z qp) e
 
-pub d_of_dc16 : (qp x y : ℕ) (levels : LumaWithDc) (l dcs : List ℤ) (dc : ℤ) → x < 4 → y < 4 → l ≡ get_or levels.ac (index_of x y) [] →
+pub d_of_dc16 : (qp x y : ℕ) (levels : LumaWithDc) (l dcs : List ℤ) (dc : ℤ) → x < 4 → y < 4 → l ≡ get_or levels.ac (number_of x y) [] →
     dc ≡ get_or dcs (4 * y + x) (pos 0) →
     HasEntries dcs (dc16_at levels.dc qp) → d_with_dc dc l qp ≡ luma_d qp (luma.WithDc levels) x y
 unfolding luma_d

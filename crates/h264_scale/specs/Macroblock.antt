@@ -3,7 +3,7 @@
 use Rattle.std.specs.Prelude.{ℕ, zero, suc, ◌+◌, ◌*◌, ◌/◌, ◌%◌, Bool, true, ◌&&◌, [], get_or, ℤ}
 use Rattle.h264_plane.specs.declared.frame.Component.{Component}
 use Rattle.h264_plane.specs.declared.frame.Component.TheVariants.{Y, Cb, Cr}
-use Rattle.h264_plane.specs.Places.{index_of, column_of, row_of}
+use Rattle.h264_plane.specs.Blocks.{number_of, column_of, row_of}
 use Rattle.h264_scale.specs.Residual.{d_of, d_with_dc, residual_at, residual_fits}
 use Rattle.h264_scale.specs.Dc.{dc16_at, dc16_fits, dc2_at, dc2_fits}
 use Rattle.h264_scale.specs.declared.levels.LumaLevels.{LumaLevels}
@@ -17,8 +17,8 @@ use Rattle.h264_scale.specs.declared.levels.Levels.{Levels}
 -- d of a luma block
 unfoldable pub luma_d : ℕ → LumaLevels → ℕ → ℕ → ℕ → ℕ → ℤ
 luma_d qp luma.NotCoded x y = d_of [] qp
-luma_d qp (luma.Blocks levels) x y = d_of (get_or levels (index_of x y) []) qp
-luma_d qp (luma.WithDc levels) x y = d_with_dc (dc16_at levels.dc qp y x) (get_or levels.ac (index_of x y) []) qp
+luma_d qp (luma.Blocks levels) x y = d_of (get_or levels (number_of x y) []) qp
+luma_d qp (luma.WithDc levels) x y = d_with_dc (dc16_at levels.dc qp y x) (get_or levels.ac (number_of x y) []) qp
 
 -- d of a chroma block
 unfoldable pub chroma_d : ℕ → ChromaLevels → ℕ → ℕ → ℕ → ℕ → ℤ

@@ -13,7 +13,6 @@ use Rattle.h264_base.specs.declared.rule.Rule.{Rule}
 use Rattle.h264_base.specs.declared.stop.Stop.{Stop}
 use Rattle.h264_base.specs.Call.{Call, span}
 use Rattle.h264_base.specs.Meets.{Reader, Meets, Is}
-use Rattle.h264_base.proofs.OneAnswer.{answers}
 use Rattle.h264_tables.specs.declared.level.Limits.{Limits}
 use Rattle.h264_tables.specs.Level.{limits_of}
 use Rattle.h264_bits.specs.Forms.{natural, flag, optional}
@@ -28,8 +27,9 @@ use Rattle.h264_sps.specs.declared.sps.Sps.{Sps}
 use Rattle.h264_sps.specs.declared.count_type.CountType.{CountType}
 use Rattle.h264_sps.specs.Counting.{counting, of_type, lsb_type, cycle_type}
 use Rattle.h264_sps.specs.Sps.{LevelNamed, ProfileAndLevel, no_limits, max_dpb_frames, level, profile_and_level, fits, frame_size, frame_cropping, sps}
-use Rattle.h264_sps.proofs.Gives.{Gives, gives-following, gives-to, gives-met, gives-weaker, gives-derived}
+use Rattle.h264_base.proofs.Gives.{Gives, gives-following, gives-bind, gives-met, gives-weaker}
 use Rattle.h264_base.proofs.Plain.{some-same}
+use Rattle.h264_bits.proofs.Given.{gives-to}
 
 record HasRanges (s : Sps) : Type 0 where
   pub lengths : has_lengths s ≡ true
@@ -42,7 +42,7 @@ abbrev HasCount : CountType → Type 0
 HasCount c = has_count_lengths c ≡ true
 
 of-kind : (kind : ℕ) → Gives (of_type kind) HasCount
-unfolding of_type lsb_type cycle_type
+unfolding of_type lsb_type cycle_type Gives
 of-kind zero = gives-to _ _ _ _ (λ n h. few n h)
 of-kind (suc zero) = gives-following _ _ _
     (λ _. gives-following _ _ _ (λ _. gives-following _ _ _ (λ _. gives-following _ _ _ (λ _. gives-following _ _ _ (λ _. refl)))))
@@ -63,17 +63,17 @@ level-of None h b = cc
 level-of (Some l) h b = (refl, b)
 
 level-gives : (set3 : Bool) → Gives (level set3) (HasLevel set3)
-unfolding level read_word support check ◌>>=◌
+unfolding level read_word support check ◌>>=◌ Gives
 level-gives set3 = λ e _ t. let l = level-of (limits_of (natural e.value) set3) t (limits-bounded (natural e.value) set3) in record { is = l.0; small = l.1 }
 
 abbrev HasFront : ProfileAndLevel → Type 0
 HasFront f = HasLevel f.flags.set3 f.named
 
 front-gives : (target : Target) → Gives (profile_and_level target) HasFront
-unfolding profile_and_level check
+unfolding profile_and_level check Gives
 front-gives target = gives-following _ _ _
     (λ profile. gives-following _ _ _ (λ flags. gives-following _ _ _
-    (λ _. gives-following _ _ _ (λ reserved. gives-met (level flags.set3) _ (HasLevel flags.set3) _ (level-gives flags.set3) (λ named h. h)))))
+    (λ _. gives-following _ _ _ (λ reserved. gives-bind (HasLevel flags.set3) _ (level flags.set3) _ (level-gives flags.set3) (λ named h. h)))))
 
 -- the size is one of the level
 record HasSize (limits : Limits) (refs : ℕ) (size : Size) : Type 0 where
@@ -85,7 +85,7 @@ record HasSize (limits : Limits) (refs : ℕ) (size : Size) : Type 0 where
   pub references : refs ≤ max_dpb_frames limits size
 
 size-gives : (limits : Limits) (refs : ℕ) → Gives (frame_size limits refs) (HasSize limits refs)
-unfolding frame_size fits read_word check ◌>>=◌
+unfolding frame_size fits read_word check ◌>>=◌ Gives
 size-gives limits refs = λ w h a b c d. record {
   wide = omega arith;
   high = omega arith;
@@ -107,7 +107,7 @@ abbrev HasCrop : Size → Option FrameCropping → Type 0
 HasCrop size o = crops_within size o ≡ true
 
 crop-gives : (size : Size) → Gives (frame_cropping size) (λ c. is_within size c ≡ true)
-unfolding frame_cropping read_word check ◌>>=◌
+unfolding frame_cropping read_word check ◌>>=◌ Gives
 crop-gives size = λ l r a t b c. and_from _ _ (below _ _ a) (below _ _ c)
   where
     below : (n m : ℕ) → nat_lt (2 * n) (16 * m) ≡ true → nat_lt n (8 * m) ≡ true
@@ -115,11 +115,11 @@ crop-gives size = λ l r a t b c. and_from _ _ (below _ _ a) (below _ _ c)
 
 flagged-gives : {A : Type 0} (present : Grammar Bool) (part : Grammar A) (P : Option A → Type 0) → P None → Gives part (λ x. P (Some x)) →
     Gives (flagged present part) P
-unfolding flagged optional
+unfolding flagged optional Gives
 flagged-gives present part P none some = gives-following _ _ _ by
   where
     by : (b : Bool) → Gives (optional b part) P
-    by true = gives-met part _ (λ x. P (Some x)) P some (λ x h. h)
+    by true = gives-bind (λ x. P (Some x)) P part _ some (λ x h. h)
     by false = none
 
 -- the buffer holds the reference frames, and no more than the level allows, where its size is given
@@ -133,11 +133,11 @@ HasBuffering refs max o = (frames : ℕ) →
 
 check-gives : {B : Type 0} (rule : Rule) (bit : ℕ) (holds : Bool) (f : Unit {0} → Grammar B) (P : B → Type 0) → (IsTrue holds → Gives (f tt) P) →
     Gives (check rule bit holds >>= f) P
-unfolding check ◌>>=◌
+unfolding check ◌>>=◌ Gives
 check-gives rule bit holds f P h = h
 
 restriction-gives : (refs max : ℕ) → Gives (bitstream_restriction refs max) (λ r. FitsIn refs max r.max_dec_frame_buffering)
-unfolding bitstream_restriction
+unfolding bitstream_restriction Gives
 restriction-gives refs max = gives-following _ _ _
     (λ over. gives-following _ _ _ (λ bytes. gives-following _ _ _
     (λ mb_bits. gives-following _ _ _ (λ across. gives-following _ _ _
@@ -155,13 +155,13 @@ abbrev IsBuffering : ℕ → ℕ → Option BitstreamRestriction → Type 0
 IsBuffering refs max o = (frames : ℕ) → option_map (λ (r : BitstreamRestriction). r.max_dec_frame_buffering) o ≡ Some frames → FitsIn refs max frames
 
 vui-gives : (refs max : ℕ) → Gives (vui refs max) (λ v. HasBuffering refs max (Some v))
-unfolding vui
+unfolding vui Gives
 vui-gives refs max = gives-following _ _ _
     (λ _. gives-following _ _ _ (λ _. gives-following _ _ _
     (λ _. gives-following _ _ _ (λ _. gives-following _ _ _
     (λ _. gives-following _ _ _ (λ _. gives-following _ _ _
     (λ _. gives-following _ _ _ (λ _. gives-following _ _ _
-    (λ _. gives-met (flagged (flag BitstreamRestrictionFlag) (bitstream_restriction refs max)) _ (IsBuffering refs max) _
+    (λ _. gives-bind (IsBuffering refs max) _ (flagged (flag BitstreamRestrictionFlag) (bitstream_restriction refs max)) _
     (flagged-gives (flag BitstreamRestrictionFlag) (bitstream_restriction refs max) (IsBuffering refs max) (none-given refs max)
     (gives-weaker (bitstream_restriction refs max) (λ r. FitsIn refs max r.max_dec_frame_buffering) (λ r. IsBuffering refs max (Some r))
     (restriction-gives refs max) (λ r h. restricted refs max r h))) (λ o h. h))))))))))
@@ -185,17 +185,17 @@ frame-of limits refs size small h =
     (le-leb size.height 543 (side size.height limits.max_fs h.down small)))))
 
 sps-gives : (target : Target) → Gives (sps target) HasRanges
-unfolding sps is_usable
-sps-gives target = gives-met (profile_and_level target) _ HasFront _ (front-gives target)
+unfolding sps is_usable Gives
+sps-gives target = gives-bind HasFront _ (profile_and_level target) _ (front-gives target)
     (λ front level. gives-following _ _ _ (λ id. gives-to _ _ _ _
-    (λ log2 short. gives-met counting _ HasCount _ counts
+    (λ log2 short. gives-bind HasCount _ counting _ counts
     (λ count e. gives-following _ _ _ (λ refs. gives-following _ _ _
-    (λ _. gives-met (frame_size front.named.limits refs) _ (HasSize front.named.limits refs) _ (size-gives front.named.limits refs)
+    (λ _. gives-bind (HasSize front.named.limits refs) _ (frame_size front.named.limits refs) _ (size-gives front.named.limits refs)
     (λ size fits. gives-following _ _ _ (λ _. gives-following _ _ _ (λ _.
-    gives-met (flagged (flag FrameCroppingFlag) (frame_cropping size)) _ (HasCrop size) _
+    gives-bind (HasCrop size) _ (flagged (flag FrameCroppingFlag) (frame_cropping size)) _
     (flagged-gives (flag FrameCroppingFlag) (frame_cropping size) (HasCrop size) refl (crop-gives size)) (λ crop within.
-    gives-met (flagged (flag VuiParametersPresentFlag) (vui refs (max_dpb_frames front.named.limits size))) _
-    (HasBuffering refs (max_dpb_frames front.named.limits size)) _
+    gives-bind (HasBuffering refs (max_dpb_frames front.named.limits size)) _
+    (flagged (flag VuiParametersPresentFlag) (vui refs (max_dpb_frames front.named.limits size))) _
     (flagged-gives (flag VuiParametersPresentFlag) (vui refs (max_dpb_frames front.named.limits size))
     (HasBuffering refs (max_dpb_frames front.named.limits size)) (none-given refs (max_dpb_frames front.named.limits size))
     (vui-gives refs (max_dpb_frames front.named.limits size))) (λ usability buffering.
@@ -216,8 +216,5 @@ gives-accepted target = gives-weaker (sps target) HasRanges (λ s. is_accepted s
 -- so is one that was read
 pub read-accepted : {S : Type 0} {took : S → List Call → Type 0} {failures : S → ℕ} {old new : Reader} {s s' : S} (target : Target) (r : Result Sps Stop) →
     Meets (span took failures s s') (Is (λ (x : Sps). x)) (sps target) old new r → IfOk r (λ s. is_accepted s ≡ true)
-read-accepted {old = old} {new} target (Ok x) m =
-    let a = answers m in
-    subst (λ (s : Sps). is_accepted s ≡ true) a.2
-    (gives-derived (sps target) (λ s. is_accepted s ≡ true) old.body old.at a.0 new.at a.1 (gives-accepted target) a.3)
+read-accepted target (Ok x) m = gives-met (λ s. is_accepted s ≡ true) (gives-accepted target) m
 read-accepted target (Err e) m = tt

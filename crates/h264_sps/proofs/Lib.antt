@@ -6,5 +6,4 @@ pub mod Padded
 pub mod Regroup
 pub mod Types
 pub mod Limits
-pub mod Gives
 pub mod Accepted

@@ -10,12 +10,12 @@ use Rattle.h264_near.specs.declared.partition.SubPartition.{SubPartition}
 use Rattle.h264_near.specs.declared.partition.SubPartition.TheVariants as sub
 use Rattle.h264_near.specs.declared.partition.Partition.{Partition}
 use Rattle.h264_near.specs.declared.partition.Partition.TheVariants.{P16x16, P16x8, P8x16, P8x8}
-use Rattle.h264_near.specs.Coded.{column_of, row_of}
+use Rattle.h264_plane.specs.Blocks.{column_of, row_of}
 use Rattle.h264_near.specs.Partition.{first_in_sub, first_of, MovesByPartition}
 use Rattle.h264_vectors.specs.declared.part.Direction.TheVariants as direction
 use Rattle.h264_vectors.specs.declared.part.Part.{Part}
 use Rattle.h264_vectors.specs.Vectors.{part}
-use Rattle.h264_vectors.specs.Derived.{is_inside, in_part, with_part, sub_parts_of}
+use Rattle.h264_vectors.specs.Derived.{is_inside, in_part, with_part, parts_of, sub_parts_of}
 use Rattle.h264_vectors.specs.Partitions.{sub_partition_of, IsOfType}
 use Rattle.h264_vectors.specs.Agrees.{is_on_one_side, are_on_one_side, StayAlike}
 
@@ -106,17 +106,14 @@ within-small (suc zero) = omega arith
 within-small (suc (suc zero)) = omega arith
 within-small (suc (suc (suc t))) = omega arith
 
-within-parts : (x y t : ℕ) → sub_parts_of x y t ≡ sub_parts_of x y (within3 t)
-within-parts x y zero = refl
-within-parts x y (suc zero) = refl
-within-parts x y (suc (suc zero)) = refl
-within-parts x y (suc (suc (suc t))) = refl
-
 within-type : (t : ℕ) → sub_partition_of t ≡ sub_partition_of (within3 t)
 within-type zero = refl
 within-type (suc zero) = refl
 within-type (suc (suc zero)) = refl
 within-type (suc (suc (suc t))) = refl
+
+within-parts : (x y t : ℕ) → sub_parts_of x y t ≡ sub_parts_of x y (within3 t)
+within-parts x y t = ap (parts_of x y) (within-type t)
 
 -- the first block of the partition of a block, in a sub-macroblock of this type
 abbrev first_by : ℕ → ℕ → ℕ

@@ -11,7 +11,8 @@ use Rattle.h264_base.specs.Meets.{Reader, Meets}
 use Rattle.h264_base.proofs.Steps.{bind_as, stop, done}
 use Rattle.h264_near.specs.declared.motion.Motion.{Motion}
 use Rattle.h264_near.specs.declared.motion.Vector.{Vector}
-use Rattle.h264_near.specs.Coded.{CodedMacroblock, column_of, row_of}
+use Rattle.h264_plane.specs.Blocks.{column_of, row_of}
+use Rattle.h264_near.specs.Coded.{CodedMacroblock}
 use Rattle.h264_vectors.specs.Vectors.{predicted_vector}
 use Rattle.h264_vectors.specs.declared.part.Part.{Part}
 use Rattle.h264_vectors.specs.declared.slice.SliceContext.{SliceContext}

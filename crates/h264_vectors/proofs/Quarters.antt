@@ -7,7 +7,7 @@ use Rattle.std.proofs.lemmas.List.{ext_get_or, get_or-set_other, length-set}
 use Rattle.std.proofs.lemmas.List.FromFn.{get_or-map-range_with_len, length-map-range_with_len}
 use Rattle.std.proofs.lemmas.Grind.{get_or-set_at}
 use Rattle.h264_near.specs.declared.motion.Motion.{Motion}
-use Rattle.h264_near.specs.Coded.{column_of, row_of}
+use Rattle.h264_plane.specs.Blocks.{column_of, row_of}
 use Rattle.h264_vectors.specs.declared.part.Part.{Part}
 use Rattle.h264_vectors.specs.Derived.{lies, is_inside, in_part, with_part}
 use Rattle.h264_vectors.specs.Agrees.{IsOfQuarters, IsQuarterFilled}
@@ -29,8 +29,8 @@ has_quarter p q = lies p.x p.wide (q % 2 * 2) && lies p.y p.high (q / 2 * 2)
 inside-quarter : (p : Part) (q k : ℕ) → IsOfQuarters p → k / 4 ≡ q → is_inside p k ≡ has_quarter p q
 unfolding column_of row_of
 inside-quarter p q k w e =
-    let column : k / 4 % 2 * 2 + k % 2 ≡ q % 2 * 2 + k % 2 = rw e refl in
-    let row : k / 8 * 2 + k / 2 % 2 ≡ q / 2 * 2 + k / 2 % 2 = omega arith in
+    let column : 2 * (k / 4 % 2) + k % 2 ≡ q % 2 * 2 + k % 2 = rw e (omega arith) in
+    let row : 2 * (k / 8) + k / 2 % 2 ≡ q / 2 * 2 + k / 2 % 2 = omega arith in
     rw (column, row, lies-even p.x p.wide (q % 2) (k % 2) w.0 w.1 (omega arith), lies-even p.y p.high (q / 2) (k / 2 % 2) w.2 w.3 (omega arith)) refl
 
 -- the rule by quarters, where it is known whether the part has the quarter

@@ -1,5 +1,5 @@
 -- References and vectors of a macroblock's blocks, part by part (8.4.1), and the range of vectors (A.3.1). To be read beside the standard.
-use Rattle.std.specs.Prelude.{ℕ, zero, suc, ◌+◌, nat_lt, int_le, Bool, true, ◌&&◌, not, List, [], ◌∷◌, map, replicate, Option, Some, None, ℤ, pos, ◌+ℤ◌}
+use Rattle.std.specs.Prelude.{ℕ, ◌+◌, nat_lt, int_le, Bool, true, ◌&&◌, not, List, [], ◌∷◌, map, replicate, Option, Some, None, ℤ, pos, ◌+ℤ◌}
 use Rattle.std.specs.Prelude.{slice_get, if◌then◌else◌}
 use Rattle.std.specs.Option.{is_some, unwrap_or, option_and_then}
 use Rattle.std.specs.Int.Signed.{lt_z}
@@ -7,21 +7,29 @@ use Rattle.std.specs.List.{range_with_len}
 use Rattle.std.proofs.Common.{get_or}
 use Rattle.h264_near.specs.declared.motion.Motion.{Motion}
 use Rattle.h264_near.specs.declared.motion.Vector.{Vector}
-use Rattle.h264_near.specs.Coded.{CodedMacroblock, column_of, row_of}
+use Rattle.h264_near.specs.declared.partition.SubPartition.{SubPartition}
+use Rattle.h264_near.specs.declared.partition.SubPartition.TheVariants as sub
+use Rattle.h264_plane.specs.Blocks.{column_of, row_of}
+use Rattle.h264_near.specs.Coded.{CodedMacroblock}
 use Rattle.h264_vectors.specs.declared.part.Direction.TheVariants as direction
 use Rattle.h264_vectors.specs.declared.part.Part.{Part}
 use Rattle.h264_vectors.specs.declared.part.PredictedPart.{PredictedPart}
 use Rattle.h264_vectors.specs.declared.part.VectorDifference.{VectorDifference}
 use Rattle.h264_vectors.specs.declared.slice.SliceContext.{SliceContext}
+use Rattle.h264_vectors.specs.Partitions.{sub_partition_of}
 use Rattle.h264_vectors.specs.Vectors.{part, predicted_vector}
 
--- the parts of an 8x8 block at x and y by its sub_mb_type: 8x8, 8x4, 4x8 and 4x4 (Table 7-17)
-abbrev pub sub_parts_of : ℕ → ℕ → ℕ → List Part
-sub_parts_of x y zero = part x y 2 2 direction.Median ∷ []
-sub_parts_of x y (suc zero) = part x y 2 1 direction.Median ∷ part x (y + 1) 2 1 direction.Median ∷ []
-sub_parts_of x y (suc (suc zero)) = part x y 1 2 direction.Median ∷ part (x + 1) y 1 2 direction.Median ∷ []
-sub_parts_of x y (suc (suc (suc kind))) = part x y 1 1 direction.Median ∷ part (x + 1) y 1 1 direction.Median ∷ part x (y + 1) 1 1 direction.Median
+-- the parts of a sub-macroblock at x and y (6.4.2.2)
+abbrev pub parts_of : ℕ → ℕ → SubPartition → List Part
+parts_of x y sub.P8x8 = part x y 2 2 direction.Median ∷ []
+parts_of x y sub.P8x4 = part x y 2 1 direction.Median ∷ part x (y + 1) 2 1 direction.Median ∷ []
+parts_of x y sub.P4x8 = part x y 1 2 direction.Median ∷ part (x + 1) y 1 2 direction.Median ∷ []
+parts_of x y sub.P4x4 = part x y 1 1 direction.Median ∷ part (x + 1) y 1 1 direction.Median ∷ part x (y + 1) 1 1 direction.Median
     ∷ part (x + 1) (y + 1) 1 1 direction.Median ∷ []
+
+-- the same by its sub_mb_type
+abbrev pub sub_parts_of : ℕ → ℕ → ℕ → List Part
+sub_parts_of x y sub_mb_type = parts_of x y (sub_partition_of sub_mb_type)
 
 -- the picture that an index names, if there is one to predict from
 abbrev pub picture_of : SliceContext → ℕ → Option ℕ

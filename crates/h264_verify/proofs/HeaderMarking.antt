@@ -18,7 +18,7 @@ use Rattle.h264_header.specs.declared.header.SliceUnit.{SliceUnit}
 use Rattle.h264_header.specs.Header.{header, idr_pic_id}
 use Rattle.h264_header.specs.Marking.{dec_ref_pic_marking, idr_marking}
 use Rattle.h264_header.specs.Picture.{is_reference}
-use Rattle.h264_sps.proofs.Gives.{Gives, gives-following, gives-met, gives-derived}
+use Rattle.h264_base.proofs.Gives.{Gives, gives-following, gives-bind, gives-run}
 use Rattle.h264_units.specs.UnitHeader.{nal_unit_type, nal_ref_idc, is_never_reference, fits_kind}
 use Rattle.h264_verify.specs.Units.{slice_unit_of}
 use Rattle.h264_verify.specs.Sound.{IsMarked}
@@ -32,39 +32,36 @@ pub record IsOfUnit (u : SliceUnit) (h : Header) : Type 0 where
   pub own : u.idr_pic_flag ≡ true → is_own h.marking ≡ true
 
 optional-some : {A : Type 0} (b : Bool) (g : Grammar A) → Gives (optional b g) (λ o. is_some o ≡ b)
-unfolding optional
+unfolding optional Gives
 optional-some true g = gives-following g _ (λ o. is_some o ≡ true) (λ x. refl)
 optional-some false g = refl
 
 -- that of an IDR picture
 idr-own : Gives (dec_ref_pic_marking true) (λ m. is_idr_marking m.value ≡ true)
-unfolding dec_ref_pic_marking idr_marking
+unfolding dec_ref_pic_marking idr_marking Gives
 idr-own = gives-following _ _ (λ m. is_idr_marking m.value ≡ true) (λ no_output. gives-following _ _ (λ m. is_idr_marking m.value ≡ true) (λ long_term. refl))
 
 marking-some : (b idr : Bool) → Gives (optional b (dec_ref_pic_marking idr)) (λ o. (is_some o ≡ b) × (idr ≡ true → is_own o ≡ true))
-unfolding optional
+unfolding optional Gives
 marking-some false idr = (refl, λ i. refl)
-marking-some true true = gives-met (dec_ref_pic_marking true) _ (λ m. is_idr_marking m.value ≡ true)
-    (λ o. (is_some o ≡ true) × (true ≡ true → is_own o ≡ true)) idr-own (λ m h. (refl, λ i. h))
+marking-some true true = gives-bind (λ m. is_idr_marking m.value ≡ true)
+    (λ o. (is_some o ≡ true) × (true ≡ true → is_own o ≡ true)) (dec_ref_pic_marking true) _ idr-own (λ m h. (refl, λ i. h))
 marking-some true false = gives-following _ _ (λ o. (is_some o ≡ true) × (false ≡ true → is_own o ≡ true)) (λ m. (refl, λ i. cc))
 
-header-gives : (sets : ℕ → Option (Pps × Sps)) (u : SliceUnit) → Gives (header sets u) (IsOfUnit u)
-unfolding header
+pub header-gives : (sets : ℕ → Option (Pps × Sps)) (u : SliceUnit) → Gives (header sets u) (IsOfUnit u)
+unfolding header Gives
 header-gives sets u =
     gives-following _ _ (IsOfUnit u) (λ first. gives-following _ _ (IsOfUnit u)
     (λ stated. gives-following _ _ (IsOfUnit u) (λ named. gives-following _ _ (IsOfUnit u) (λ num.
-    gives-met _ _ (λ o. is_some o ≡ u.idr_pic_flag) (IsOfUnit u) (optional-some u.idr_pic_flag idr_pic_id) (λ idr i.
+    gives-bind (λ o. is_some o ≡ u.idr_pic_flag) (IsOfUnit u) _ _ (optional-some u.idr_pic_flag idr_pic_id) (λ idr i.
     gives-following _ _ (IsOfUnit u) (λ order. gives-following _ _ (IsOfUnit u) (λ kind.
-    gives-met _ _ (λ o. (is_some o ≡ nat_lt 0 u.nal_ref_idc) × (u.idr_pic_flag ≡ true → is_own o ≡ true)) (IsOfUnit u)
+    gives-bind (λ o. (is_some o ≡ nat_lt 0 u.nal_ref_idc) × (u.idr_pic_flag ≡ true → is_own o ≡ true)) (IsOfUnit u) _ _
     (marking-some (nat_lt 0 u.nal_ref_idc) u.idr_pic_flag) (λ marking m.
     gives-following _ _ (IsOfUnit u) (λ qp. gives-following _ _ (IsOfUnit u) (λ filter. record { reference = refl; idr = i; marking = m.0; own = m.1 }))))))))))
 
 pub header-of : (sets : ℕ → Option (Pps × Sps)) (u : SliceUnit) (body : Body) (i : ℕ) (h : Header) (j : ℕ) → (run (header sets u) body i).answer ≡ Ok (h, j) →
     IsOfUnit u h
-header-of sets u body i h j e =
-    let says = subst (λ (a : Result (Header × ℕ) Stop). Says (header sets u) body i (run (header sets u) body i).elements a) e
-    (run-says (header sets u) body i) in
-    gives-derived (header sets u) (IsOfUnit u) body i _ j h (header-gives sets u) says
+header-of sets u body i h j e = gives-run (IsOfUnit u) (header sets u) body i j h (header-gives sets u) e
 
 above : (n : ℕ) → nat_lt 0 n ≡ not (n == 0)
 above n = grind (arith, nat_tests)

@@ -3,7 +3,7 @@ use Rattle.std.proofs.Common.{◌≡◌, ℕ, Bool, true, false, Option, refl, i
 use Rattle.std.specs.Option.{is_some}
 use Rattle.h264_base.specs.Grammar.{Grammar}
 use Rattle.h264_bits.specs.Forms.{natural}
-use Rattle.h264_cavlc.proofs.Gives.{Gives, gives-done, gives-any, gives-bind, gives-check}
+use Rattle.h264_base.proofs.Gives.{Gives, gives-done, gives-any, gives-bind, gives-check}
 use Rattle.h264_sps.specs.declared.sps.Sps.{Sps}
 use Rattle.h264_pps.specs.declared.Pps.{Pps}
 use Rattle.h264_header.specs.declared.header.Header.{Header}

@@ -1,6 +1,6 @@
 -- What a unit that is legal has met, and what it tells of decoded pictures.
 use Rattle.std.proofs.Common.{◌≡◌, ℕ, ◌*◌, ◌==◌, Bool, true, false, IsTrue, List, [], ◌∷◌, ◌++◌, length, inl, inr, Option, Some, None, Result, Ok, Err, refl}
-use Rattle.std.proofs.Common.{ap, sym, subst, if◌then◌else◌}
+use Rattle.std.proofs.Common.{sym, subst, if◌then◌else◌}
 use Rattle.std.specs.Option.{is_some}
 use Rattle.h264_verify.specs.Units.{extent_at}
 use Rattle.h264_base.specs.declared.mode.Target.{Target}
@@ -9,9 +9,7 @@ use Rattle.h264_base.specs.declared.stop.Stop.{Stop}
 use Rattle.h264_base.specs.declared.stop.Stop.TheVariants.{No}
 use Rattle.h264_base.specs.Body.{Body}
 use Rattle.h264_base.specs.Grammar.{Grammar, Element, Says}
-use Rattle.h264_base.specs.Run.{Run}
-use Rattle.h264_base.proofs.OneAnswer.{run-one}
-use Rattle.h264_cavlc.proofs.Gives.{Gives, gives-done, gives-any, gives-bind, gives-if}
+use Rattle.h264_base.proofs.Gives.{Gives, gives-done, gives-any, gives-bind, gives-if, gives-both, gives-weaker, gives-derived}
 use Rattle.h264_rbsp.specs.Rbsp.{body_of}
 use Rattle.h264_units.specs.Stream.{NalUnit}
 use Rattle.h264_sps.specs.declared.sps.Sps.{Sps}
@@ -39,8 +37,8 @@ use Rattle.h264_verify.specs.Units.{unit_call, slice_unit, other_content}
 use Rattle.h264_units.specs.UnitHeader.{is_slice}
 use Rattle.h264_verify.specs.Order.{content, content_steps, data_course, frames_at, content_course}
 use Rattle.h264_verify.specs.Verdict.{IsLegal}
-use Rattle.h264_verify.proofs.HeaderSets.{sets-given}
-use Rattle.h264_verify.proofs.HeaderMarking.{IsOfUnit, header-of, marked-of}
+use Rattle.h264_verify.proofs.HeaderSets.{HasSets, sets-given}
+use Rattle.h264_verify.proofs.HeaderMarking.{IsOfUnit, marked-of, header-gives as unit-gives}
 use Rattle.h264_verify.proofs.NamedSizes.{LeavesAlone}
 use Rattle.h264_verify.specs.Sound.{is_own}
 use Rattle.h264_verify.specs.Sound.{IsMarked}
@@ -94,7 +92,7 @@ reads body g bit next calls c (inr h) = absurd (let e = h.4 in cc)
 -- what the derivation of a structure gives
 pub given : {A : Type 0} (P : A → Type 0) (g : Grammar A) (body : Body) (i : ℕ) (es : List Element) (x : A) (j : ℕ) → Gives g P →
     Says g body i es (Ok (x, j)) → P x
-given {A} P g body i es x j h s = h.gives body i x j (ap (λ (r : Run A). r.answer) (run-one g body i es (Ok (x, j)) s))
+given P g body i es x j h s = gives-derived g P body i es j x h s
 
 -- ---- a unit
 
@@ -159,10 +157,8 @@ pub record IsHeader (sets : ℕ → Option (Pps × Sps)) (u : SliceUnit) (h : He
   pub unit : IsOfUnit u h
 
 header-gives : (sets : ℕ → Option (Pps × Sps)) (u : SliceUnit) → Gives (header sets u) (IsHeader sets u)
-header-gives sets u = record {
-  gives = λ body i h j e. let g = sets-given sets u in
-      record { named = g.gives body i h j e; unit = header-of sets u body i h j e };
-}
+header-gives sets u = gives-weaker (header sets u) _ (IsHeader sets u)
+    (gives-both (HasSets sets) (IsOfUnit u) (header sets u) (sets-given sets u) (unit-gives sets u)) (λ h b. record { named = b.0; unit = b.1 })
 
 -- ---- what stands in a unit
 

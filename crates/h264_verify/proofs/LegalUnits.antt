@@ -6,7 +6,7 @@ use Rattle.h264_verify.specs.Units.{extent_at}
 use Rattle.h264_base.specs.declared.mode.Target.{Target}
 use Rattle.h264_verify.specs.declared.state.Depth.TheVariants as depths
 use Rattle.h264_base.specs.Grammar.{Done, ◌>>=◌}
-use Rattle.h264_cavlc.proofs.Gives.{Gives, gives-done, gives-bind}
+use Rattle.h264_base.proofs.Gives.{Gives, gives-done, gives-bind}
 use Rattle.h264_rbsp.specs.Rbsp.{body_of}
 use Rattle.h264_units.specs.Stream.{NalUnit}
 use Rattle.h264_sps.specs.declared.sps.Sps.{Sps}

@@ -12,7 +12,7 @@ use Rattle.h264_verify.specs.declared.state.Depth.TheVariants as depths
 use Rattle.h264_base.specs.Grammar.{Done, ◌>>=◌}
 use Rattle.h264_base.proofs.Chains.{map-some, then-some}
 use Rattle.h264_bits.specs.Forms.{natural}
-use Rattle.h264_cavlc.proofs.Gives.{Gives, gives-done, gives-any, gives-bind, gives-check, gives-if}
+use Rattle.h264_base.proofs.Gives.{Gives, gives-done, gives-any, gives-bind, gives-check, gives-if}
 use Rattle.h264_rbsp.specs.Rbsp.{body_of}
 use Rattle.h264_units.specs.Stream.{NalUnit}
 use Rattle.h264_tables.specs.declared.level.Limits.{Limits}

@@ -9,7 +9,7 @@ use Rattle.h264_base.specs.Grammar.{Grammar, Element, Done, HasMore, Says, ◌>>
 use Rattle.h264_base.specs.Run.{run}
 use Rattle.h264_base.proofs.OneAnswer.{run-says}
 use Rattle.h264_base.proofs.Words.{more-one}
-use Rattle.h264_sps.proofs.Gives.{Gives, gives-following, gives-met, gives-weaker, gives-derived}
+use Rattle.h264_base.proofs.Gives.{Gives, gives-following, gives-bind, gives-weaker, gives-derived}
 use Rattle.h264_near.specs.Coded.{CodedMacroblock}
 use Rattle.h264_vectors.specs.declared.slice.SliceContext.{SliceContext}
 use Rattle.h264_mbsyntax.specs.declared.slice.Standing.{Standing}
@@ -43,22 +43,24 @@ within-all picture = omega arith
 grow-on : (picture : List CodedMacroblock) (rest : Standing → List CodedMacroblock → Grammar (List CodedMacroblock)) →
     ((s : Standing) (p : List CodedMacroblock) → Gives (rest s p) (IsWithin p)) → (x : Step) → AddsAtMost picture x →
     Gives (go_on picture rest x) (IsWithin picture)
+unfolding Gives
 grow-on picture rest g None h = within-all picture
 grow-on picture rest g (Some x) h = gives-weaker (rest x.0 x.1) (IsWithin x.1) (IsWithin picture) (g x.0 x.1) (λ ms k. omega (arith, h, k))
 
 grow-one : (picture : List CodedMacroblock) (rest : Standing → List CodedMacroblock → Grammar (List CodedMacroblock)) →
     ((s : Standing) (p : List CodedMacroblock) → Gives (rest s p) (IsWithin p)) → (x : Step) → AddsOne picture x →
     Gives (go_on picture rest x) (IsShorter picture)
+unfolding Gives
 grow-one picture rest g None h = absurd h
 grow-one picture rest g (Some x) h = gives-weaker (rest x.0 x.1) (IsWithin x.1) (IsShorter picture) (g x.0 x.1) (λ ms k. omega (arith, h, k))
 
 module _ (fits : CodedMacroblock → Bool) (width : ℕ) (slice : SliceContext) where
   skip-adds : (picture : List CodedMacroblock) (bit more_skips : ℕ) → Gives (skip width slice picture bit more_skips) (AddsOne picture)
-  unfolding skip
+  unfolding skip Gives
   skip-adds picture bit k = gives-following _ _ (AddsOne picture) (λ u. length-append picture _)
 
   unskipped-adds : (left : ℕ) (picture : List CodedMacroblock) → Gives (unskipped fits width slice left picture) (AddsOne picture)
-  unfolding unskipped
+  unfolding unskipped Gives
   unskipped-adds left picture = gives-following _ _ (AddsOne picture)
       (λ a. gives-following _ _ (AddsOne picture)
       (λ u. gives-following _ _ (AddsOne picture) (λ m. gives-following _ _ (AddsOne picture) (λ v. length-append picture _))))
@@ -79,6 +81,7 @@ module _ (fits : CodedMacroblock → Bool) (width : ℕ) (slice : SliceContext) 
   type-adds slice_type.P left picture = run-adds left picture
 
   if-adds : (b : Bool) (g : Grammar Step) (picture : List CodedMacroblock) → Gives g (AddsOne picture) → Gives (if b then g else Done None) (AddsAtMost picture)
+  unfolding Gives
   if-adds true g picture h = gives-weaker g (AddsOne picture) (AddsAtMost picture) h (at-most picture)
   if-adds false g picture h = tt
 
@@ -91,10 +94,10 @@ module _ (fits : CodedMacroblock → Bool) (width : ℕ) (slice : SliceContext) 
 
   -- no macroblock goes
   grow : (n : ℕ) (standing : Standing) (picture : List CodedMacroblock) → Gives (macroblocks fits width slice n standing picture) (IsWithin picture)
-  unfolding macroblocks
-  grow zero standing picture = gives-met _ _ (AddsAtMost picture) (IsWithin picture) (next-adds 0 picture standing)
+  unfolding macroblocks Gives
+  grow zero standing picture = gives-bind (AddsAtMost picture) (IsWithin picture) _ _ (next-adds 0 picture standing)
       (grow-on picture (λ s p. Done p) (λ s p. within-all p))
-  grow (suc n) standing picture = gives-met _ _ (AddsAtMost picture) (IsWithin picture) (next-adds (suc n) picture standing)
+  grow (suc n) standing picture = gives-bind (AddsAtMost picture) (IsWithin picture) _ _ (next-adds (suc n) picture standing)
       (grow-on picture (λ s p. macroblocks fits width slice n s p) (grow n))
 
   module _ (body : Body) (i j : ℕ) (es : List Element) (ms : List CodedMacroblock) where
@@ -105,7 +108,7 @@ module _ (fits : CodedMacroblock → Bool) (width : ℕ) (slice : SliceContext) 
         length picture < length ms
     adds-first true left picture rest e g d =
         gives-derived _ (IsShorter picture) body i es j ms
-        (gives-met _ _ (AddsOne picture) (IsShorter picture) (type-adds slice.slice_type left picture) (grow-one picture rest g)) d
+        (gives-bind (AddsOne picture) (IsShorter picture) _ _ (type-adds slice.slice_type left picture) (grow-one picture rest g)) d
     adds-first false left picture rest e g d = cc
 
     follows : (b c : Bool) → HasMore body.bytes i b → HasMore body.bytes i c → c ≡ true → b ≡ true

@@ -12,8 +12,6 @@ use Rattle.h264_verify.proofs.FamiliesAgree.{of-more}
 use Rattle.h264_base.specs.Body.{Body}
 use Rattle.h264_base.specs.Grammar.{Grammar, Element, Done}
 use Rattle.h264_base.specs.Grammar.{◌>>=◌ as ◌bind◌}
-use Rattle.h264_base.specs.Run.{Run}
-use Rattle.h264_base.proofs.OneAnswer.{run-one}
 use Rattle.h264_base.specs.declared.summary.Summary.{Summary}
 use Rattle.h264_units.specs.Stream.{NalUnit, Tail}
 use Rattle.h264_rbsp.specs.Rbsp.{body_of}
@@ -54,7 +52,7 @@ use Rattle.h264_verify.specs.Units.{unit_call, slice_unit, header_or_passed, oth
 use Rattle.h264_verify.specs.Buffering.{missing_on, missing_steps, told_frames, told_picture, end_frames, closing_frames, last_frames, after_all, within_newest}
 use Rattle.h264_verify.specs.Keeping.{ended_in}
 use Rattle.h264_verify.specs.Verdict.{IsLegal, AtBytes, InCourse, AreLegal, Holds, IsStopAfter, AtNext, AtTail, AtEnd, Verdict, remainder}
-use Rattle.h264_cavlc.proofs.Gives.{Gives, gives-done, gives-any, gives-bind, gives-if}
+use Rattle.h264_base.proofs.Gives.{Gives, gives-done, gives-any, gives-bind, gives-if, gives-derived}
 use Rattle.h264_verify.proofs.LegalUnit.{Met}
 use Rattle.h264_verify.proofs.HeaderSets.{sets-given, gives-choice}
 use Rattle.h264_verify.proofs.ShownFirst.{IsFirst, ended-first, within-first, missing-first, after-first, last-first}
@@ -484,7 +482,7 @@ module _ (P : List CodedPicture → Type 0) where
         Runs body (Reads g bit next) calls answer → ToldBy q a calls answer
     reads-in g bit rest a Q calls answer gives next (inl r) =
         told-after (told body r.0) r.3 calls a a answer r.6 (in-elements body r.0 a)
-        (next r.1 r.2 r.3 (gives.gives body bit r.1 r.2 (ap (λ (x : Run Content). x.answer) (run-one g body bit r.0 (Ok (r.1, r.2)) r.4))) r.5)
+        (next r.1 r.2 r.3 (gives-derived g Q body bit r.0 r.2 r.1 gives r.4) r.5)
     reads-in g bit rest a Q calls answer gives next (inr r) =
         told-stop calls a answer r.1 r.4 (a, subst (λ l. InOrder a l a) (sym r.3) (in-elements body r.0 a))
 

@@ -7,7 +7,7 @@ use Rattle.h264_base.specs.Meets.{Is}
 use Rattle.h264_base.proofs.Steps.{bind, bind_as, stop, done}
 use Rattle.h264_cavlc.specs.Block.{coefficients}
 use Rattle.h264_cavlc.specs.Zeros.{runs_before}
-use Rattle.h264_cavlc.proofs.Gives.{gives-met}
+use Rattle.h264_base.proofs.Gives.{gives-met}
 use Rattle.h264_cavlc.proofs.Counts.{HasCount, gives-count}
 use Rattle.h264_cavlc.proofs.Ends.{met-within}
 use Rattle.h264_cavlc.proofs.Single.{only-placed}

@@ -2,7 +2,7 @@ use Rattle.std.proofs.Common.{refl}
 use Rattle.std.proofs.lemmas.Result.{err_from_is_err_and}
 use Rattle.h264_base.proofs.Steps.{bind, bind_as, stop, done}
 use Rattle.h264_cavlc.specs.Block.{coefficients}
-use Rattle.h264_cavlc.proofs.Gives.{gives-met}
+use Rattle.h264_base.proofs.Gives.{gives-met}
 use Rattle.h264_cavlc.proofs.Counts.{HasCount, gives-count}
 use Rattle.h264_cavlc.proofs.Ends.{met-within}
 use Rattle.h264_cavlc.proofs.residual.read_several.Goals as goal

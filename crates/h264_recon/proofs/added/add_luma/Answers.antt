@@ -1,6 +1,6 @@
 use Rattle.std.proofs.Common.{◌≡◌, arith, refl}
 use Rattle.std.proofs.lemmas.Result.{err_from_is_err_and}
-use Rattle.h264_plane.specs.Places.{index_of}
+use Rattle.h264_plane.specs.Blocks.{number_of}
 use Rattle.h264_scale.proofs.Whole.{all_none, all_more, always, never, refused, luma_dc_unfit, luma_unfit, luma_whole}
 use Rattle.h264_recon.specs.ReadLevels.{levels_in}
 use Rattle.h264_recon.proofs.ByBlock.{none_added, luma_more, luma_added, luma_stays}
@@ -28,7 +28,7 @@ returns-in-NotCoded-clause-added c =
     (uncoded_luma l (rw c.in-NotCoded.is at c.in_ok-blocks.ensures.blocks))
 
 pub loop-b-init : goal.loop-b-init
-loop-b-init c = record { size = c.told-samples; fit = all_none _; added = none_added 16 index_of _ _ }
+loop-b-init c = record { size = c.told-samples; fit = all_none _; added = none_added 16 number_of _ _ }
 
 pub loop-b-preserved : goal.loop-b-preserved
 unfolding levels_in

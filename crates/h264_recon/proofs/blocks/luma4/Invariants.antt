@@ -1,6 +1,6 @@
 use Rattle.std.proofs.Common.{◌≡◌, ◌<◌, ℕ, IsTrue, length, true}
 use Rattle.h264_intra.specs.Luma4.{is_possible4}
-use Rattle.h264_plane.specs.Places.{column_of, row_of}
+use Rattle.h264_plane.specs.Blocks.{column_of, row_of}
 use Rattle.h264_scale.specs.Residual.{residual_at, residual_fits}
 use Rattle.h264_scale.specs.Macroblock.{luma_d, all_below}
 use Rattle.h264_recon.specs.Blocks.{sides4_of}

@@ -1,5 +1,5 @@
 use Rattle.std.proofs.Common.{◌+◌, ◌*◌}
-use Rattle.h264_near.specs.Coded.{number_of}
+use Rattle.h264_plane.specs.Blocks.{number_of}
 use Rattle.h264_near.specs.declared.partition.Partition.TheVariants.{P8x8}
 use Rattle.h264_recon.specs.Parts.{AreMade}
 use Rattle.h264_recon.specs.Predicted.{parted_motions}

@@ -1,5 +1,5 @@
 use Rattle.std.proofs.Common.{◌≡◌, ℕ, zero, suc, ◌<◌, true, ℤ, List, get_or, arith}
-use Rattle.h264_plane.specs.Places.{index_of}
+use Rattle.h264_plane.specs.Blocks.{number_of}
 use Rattle.h264_mbsyntax.specs.Stored.{shown}
 use Rattle.h264_scale.specs.Residual.{d_of, residual_fits}
 use Rattle.h264_scale.proofs.Whole.{none_fit}
@@ -15,6 +15,7 @@ pub returns-in-NotCoded : goal.returns-in-NotCoded
 returns-in-NotCoded c small x y p q = rw c.in-NotCoded.is (none_fit c.args.qp)
 
 pub returns-in-Plain : goal.returns-in-Plain
+unfolding number_of
 returns-in-Plain c small x y p q =
-    let here : index_of x y < 16 = omega arith in
-    rw c.in-Plain.is (shown_fits c.args.qp (get_or c.in-Plain.plain.totals.now (index_of x y) 0) _ (c.are_small_together.ensures small (index_of x y) here))
+    let here : number_of x y < 16 = omega arith in
+    rw c.in-Plain.is (shown_fits c.args.qp (get_or c.in-Plain.plain.totals.now (number_of x y) 0) _ (c.are_small_together.ensures small (number_of x y) here))

@@ -1,5 +1,5 @@
 use Rattle.std.proofs.Common.{◌≡◌, ℕ, ◌<◌, sym, ap, ◌∙◌, arith}
-use Rattle.h264_plane.specs.Places.{column_of, row_of}
+use Rattle.h264_plane.specs.Blocks.{column_of, row_of}
 use Rattle.h264_scale.specs.Residual.{residual_fits}
 use Rattle.h264_scale.proofs.Whole.{all_none, all_more, refused, luma_dc_unfit, luma_unfit, luma_whole, all_to}
 use Rattle.h264_recon.specs.ReadLevels.{luma_by}
@@ -11,6 +11,7 @@ returns-in_default c =
     sym (luma_dc_unfit m.qp (luma_by m.kind m) (refused _ c.in_default.ensures.range.1))
 
 pub returns-then-is_luma_small : goal.returns-then-is_luma_small
+unfolding column_of row_of
 returns-then-is_luma_small c =
     let m = c.args.mb.now in
     let l = luma_by m.kind m in
@@ -23,6 +24,7 @@ returns-then-is_luma_small c =
     sym (luma_whole m.qp l blocks.dc (all_to 16 _ each))
 
 pub returns-then-not-luma_block_fits : goal.returns-then-not-luma_block_fits
+unfolding column_of row_of
 returns-then-not-luma_block_fits c =
     let m = c.args.mb.now in
     let l = luma_by m.kind m in
@@ -34,6 +36,7 @@ pub loop-b-init : goal.loop-b-init
 loop-b-init c = all_none _
 
 pub loop-b-preserved : goal.loop-b-preserved
+unfolding column_of row_of
 loop-b-preserved c =
     let b = c.loop-b.b in
     let is = ap residual_fits (c.in-Ok.ensures.blocks.each (column_of b) (row_of b) (omega arith) (omega arith)) in

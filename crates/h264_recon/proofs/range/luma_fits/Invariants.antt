@@ -1,5 +1,5 @@
 use Rattle.std.proofs.Common.{◌≡◌, true}
-use Rattle.h264_plane.specs.Places.{column_of, row_of}
+use Rattle.h264_plane.specs.Blocks.{column_of, row_of}
 use Rattle.h264_scale.specs.Residual.{residual_fits}
 use Rattle.h264_scale.specs.Macroblock.{luma_d, all_below}
 use Rattle.h264_recon.specs.ReadLevels.{luma_by}

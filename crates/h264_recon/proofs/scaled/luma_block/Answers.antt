@@ -1,5 +1,5 @@
-use Rattle.std.proofs.Common.{◌↔◌, ◌+◌, ◌*◌, ℕ, ℤ, [], IsOk, IfOk, IsTrue, unwrap_or, get_or, pos, rules, FitsSigned, w16, subst}
-use Rattle.h264_plane.specs.Places.{column_of, row_of}
+use Rattle.std.proofs.Common.{◌↔◌, ◌≡◌, refl, ◌∙◌, ◌+◌, ◌*◌, ℕ, ℤ, [], IsOk, IfOk, IsTrue, unwrap_or, get_or, pos, rules, FitsSigned, w16, subst}
+use Rattle.h264_plane.specs.Blocks.{column_of, row_of}
 use Rattle.h264_scale.specs.Residual.{residual_fits, residual_at, HasEntries}
 use Rattle.h264_scale.proofs.Whole.{always, none_fit}
 use Rattle.h264_recon.proofs.ByBlock.{none_coded}
@@ -31,17 +31,19 @@ pub returns-in-WithDc-clause-range : goal.returns-in-WithDc-clause-range
 returns-in-WithDc-clause-range c =
     let a = c.args in
     let p = c.in-WithDc.with in
-    let x = get_or p.dc (4 * row_of a.b + column_of a.b) (pos 0) in
+    let x = get_or p.dc (4 * c.row-y.result + c.column-x.result) (pos 0) in
     let fits : FitsSigned w16 x = search rules in
-    let is = with_dc_at a.qp a.b p _ _ c.requires.block (kept16 x fits) c.levels_at-in-WithDc.ensures in
+    let place : x ≡ get_or p.dc (4 * row_of a.b + column_of a.b) (pos 0) = rw (c.row-y.ensures.here, c.column-x.ensures.here) refl in
+    let is = with_dc_at a.qp a.b p _ _ c.requires.block (kept16 x fits ∙ place) c.levels_at-in-WithDc.ensures in
     rw c.in-WithDc.is (subst (λ (d : ℕ → ℕ → ℤ). IsOk c.block_with_dc.result ↔ IsTrue (residual_fits d)) is c.block_with_dc.ensures.range)
 
 pub returns-in-WithDc-clause-residual : goal.returns-in-WithDc-clause-residual
 returns-in-WithDc-clause-residual c =
     let a = c.args in
     let p = c.in-WithDc.with in
-    let x = get_or p.dc (4 * row_of a.b + column_of a.b) (pos 0) in
+    let x = get_or p.dc (4 * c.row-y.result + c.column-x.result) (pos 0) in
     let fits : FitsSigned w16 x = search rules in
-    let is = with_dc_at a.qp a.b p _ _ c.requires.block (kept16 x fits) c.levels_at-in-WithDc.ensures in
+    let place : x ≡ get_or p.dc (4 * row_of a.b + column_of a.b) (pos 0) = rw (c.row-y.ensures.here, c.column-x.ensures.here) refl in
+    let is = with_dc_at a.qp a.b p _ _ c.requires.block (kept16 x fits ∙ place) c.levels_at-in-WithDc.ensures in
     rw c.in-WithDc.is (subst (λ (d : ℕ → ℕ → ℤ). IfOk c.block_with_dc.result (λ r. HasEntries (unwrap_or r []) (residual_at d))) is
     c.block_with_dc.ensures.residual)

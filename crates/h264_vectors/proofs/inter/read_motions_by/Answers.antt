@@ -1,7 +1,7 @@
 use Rattle.std.proofs.Common.{eq-eqb, refl}
 use Rattle.std.proofs.lemmas.Result.{on_ok_weaker}
 use Rattle.h264_vectors.proofs.Partitions.{moves16x8, moves8x16, of-four}
-use Rattle.h264_near.specs.Coded.{column_of, row_of}
+use Rattle.h264_plane.specs.Blocks.{column_of, row_of}
 use Rattle.h264_vectors.specs.Agrees.{places_with}
 use Rattle.h264_vectors.specs.Inter.{motions_by}
 use Rattle.h264_vectors.proofs.inter.read_motions_by.Goals as goal

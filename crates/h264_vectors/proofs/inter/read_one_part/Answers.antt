@@ -4,7 +4,7 @@ use Rattle.h264_base.proofs.Steps.{bind, stop}
 use Rattle.std.proofs.Common.{replicate}
 use Rattle.h264_vectors.proofs.Parts.{starts}
 use Rattle.h264_vectors.proofs.Partitions.{moves16x16}
-use Rattle.h264_near.specs.Coded.{column_of, row_of}
+use Rattle.h264_plane.specs.Blocks.{column_of, row_of}
 use Rattle.h264_vectors.specs.Agrees.{places_with}
 use Rattle.h264_vectors.specs.Inter.{one_part}
 use Rattle.h264_vectors.specs.Derived.{none_yet}

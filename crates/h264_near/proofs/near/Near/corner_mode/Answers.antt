@@ -1,6 +1,6 @@
 use Rattle.std.proofs.Common.{◌≡◌, ◌-◌, ◌<◌, arith, None, ◌∙◌}
 use Rattle.std.proofs.lemmas.List.{get_or_default}
-use Rattle.h264_near.specs.Coded.{column_of, row_of}
+use Rattle.h264_plane.specs.Blocks.{column_of, row_of}
 use Rattle.h264_near.proofs.Lookups.{within-column, within-row, corner-earlier, mode-own, mode-left, mode-upper, mode-corner}
 use Rattle.h264_near.proofs.near.Near.corner_mode.Goals as goal
 

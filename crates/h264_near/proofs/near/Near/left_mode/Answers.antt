@@ -1,5 +1,5 @@
 use Rattle.std.proofs.Common.{◌≡◌, ◌-◌, ◌<◌, refl, arith}
-use Rattle.h264_near.specs.Coded.{column_of, row_of}
+use Rattle.h264_plane.specs.Blocks.{column_of, row_of}
 use Rattle.h264_near.proofs.Lookups.{within-column, within-row, left-earlier, mode-own, mode-left}
 use Rattle.h264_near.proofs.near.Near.left_mode.Goals as goal
 

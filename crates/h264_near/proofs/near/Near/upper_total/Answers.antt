@@ -1,6 +1,6 @@
 use Rattle.std.proofs.Common.{◌≡◌, ◌-◌, ◌<◌, refl, arith, None, ◌∙◌}
 use Rattle.std.proofs.lemmas.List.{get_or_default}
-use Rattle.h264_near.specs.Coded.{column_of, row_of}
+use Rattle.h264_plane.specs.Blocks.{column_of, row_of}
 use Rattle.h264_near.proofs.Lookups.{within-column, within-row, upper-earlier, total-own, total-upper}
 use Rattle.h264_near.proofs.near.Near.upper_total.Goals as goal
 

@@ -1,6 +1,6 @@
-use Rattle.std.proofs.Common.{Some, None, ◌∙◌}
+use Rattle.std.proofs.Common.{Some, None, sym, ◌∙◌}
 use Rattle.h264_base.proofs.OneAnswer.{answers}
-use Rattle.h264_picture.proofs.Steps.{no-memory, weaker}
+use Rattle.h264_picture.proofs.Steps.{no-memory, weaker, begins-there}
 use Rattle.h264_picture.specs.Lent.{frames_in}
 use Rattle.h264_picture.proofs.Canvases.{for-changed, same-some, is-begun, begun-stays}
 use Rattle.h264_picture.proofs.Turns.{lent-kept}
@@ -8,19 +8,22 @@ use Rattle.h264_picture.proofs.work.Work.slice.Goals as goal
 
 pub returns-clause-samples : goal.returns-clause-samples
 returns-clause-samples g c width size making picture h n m =
-    c.slice.ensures.meets width size (Some making) picture (rw c.in-Some.is at h) n (rw c.in-Some.is at m)
+    let k = rw c.in-Some.is at h in
+    let same = begins-there c.args.slice.now c.in-Some.sequence.picture.next (n ∙ sym k.holds.next) in
+    rw same at (c.slice.ensures.meets width size (Some making) picture k (rw same (rw c.in-Some.is at m)))
 
 pub returns-clause-meets : goal.returns-clause-meets
 returns-clause-meets g c width size picture h n =
-    weaker (λ x v k. k.holds) (c.slice.ensures.meets width size None picture (record { holds = rw c.in-Some.is at h; samples = tt }) n tt)
+    let k = rw c.in-Some.is at h in
+    rw (begins-there c.args.slice.now c.in-Some.sequence.picture.next (n ∙ sym k.next)) at
+    (weaker (λ x v k. k.holds) (c.slice.ensures.meets width size None picture (record { holds = k; samples = tt }) tt))
 
 pub returns-clause-answers : goal.returns-clause-answers
-returns-clause-answers g c width size picture h n =
-    answers (weaker (λ x v k. k.holds) (c.slice.ensures.meets width size None picture (record { holds = rw c.in-Some.is at h; samples = tt }) n tt))
+returns-clause-answers g c width size picture h n = answers (returns-clause-meets g c width size picture h n)
 
 pub returns-clause-no_memory : goal.returns-clause-no_memory
-returns-clause-no_memory g c width size picture h n =
-    no-memory (c.slice.ensures.meets width size None picture (record { holds = rw c.in-Some.is at h; samples = tt }) n tt)
+returns-clause-no_memory g c width size picture h =
+    no-memory (c.slice.ensures.meets width size None picture (record { holds = rw c.in-Some.is at h; samples = tt }) tt)
 
 pub returns-clause-kept : goal.returns-clause-kept
 returns-clause-kept g c place b = let at = rw c.in-Some.is at b in

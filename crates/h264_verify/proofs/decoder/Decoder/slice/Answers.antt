@@ -16,7 +16,7 @@ pub slice-requires-clause-active : goal.slice-requires-clause-active
 slice-requires-clause-active g c = has-places _ _ _ c.args.self.now.work c.requires.kept.holds
 
 pub returns-clause-no_memory : goal.returns-clause-no_memory
-returns-clause-no_memory g c = c.slice.ensures.no_memory _ _ _ c.requires.kept.holds c.requires.kept.next
+returns-clause-no_memory g c = c.slice.ensures.no_memory _ _ _ c.requires.kept.holds
 
 pub returns-clause-reads : goal.returns-clause-reads
 returns-clause-reads g c = λ frames p ps slices s ms t is filter weights number set o h.
