@@ -11,3 +11,5 @@ pub mod Profiles
 pub mod Reasons
 pub mod Findings
 pub mod Rates
+pub mod Summed
+pub mod Explanations

@@ -29,10 +29,6 @@ Adds old new text = is_cut new ≡ false → (is_cut old ≡ false) × (text_on 
 abbrev pub AddsFirst : Page → Page → List ℕ → Type 0
 AddsFirst old new text = is_cut new ≡ false → (is_cut old ≡ false) × ((more : List ℕ) × (text_on new ≡ text_on old ++ (text ++ more)))
 
--- Some text was added to it, or none.
-abbrev pub Grows : Page → Page → Type 0
-Grows old new = is_cut new ≡ false → (is_cut old ≡ false) × ((text : List ℕ) × (text_on new ≡ text_on old ++ text))
-
 -- ---- numbers and lines
 
 -- the three digits of a number below 1000

@@ -2,7 +2,8 @@
 #![tactic(auto)]
 
 ghost use Rattle.std.specs.Prelude.{◌≡◌, ◌+◌, ◌-◌, ◌*◌, ◌^◌, ◌<◌};
-ghost use Rattle.h264_pages.specs.Rates.{rate_in};
+ghost use Rattle.h264_pages.specs.Rates.{rate_in, shown_side};
+ghost use Rattle.h264_pages.specs.Summed.{and_picture, summed};
 
 use crate::pages::container::Start;
 use crate::pages::finding::{Finding, reason_in};
@@ -28,23 +29,35 @@ pub struct PictureCounts {
 }
 
 /// Counts pictures by kind.
-pub fn count_pictures(pictures: &[Picture]) -> PictureCounts {
+pub fn count_pictures(pictures: &[Picture]) -> PictureCounts
+    ensures { result ≡ summed pictures.now }
+{
     let mut counts = PictureCounts::default();
-    for picture in pictures.iter() {
-        match picture.kind {
-            PictureKind::Idr => counts.idr = counts.idr.saturating_add(1),
-            PictureKind::I => counts.intra = counts.intra.saturating_add(1),
-            PictureKind::P => counts.predicted = counts.predicted.saturating_add(1),
-        }
-        counts.bytes = counts.bytes.saturating_add(picture.bytes);
-        counts.largest = counts.largest.max(picture.bytes);
+    for picture in pictures {
+        counts.add(*picture);
     }
     counts
 }
 
+impl PictureCounts {
+    /// Counts one more picture.
+    fn add(&mut self, picture: Picture)
+        ensures { self.new ≡ and_picture self.old picture }
+    {
+        match picture.kind {
+            PictureKind::Idr => self.idr = self.idr.saturating_add(1),
+            PictureKind::I => self.intra = self.intra.saturating_add(1),
+            PictureKind::P => self.predicted = self.predicted.saturating_add(1),
+        }
+        self.bytes = self.bytes.saturating_add(picture.bytes);
+        self.largest = self.largest.max(picture.bytes);
+    }
+}
+
 /// The width of what is shown, in luma samples.
 pub fn shown_width(set: &Sequence) -> u64
-    ensures { 16 * set.now.width < 2 ^ 64 → 2 * (set.now.cropping.left + set.now.cropping.right) < 2 ^ 64 →
+    ensures side { result ≡ shown_side set.now.width set.now.cropping.left set.now.cropping.right }
+    ensures fits { 16 * set.now.width < 2 ^ 64 → 2 * (set.now.cropping.left + set.now.cropping.right) < 2 ^ 64 →
         result ≡ 16 * set.now.width - 2 * (set.now.cropping.left + set.now.cropping.right) }
 {
     let cut = set.cropping.left.saturating_add(set.cropping.right);
@@ -55,7 +68,8 @@ pub fn shown_width(set: &Sequence) -> u64
 
 /// The height of what is shown, in luma samples.
 pub fn shown_height(set: &Sequence) -> u64
-    ensures { 16 * set.now.height < 2 ^ 64 → 2 * (set.now.cropping.top + set.now.cropping.bottom) < 2 ^ 64 →
+    ensures side { result ≡ shown_side set.now.height set.now.cropping.top set.now.cropping.bottom }
+    ensures fits { 16 * set.now.height < 2 ^ 64 → 2 * (set.now.cropping.top + set.now.cropping.bottom) < 2 ^ 64 →
         result ≡ 16 * set.now.height - 2 * (set.now.cropping.top + set.now.cropping.bottom) }
 {
     let cut = set.cropping.top.saturating_add(set.cropping.bottom);
