@@ -1,6 +1,7 @@
 -- A page that grows, from one step to the next.
-use Rattle.std.proofs.Common.{◌≡◌, List, ℕ, [], ◌++◌, Bool, true, false, if◌then◌else◌, codes, Option, Some, None, Result, refl, sym, ap, ◌∙◌, subst}
-use Rattle.std.proofs.lemmas.List.{append-nil, append_assoc}
+use Rattle.std.proofs.Common.{◌≡◌, ◌<◌, ◌+◌, List, ℕ, [], ◌++◌, flat_map, length, take, get_or, Bool, true, false, if◌then◌else◌, codes, Option, Some}
+use Rattle.std.proofs.Common.{None, Result, refl, sym, ap, ◌∙◌, subst}
+use Rattle.std.proofs.lemmas.List.{append-nil, append_assoc, flat_map_more, take_more}
 use Rattle.h264_base.specs.declared.rule.Rule.{Rule}
 use Rattle.h264_base.specs.declared.stop.Stop.{Stop}
 use Rattle.h264_base.specs.declared.summary.Summary.{Summary}
@@ -24,6 +25,13 @@ adds-both a b c x y first second whole =
 -- four texts, one after another
 pub four-added : (a b c d e : Page) (w x y z : List ℕ) → Adds a b w → Adds b c x → Adds c d y → Adds d e z → Adds a e (w ++ (x ++ (y ++ z)))
 four-added a b c d e w x y z first second third fourth = adds-both a b e w _ first (adds-both b c e x _ second (adds-both c d e y z third fourth))
+
+-- the text of one more item
+pub each-added : {X : Type 0} (f : X → List ℕ) (a b c : Page) (xs : List X) (i : ℕ) (d : X) → i < length xs → Adds a b (flat_map f (take i xs)) →
+    Adds b c (f (get_or xs i d)) → Adds a c (flat_map f (take (i + 1) xs))
+each-added f a b c xs i d within first second =
+    subst (Adds a c) (flat_map_more f [] (take i xs) (get_or xs i d) ∙ ap (flat_map f) (sym (take_more xs i d within)))
+    (adds-both a b c (flat_map f (take i xs)) (f (get_or xs i d)) first second)
 
 -- no text
 pub adds-nothing : (a : Page) → Adds a a []

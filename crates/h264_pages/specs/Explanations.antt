@@ -8,6 +8,7 @@ use Rattle.h264_base.specs.declared.summary.Summary.{Summary}
 use Rattle.h264_lines.specs.declared.trail.Element.{Element}
 use Rattle.h264_units.specs.UnitTypes.{type_number}
 use Rattle.h264_pages.specs.Findings.{rule_in}
+use Rattle.h264_pages.specs.Pages.{number_after}
 use Rattle.h264_pages.specs.Places.{allowed_as, file_named}
 use Rattle.h264_pages.specs.Reasons.{container_name, profile_declared, cause_text, has_remedy, remedy}
 use Rattle.h264_pages.specs.declared.pages.finding.Finding.{Finding}
@@ -18,11 +19,6 @@ use Rattle.h264_pages.specs.declared.pages.reason.Reason.TheVariants as reasons
 use Rattle.h264_pages.specs.declared.survey.slice.Unit.{Unit}
 
 -- ---- where it stands
-
--- a number after a text, where there is one
-abbrev pub number_after : List ℕ → Option ℕ → List ℕ
-number_after before None = []
-number_after before (Some value) = before ++ decimal value
 
 -- the unit that was told last, by its byte and its type
 abbrev pub unit_text : Option Unit → List ℕ

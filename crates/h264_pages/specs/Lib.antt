@@ -13,3 +13,4 @@ pub mod Findings
 pub mod Rates
 pub mod Summed
 pub mod Explanations
+pub mod Info

@@ -6,7 +6,7 @@ ghost use Rattle.std.specs.Option.{option_copied};
 ghost use Rattle.h264_pages.specs.Pages.{Adds, text_on, is_cut};
 ghost use Rattle.h264_pages.specs.Findings.{rule_in};
 ghost use Rattle.h264_pages.specs.Places.{allowed_as};
-ghost use Rattle.h264_pages.specs.Explanations.{number_after, unit_text, bit_line, picture_line, macroblock_line, place_lines, element_line};
+ghost use Rattle.h264_pages.specs.Explanations.{unit_text, bit_line, picture_line, macroblock_line, place_lines, element_line};
 ghost use Rattle.h264_pages.specs.Explanations.{found_line, line_of, guide_lines, reason_line, remedy_line, given_remedy_line, end_line};
 ghost use Rattle.h264_pages.specs.Explanations.{finding_lines, explanation};
 
@@ -17,16 +17,6 @@ use crate::pages::reason::{Reason, put_cause_text, put_remedy};
 use crate::survey::{Survey, Unit};
 use h264_lines::trail::Element;
 use std::alloc::Global;
-
-/// Adds a number with its name before it, where there is one.
-fn put_named(page: &mut Page, name: &str, value: Option<u64>)
-    ensures { Adds page.old page.new (number_after name.now value) }
-{
-    if let Some(value) = value {
-        page.put(name);
-        page.number(value);
-    }
-}
 
 /// Adds the unit that was told last.
 fn put_unit(page: &mut Page, unit: Option<Unit>)
@@ -59,8 +49,8 @@ fn put_picture(page: &mut Page, finding: &Finding)
     if let Some(picture) = finding.picture {
         page.put("explain picture ");
         page.number(picture);
-        put_named(page, " frame ", finding.frame_num);
-        put_named(page, " slice ", finding.slice);
+        page.number_after(" frame ", finding.frame_num);
+        page.number_after(" slice ", finding.slice);
         page.put("\n");
     }
 }

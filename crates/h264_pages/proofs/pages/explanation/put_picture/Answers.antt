@@ -10,5 +10,5 @@ returns-in-Some c =
     let last = c.put-in-Some.new.self in
     subst (λ p. Adds a last (picture_line p c.args.finding.now.frame_num c.args.finding.now.slice)) (sym c.in-Some.is)
     (adds-both a c.put.new.self last _ _ c.put.ensures
-    (four-added c.put.new.self c.number.new.self c.put_named.new.page c.put_named-in-Some.new.page last _ _ _ _ c.number.ensures c.put_named.ensures
-    c.put_named-in-Some.ensures c.put-in-Some.ensures))
+    (four-added c.put.new.self c.number.new.self c.number_after.new.self c.number_after-in-Some.new.self last _ _ _ _ c.number.ensures c.number_after.ensures
+    c.number_after-in-Some.ensures c.put-in-Some.ensures))

@@ -12,5 +12,6 @@ returns c =
     let n = c.put_line.new.page in
     let words : List ℕ = remedy c.args.reason (option_copied c.args.file) in
     subst (λ b. Adds a n (if b then line_of (codes "explain remedy ") words else [])) c.put_remedy-has_remedy.ensures.is_there
-    (part-added a n c.new-remedy.result c.put_remedy-has_remedy.new.page (line_of (codes "explain remedy ")) words c.put_remedy-has_remedy.result c.new-remedy.ensures.blank
+    (part-added a n c.new-remedy.result c.put_remedy-has_remedy.new.page (line_of (codes "explain remedy ")) words c.put_remedy-has_remedy.result
+    c.new-remedy.ensures.blank
     c.put_remedy-has_remedy.ensures.text c.put_line.ensures.text c.put_line.ensures.whole)
