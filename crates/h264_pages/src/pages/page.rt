@@ -96,9 +96,9 @@ impl Page {
     pub fn number_after(&mut self, before: &str, value: Option<u64>)
         ensures { Adds self.old self.new (pages.number_after before.now value) }
     {
-        if let Some(value) = value {
+        if let Some(number) = value {
             self.put(before);
-            self.number(value);
+            self.number(number);
         }
     }
 
