@@ -11,3 +11,6 @@ pub mod Profiles
 pub mod Reasons
 pub mod Findings
 pub mod Rates
+pub mod Summed
+pub mod Explanations
+pub mod Info

@@ -29,10 +29,6 @@ Adds old new text = is_cut new ≡ false → (is_cut old ≡ false) × (text_on 
 abbrev pub AddsFirst : Page → Page → List ℕ → Type 0
 AddsFirst old new text = is_cut new ≡ false → (is_cut old ≡ false) × ((more : List ℕ) × (text_on new ≡ text_on old ++ (text ++ more)))
 
--- Some text was added to it, or none.
-abbrev pub Grows : Page → Page → Type 0
-Grows old new = is_cut new ≡ false → (is_cut old ≡ false) × ((text : List ℕ) × (text_on new ≡ text_on old ++ text))
-
 -- ---- numbers and lines
 
 -- the three digits of a number below 1000
@@ -42,6 +38,11 @@ three_digits n = (48 + n / 100) ∷ (48 + n / 10 % 10) ∷ (48 + n % 10) ∷ []
 -- a number of thousandths, with three decimals
 abbrev pub thousandths : ℕ → List ℕ
 thousandths n = decimal (n / 1000) ++ (codes "." ++ three_digits (n % 1000))
+
+-- a number after a text, where there is one
+abbrev pub number_after : List ℕ → Option ℕ → List ℕ
+number_after before None = []
+number_after before (Some value) = before ++ decimal value
 
 -- characters that follow one: before each that follows a line end stands a prefix
 abbrev pub prefixed_after : List ℕ → ℕ → List ℕ → List ℕ

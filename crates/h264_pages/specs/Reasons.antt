@@ -178,3 +178,17 @@ remedy reason file = []
 abbrev pub has_remedy : Reason → Bool
 has_remedy (reasons.Container container) = true
 has_remedy reason = false
+
+-- its field, where there is one
+abbrev pub remedy_field : Reason → Option (List ℕ) → List ℕ
+remedy_field reason file = if has_remedy reason then text_field (codes "remedy") (remedy reason file) else []
+
+-- the fields of a reason, where there is one, and of what to do about it with a file of this name
+abbrev pub remedied_fields : Option (List ℕ) → Option Reason → List ℕ
+remedied_fields file None = []
+remedied_fields file (Some reason) = reason_fields reason ++ remedy_field reason file
+
+-- what causes an answer: what the input is, where it is no stream for this program; else what usually does
+abbrev pub cause_text : Option Reason → (usual : List ℕ) → List ℕ
+cause_text None usual = usual
+cause_text (Some reason) usual = sentence reason

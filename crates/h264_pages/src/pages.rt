@@ -2,8 +2,8 @@
 //!
 //! `Finding::of` says where a verdict stands and what was found there. `put_explanation` and `put_verdict_fields` write it as lines and as fields of
 //! JSON, `put_info` and `put_info_object` what a stream has, and `put_page` an HTML page. All write into a `Page`, which notes a want of memory and
-//! never fails a call. The fields of a verdict and of its place, names, numbers and reasons are stated (`specs/`). The lines of an explanation and of
-//! `put_info`, what a rule allows, and the page are tested.
+//! never fails a call. The fields of a verdict, the lines of an explanation and of `put_info`, names, numbers and reasons are stated (`specs/`). What a rule
+//! allows, and the page, are tested.
 #![tactic(auto)]
 
 pub mod album;

@@ -1,18 +1,19 @@
 //! Where a verdict stands, and what was found there.
 #![tactic(auto)]
 
-ghost use Rattle.std.specs.Prelude.{◌≡◌, ◌/◌, ◌&&◌, None, Some, IfSome, is_some, option_map, option_and_then, find, reverse};
+ghost use Rattle.std.specs.Prelude.{◌≡◌, ◌/◌, ◌&&◌, None, Some, IfSome, is_some, option_map, option_and_then, find, reverse, length};
 ghost use Rattle.circular_buffer.specs.Buffer.{last_item};
 ghost use Rattle.h264_pages.specs.declared.pages.finding.Finding.{Finding};
+ghost use Rattle.h264_pages.specs.declared.pages.finding.Guide.{Guide};
 ghost use Rattle.h264_lines.specs.declared.trail.Element.{Element};
-ghost use Rattle.h264_pages.specs.Findings.{rule_in, macroblock_at, macroblock_in, frame_num_in};
+ghost use Rattle.h264_pages.specs.Findings.{rule_in, macroblock_at, macroblock_in, frame_num_in, number_before, picture_of_slice, picture_in, slice_in};
 ghost use Rattle.h264_pages.specs.Places.{bit_in};
 ghost use Rattle.h264_pages.specs.Surveyed.{begins_at};
 
 use crate::pages::container::Start;
 use crate::pages::reason::Reason;
 use crate::rules::{entry_of, entry_of_feature};
-use crate::survey::Survey;
+use crate::survey::{Slice, Survey};
 use h264_base::{ElementName, Rule, Stop, Summary};
 use h264_lines::trail::Element;
 
@@ -101,7 +102,9 @@ pub fn guide_on(answer: Answer, file: &str) -> Option<Guide<'_>>
 }
 
 /// The file's name, where a guide has it.
-pub(crate) fn file_in(guide: Option<Guide<'_>>) -> Option<&'_ str> {
+pub(crate) fn file_in(guide: Option<Guide<'_>>) -> Option<&'_ str>
+    ensures { result ≡ option_and_then (λ (g : Guide). g.file) guide.entry }
+{
     guide?.file
 }
 
@@ -113,7 +116,7 @@ pub(crate) fn reason_in(finding: Option<Finding>) -> Option<Reason>
 }
 
 /// The rule that an answer names.
-fn rule_of(answer: Answer) -> Option<Rule>
+pub(crate) fn rule_of(answer: Answer) -> Option<Rule>
     ensures { result ≡ rule_in answer }
 {
     match answer {
@@ -160,15 +163,36 @@ fn macroblock_read(survey: &Survey) -> Option<Macroblock>
     Some(macroblock_of(address, set.width))
 }
 
-/// The number of the picture that is read. A first_mb_in_slice of 0 that is refused begins none.
-fn picture_read(survey: &Survey, rule: Option<Rule>) -> Option<u64> {
-    let begun = survey.picture_count();
-    if rule == Some(Rule::Incomplete) {
-        return begun.checked_sub(1);
+/// The number so many before one, where there is one.
+fn number_before(less: u64, number: u64) -> Option<u64>
+    ensures { result ≡ number_before less number }
+{
+    if less <= number {
+        Some(number - less)
+    } else {
+        None
     }
-    let slice = survey.slice?;
-    let refused = rule == Some(Rule::FirstMb) && slice.first_mb_in_slice == 0;
-    begun.checked_sub(if refused { 2 } else { 1 })
+}
+
+/// The number of the picture that is read, of which so many were begun. A first_mb_in_slice of 0 that is refused begins none.
+fn picture_of_slice(rule: Option<Rule>, begun: u64, slice: Slice) -> Option<u64>
+    ensures { result ≡ picture_of_slice rule begun slice }
+{
+    match rule {
+        Some(Rule::FirstMb) if slice.first_mb_in_slice == 0 => number_before(2, begun),
+        _ => number_before(1, begun),
+    }
+}
+
+/// The number of the picture in which this rule was broken, where a slice is read or the picture is incomplete.
+#[tactic(auto, unfolding(crate::specs::Findings::picture_in))]
+fn picture_read(survey: &Survey, rule: Option<Rule>) -> Option<u64>
+    ensures { result ≡ picture_in rule (length survey.now.pictures.list.items) survey.now.slice }
+{
+    match rule {
+        Some(Rule::Incomplete) => number_before(1, survey.picture_count()),
+        _ => picture_of_slice(rule, survey.picture_count(), survey.slice?),
+    }
 }
 
 /// The frame_num of the slice that is read.
@@ -180,7 +204,9 @@ fn frame_num_read(survey: &Survey) -> Option<u64>
 }
 
 /// The number of the slice that is read.
-fn slice_read(survey: &Survey) -> Option<u64> {
+fn slice_read(survey: &Survey) -> Option<u64>
+    ensures { result ≡ slice_in survey.now.slice survey.now.pictures.list.items }
+{
     if survey.slice.is_none() {
         return None;
     }
@@ -196,6 +222,8 @@ impl Finding {
         ensures bit { option_map (λ (f : Finding). f.bit) result ≡ bit_in answer }
         ensures element { IfSome result (λ f. f.element ≡ find (begins_at f.bit) (reverse survey.now.elements.items)) }
         ensures last { IfSome result (λ f. f.last ≡ last_item survey.now.elements.items) }
+        ensures picture { IfSome result (λ f. f.picture ≡ picture_in (rule_in answer) (length survey.now.pictures.list.items) survey.now.slice) }
+        ensures slice { IfSome result (λ f. f.slice ≡ slice_in survey.now.slice survey.now.pictures.list.items) }
         ensures frame_num { IfSome result (λ f. f.frame_num ≡ frame_num_in survey.now.slice) }
         ensures macroblock { IfSome result (λ f. f.macroblock ≡ macroblock_in survey.now) }
         ensures ends_in_unit { IfSome result (λ f. f.ends_in_unit ≡ (ended && is_some survey.now.unit)) }

@@ -311,7 +311,7 @@ fn size_read(survey: &Survey, set: &Sequence) -> Option<Size> {
 }
 
 /// Adds a size after a text, where it is known.
-fn put_size_after(page: &mut Page, before: &str, size: Option<Size>)
+pub(crate) fn put_size_after(page: &mut Page, before: &str, size: Option<Size>)
     ensures { Adds page.old page.new (size_after before.now size) }
 {
     if let Some(size) = size {

@@ -1,17 +1,26 @@
 //! What a stream has: its sets, pictures and macroblocks.
 #![tactic(auto)]
 
-ghost use Rattle.std.specs.Prelude.{◌≡◌, ◌+◌, ◌-◌, ◌*◌, ◌^◌, ◌<◌};
-ghost use Rattle.h264_pages.specs.Rates.{rate_in};
+ghost use Rattle.std.specs.Prelude.{◌≡◌, ◌+◌, ◌-◌, ◌*◌, ◌^◌, ◌<◌, Option, flat_map};
+ghost use Rattle.h264_pages.specs.Info.{set_line, sides, shown_sides, coded_sides, size_line, is_uncropped, offsets_line, cropping_line, rate_line};
+ghost use Rattle.h264_pages.specs.Info.{buffer_line, set_lines};
+ghost use Rattle.h264_pages.specs.Info.{kinds_line, bytes_line, intra_text, inter_text, macroblocks_line, count_lines, declared_line, last_set_line};
+ghost use Rattle.h264_pages.specs.Info.{why_none, no_pictures_line, picture_lines, info_lines, profile_fields, side_fields, buffer_fields, timing_fields};
+ghost use Rattle.h264_pages.specs.Info.{rate_field, set_object, declared_field, last_set_field, kind_fields, intra_fields, inter_fields};
+ghost use Rattle.h264_pages.specs.Info.{macroblocks_field, sum_fields, count_fields, after_comma, set_objects, sets_field, info_object};
+ghost use Rattle.h264_pages.specs.Pages.{Adds};
+ghost use Rattle.h264_pages.specs.declared.pages.glance.Declared.{Declared};
+ghost use Rattle.h264_pages.specs.Rates.{rate_in, shown_side};
+ghost use Rattle.h264_pages.specs.Summed.{and_picture, summed};
 
 use crate::pages::container::Start;
-use crate::pages::finding::{Finding, reason_in};
-use crate::pages::glance::Declared;
+use crate::pages::finding::Finding;
+use crate::pages::glance::{Declared, put_size_after};
 use crate::pages::object::put_size;
 use crate::pages::page::Page;
 use crate::pages::profile::{profile_of, put_level};
-use crate::pages::reason::put_sentence;
-use crate::survey::{MacroblockCounts, Picture, PictureKind, Sequence, Survey};
+use crate::pages::reason::put_cause_text;
+use crate::survey::{Cropping, MacroblockCounts, Picture, PictureKind, Sequence, Survey, Timing};
 
 /// Samples in a row of a macroblock.
 const SIDE: u64 = 16;
@@ -28,23 +37,35 @@ pub struct PictureCounts {
 }
 
 /// Counts pictures by kind.
-pub fn count_pictures(pictures: &[Picture]) -> PictureCounts {
+pub fn count_pictures(pictures: &[Picture]) -> PictureCounts
+    ensures { result ≡ summed pictures.now }
+{
     let mut counts = PictureCounts::default();
-    for picture in pictures.iter() {
-        match picture.kind {
-            PictureKind::Idr => counts.idr = counts.idr.saturating_add(1),
-            PictureKind::I => counts.intra = counts.intra.saturating_add(1),
-            PictureKind::P => counts.predicted = counts.predicted.saturating_add(1),
-        }
-        counts.bytes = counts.bytes.saturating_add(picture.bytes);
-        counts.largest = counts.largest.max(picture.bytes);
+    for picture in pictures {
+        counts.add(*picture);
     }
     counts
 }
 
+impl PictureCounts {
+    /// Counts one more picture.
+    fn add(&mut self, picture: Picture)
+        ensures { self.new ≡ and_picture self.old picture }
+    {
+        match picture.kind {
+            PictureKind::Idr => self.idr = self.idr.saturating_add(1),
+            PictureKind::I => self.intra = self.intra.saturating_add(1),
+            PictureKind::P => self.predicted = self.predicted.saturating_add(1),
+        }
+        self.bytes = self.bytes.saturating_add(picture.bytes);
+        self.largest = self.largest.max(picture.bytes);
+    }
+}
+
 /// The width of what is shown, in luma samples.
 pub fn shown_width(set: &Sequence) -> u64
-    ensures { 16 * set.now.width < 2 ^ 64 → 2 * (set.now.cropping.left + set.now.cropping.right) < 2 ^ 64 →
+    ensures side { result ≡ shown_side set.now.width set.now.cropping.left set.now.cropping.right }
+    ensures fits { 16 * set.now.width < 2 ^ 64 → 2 * (set.now.cropping.left + set.now.cropping.right) < 2 ^ 64 →
         result ≡ 16 * set.now.width - 2 * (set.now.cropping.left + set.now.cropping.right) }
 {
     let cut = set.cropping.left.saturating_add(set.cropping.right);
@@ -55,7 +76,8 @@ pub fn shown_width(set: &Sequence) -> u64
 
 /// The height of what is shown, in luma samples.
 pub fn shown_height(set: &Sequence) -> u64
-    ensures { 16 * set.now.height < 2 ^ 64 → 2 * (set.now.cropping.top + set.now.cropping.bottom) < 2 ^ 64 →
+    ensures side { result ≡ shown_side set.now.height set.now.cropping.top set.now.cropping.bottom }
+    ensures fits { 16 * set.now.height < 2 ^ 64 → 2 * (set.now.cropping.top + set.now.cropping.bottom) < 2 ^ 64 →
         result ≡ 16 * set.now.height - 2 * (set.now.cropping.top + set.now.cropping.bottom) }
 {
     let cut = set.cropping.top.saturating_add(set.cropping.bottom);
@@ -76,8 +98,10 @@ pub fn rate_of(set: &Sequence) -> Option<u64>
     Some(timing.time_scale.saturating_mul(1000) / ticks)
 }
 
-/// Adds the lines of a sequence parameter set.
-fn put_set(page: &mut Page, set: &Sequence) {
+/// Adds the line of a sequence parameter set with its profile and level.
+fn put_set_line(page: &mut Page, set: &Sequence)
+    ensures { Adds page.old page.new (set_line set.now) }
+{
     page.put("info set ");
     page.number(set.seq_parameter_set_id);
     page.put(" profile ");
@@ -86,29 +110,60 @@ fn put_set(page: &mut Page, set: &Sequence) {
     page.put(profile_of(set));
     page.put(") level ");
     put_level(page, set);
-    page.put("\ninfo size ");
-    page.number(shown_width(set));
-    page.put("x");
-    page.number(shown_height(set));
-    page.put(" coded ");
-    page.number(set.width.saturating_mul(SIDE));
-    page.put("x");
-    page.number(set.height.saturating_mul(SIDE));
-    page.put(" macroblocks ");
-    page.number(set.width);
-    page.put("x");
-    page.number(set.height);
     page.put("\n");
-    put_cropping(page, set);
-    put_buffer(page, set);
 }
 
-/// Adds the line of what is cut off, where something is.
-fn put_cropping(page: &mut Page, set: &Sequence) {
-    let cropping = set.cropping;
-    if cropping.left == 0 && cropping.right == 0 && cropping.top == 0 && cropping.bottom == 0 {
-        return;
-    }
+/// Adds two numbers, as of a width and a height.
+fn put_sides(page: &mut Page, width: u64, height: u64)
+    ensures { Adds page.old page.new (sides width height) }
+{
+    page.number(width);
+    page.put("x");
+    page.number(height);
+}
+
+/// Adds the size that is shown.
+fn put_shown(page: &mut Page, set: &Sequence)
+    ensures { Adds page.old page.new (shown_sides set.now) }
+{
+    put_sides(page, shown_width(set), shown_height(set));
+}
+
+/// Adds the size that is coded.
+fn put_coded(page: &mut Page, set: &Sequence)
+    ensures { Adds page.old page.new (coded_sides set.now) }
+{
+    put_sides(
+        page,
+        set.width.saturating_mul(SIDE),
+        set.height.saturating_mul(SIDE),
+    );
+}
+
+/// Adds the line of the size: what is shown, what is coded, and the macroblocks.
+fn put_size_line(page: &mut Page, set: &Sequence)
+    ensures { Adds page.old page.new (size_line set.now) }
+{
+    page.put("info size ");
+    put_shown(page, set);
+    page.put(" coded ");
+    put_coded(page, set);
+    page.put(" macroblocks ");
+    put_sides(page, set.width, set.height);
+    page.put("\n");
+}
+
+/// Whether nothing is cut off.
+fn is_uncropped(cropping: Cropping) -> bool
+    ensures { result ≡ is_uncropped cropping }
+{
+    cropping.left == 0 && cropping.right == 0 && cropping.top == 0 && cropping.bottom == 0
+}
+
+/// Adds the line of what is cut off.
+fn put_offsets(page: &mut Page, cropping: Cropping)
+    ensures { Adds page.old page.new (offsets_line cropping) }
+{
     page.put("info cropping left ");
     page.number(cropping.left.saturating_mul(2));
     page.put(" right ");
@@ -120,55 +175,101 @@ fn put_cropping(page: &mut Page, set: &Sequence) {
     page.put("\n");
 }
 
-/// Adds the lines of frame rate, reference frames and picture buffer.
-fn put_buffer(page: &mut Page, set: &Sequence) {
-    if let Some(rate) = rate_of(set) {
+/// Adds the line of what is cut off, where something is.
+fn put_cropping(page: &mut Page, cropping: Cropping)
+    ensures { Adds page.old page.new (cropping_line cropping) }
+{
+    if !is_uncropped(cropping) {
+        put_offsets(page, cropping);
+    }
+}
+
+/// Adds the line of the frame rate, where it is given.
+fn put_rate(page: &mut Page, rate: Option<u64>)
+    ensures { Adds page.old page.new (rate_line rate) }
+{
+    if let Some(rate) = rate {
         page.put("info rate ");
         page.thousandths(rate);
         page.put("\n");
     }
+}
+
+/// Adds the line of reference frames and picture buffer.
+fn put_buffer(page: &mut Page, set: &Sequence)
+    ensures { Adds page.old page.new (buffer_line set.now) }
+{
     page.put("info reference frames ");
     page.number(set.max_num_ref_frames);
-    if let Some(frames) = set.max_dec_frame_buffering {
-        page.put(" buffer ");
-        page.number(frames);
-    }
-    if let Some(frames) = set.max_num_reorder_frames {
-        page.put(" reorder ");
-        page.number(frames);
-    }
+    page.number_after(" buffer ", set.max_dec_frame_buffering);
+    page.number_after(" reorder ", set.max_num_reorder_frames);
     page.put("\n");
 }
 
-/// Adds the lines of pictures and their bytes.
-fn put_pictures(page: &mut Page, survey: &Survey) {
-    let pictures = survey.pictures.list.as_slice();
-    let counts = count_pictures(pictures);
+/// Adds the lines of a sequence parameter set.
+fn put_set(page: &mut Page, set: &Sequence)
+    ensures { Adds page.old page.new (set_lines set.now) }
+{
+    put_set_line(page, set);
+    put_size_line(page, set);
+    put_cropping(page, set.cropping);
+    put_rate(page, rate_of(set));
+    put_buffer(page, set);
+}
+
+/// Adds the lines of sequence parameter sets.
+fn put_sets(page: &mut Page, sets: &[Sequence])
+    ensures { Adds page.old page.new (flat_map set_lines sets.now) }
+{
+    for set in sets {
+        put_set(page, set);
+    }
+}
+
+/// Adds the line of how many pictures there are of each kind.
+fn put_kinds(page: &mut Page, pictures: u64, counts: PictureCounts)
+    ensures { Adds page.old page.new (kinds_line pictures counts) }
+{
     page.put("info pictures ");
-    page.number(pictures.len() as u64);
+    page.number(pictures);
     page.put(" idr ");
     page.number(counts.idr);
     page.put(" i ");
     page.number(counts.intra);
     page.put(" p ");
     page.number(counts.predicted);
-    page.put("\ninfo bytes ");
+    page.put("\n");
+}
+
+/// Adds the line of their bytes.
+fn put_bytes(page: &mut Page, pictures: u64, counts: PictureCounts)
+    ensures { Adds page.old page.new (bytes_line pictures counts) }
+{
+    page.put("info bytes ");
     page.number(counts.bytes);
     page.put(" a picture ");
-    page.number(counts.bytes / (pictures.len() as u64).max(1));
+    page.number(counts.bytes / pictures.max(1));
     page.put(" largest ");
     page.number(counts.largest);
     page.put("\n");
 }
 
-/// Adds the line of macroblocks by type.
-fn put_macroblocks(page: &mut Page, counts: MacroblockCounts) {
+/// Adds the macroblocks of intra prediction, by type.
+fn put_intra(page: &mut Page, counts: MacroblockCounts)
+    ensures { Adds page.old page.new (intra_text counts) }
+{
     page.put("info macroblocks i4x4 ");
     page.number(counts.intra_4x4);
     page.put(" i16x16 ");
     page.number(counts.intra_16x16);
     page.put(" pcm ");
     page.number(counts.pcm);
+}
+
+/// Adds the macroblocks of inter prediction, by type.
+fn put_inter(page: &mut Page, counts: MacroblockCounts)
+    ensures { Adds page.old page.new (inter_text counts) }
+{
     page.put(" p16x16 ");
     page.number(counts.inter_16x16);
     page.put(" p16x8 ");
@@ -177,9 +278,28 @@ fn put_macroblocks(page: &mut Page, counts: MacroblockCounts) {
     page.number(counts.inter_8x16);
     page.put(" p8x8 ");
     page.number(counts.inter_8x8);
+}
+
+/// Adds the line of macroblocks by type.
+fn put_macroblocks(page: &mut Page, counts: MacroblockCounts)
+    ensures { Adds page.old page.new (macroblocks_line counts) }
+{
+    put_intra(page, counts);
+    put_inter(page, counts);
     page.put(" skip ");
     page.number(counts.skipped);
     page.put("\n");
+}
+
+/// Adds the lines of pictures and macroblocks.
+fn put_counts(page: &mut Page, pictures: &[Picture], macroblocks: MacroblockCounts)
+    ensures { Adds page.old page.new (count_lines pictures.now macroblocks) }
+{
+    let count = pictures.len() as u64;
+    let counts = count_pictures(pictures);
+    put_kinds(page, count, counts);
+    put_bytes(page, count, counts);
+    put_macroblocks(page, macroblocks);
 }
 
 /// What the sequence parameter set says that was read last, where no unit came after it. None: its profile was not read.
@@ -188,96 +308,144 @@ fn last_set(survey: &Survey, start: &Start) -> Option<Declared> {
 }
 
 /// Adds the line of the set that was read last: its profile, and its level and size where they are known.
-fn put_last_set(page: &mut Page, set: &Declared) {
+fn put_declared(page: &mut Page, set: &Declared)
+    ensures { Adds page.old page.new (declared_line set.now) }
+{
     page.put("info last set profile ");
     page.number(set.profile_idc);
     page.put(" (");
     page.put(set.profile());
     page.put(")");
     set.put_level(page, " level ");
-    if let Some(size) = set.size {
-        page.put(" size ");
-        size.put(page);
-    }
+    put_size_after(page, " size ", set.size);
     page.put("\n");
+}
+
+/// Adds the line of the set that was read last, where it is known.
+fn put_last_set(page: &mut Page, set: Option<Declared>)
+    ensures { Adds page.old page.new (last_set_line set) }
+{
+    if let Some(set) = set {
+        put_declared(page, &set);
+    }
+}
+
+/// Adds why there is no picture, where an answer says it.
+fn put_why_none(page: &mut Page, finding: Option<Finding>)
+    ensures { Adds page.old page.new (why_none finding) }
+{
+    if let Some(finding) = finding {
+        page.put(": ");
+        put_cause_text(page, finding.reason, "check --explain says why");
+    }
 }
 
 /// Adds the line that there is no picture: what the input is, where it is no stream for this program.
-fn put_no_pictures(page: &mut Page, finding: Option<Finding>) {
+fn put_no_pictures(page: &mut Page, finding: Option<Finding>)
+    ensures { Adds page.old page.new (no_pictures_line finding) }
+{
     page.put("info no pictures");
-    if finding.is_some() {
-        page.put(": ");
-        match reason_in(finding) {
-            Some(reason) => put_sentence(page, reason),
-            None => page.put("check --explain says why"),
-        }
-    }
+    put_why_none(page, finding);
     page.put("\n");
 }
 
-/// Adds the lines of what a stream has. Where it has no picture one line says so in the place of those on pictures and macroblocks.
-pub fn put_info(page: &mut Page, survey: &Survey, start: &Start, finding: Option<Finding>) {
-    for set in survey.sets.sequences.iter() {
-        put_set(page, set);
-    }
-    if let Some(set) = last_set(survey, start) {
-        put_last_set(page, &set);
-    }
-    if survey.pictures.list.is_empty() {
+/// Adds the lines on pictures and macroblocks. Where there is no picture one line says so.
+fn put_picture_lines(
+    page: &mut Page,
+    pictures: &[Picture],
+    macroblocks: MacroblockCounts,
+    finding: Option<Finding>,
+)
+    ensures { Adds page.old page.new (picture_lines pictures.now macroblocks finding) }
+{
+    if pictures.is_empty() {
         put_no_pictures(page, finding);
-        return;
+    } else {
+        put_counts(page, pictures, macroblocks);
     }
-    put_pictures(page, survey);
-    put_macroblocks(page, survey.macroblocks);
 }
 
-/// Adds the fields of a sequence parameter set.
-fn put_set_fields(page: &mut Page, set: &Sequence) {
-    page.put("{\"seq_parameter_set_id\":");
-    page.number(set.seq_parameter_set_id);
+/// Adds the lines of what a stream has. Where it has no picture one line says so in the place of those on pictures and macroblocks.
+pub fn put_info(page: &mut Page, survey: &Survey, start: &Start, finding: Option<Finding>)
+    ensures { (last : Option Declared) × Adds page.old page.new (info_lines survey.now.sets.sequences.items last survey.now.pictures.list.items
+        survey.now.macroblocks finding) }
+{
+    put_sets(page, survey.sets.sequences.as_slice());
+    put_last_set(page, last_set(survey, start));
+    put_picture_lines(
+        page,
+        survey.pictures.list.as_slice(),
+        survey.macroblocks,
+        finding,
+    );
+}
+
+/// Adds the fields of a set's profile and level.
+fn put_profile_fields(page: &mut Page, set: &Sequence)
+    ensures { Adds page.old page.new (profile_fields set.now) }
+{
     page.number_field("profile_idc", set.profile_idc);
     page.text_field("profile", profile_of(set));
     page.number_field("level_idc", set.level_idc);
+}
+
+/// Adds the fields of a set's size.
+fn put_side_fields(page: &mut Page, set: &Sequence)
+    ensures { Adds page.old page.new (side_fields set.now) }
+{
     page.number_field("width", shown_width(set));
     page.number_field("height", shown_height(set));
     page.number_field("width_in_macroblocks", set.width);
     page.number_field("height_in_macroblocks", set.height);
+}
+
+/// Adds the fields of reference frames and picture buffer.
+fn put_buffer_fields(page: &mut Page, set: &Sequence)
+    ensures { Adds page.old page.new (buffer_fields set.now) }
+{
     page.number_field("max_num_ref_frames", set.max_num_ref_frames);
     page.maybe_field("max_dec_frame_buffering", set.max_dec_frame_buffering);
     page.maybe_field("max_num_reorder_frames", set.max_num_reorder_frames);
-    put_rate_fields(page, set);
-    page.put("}");
 }
 
-/// Adds the fields of the frame rate, where it is given.
-fn put_rate_fields(page: &mut Page, set: &Sequence) {
-    if let Some(timing) = set.timing {
+/// Adds the fields of the timing, where it is given.
+fn put_timing_fields(page: &mut Page, timing: Option<Timing>)
+    ensures { Adds page.old page.new (timing_fields timing) }
+{
+    if let Some(timing) = timing {
         page.number_field("num_units_in_tick", timing.num_units_in_tick);
         page.number_field("time_scale", timing.time_scale);
     }
-    if let Some(rate) = rate_of(set) {
+}
+
+/// Adds the field of the frame rate, where it is given.
+fn put_rate_field(page: &mut Page, rate: Option<u64>)
+    ensures { Adds page.old page.new (rate_field rate) }
+{
+    if let Some(rate) = rate {
         page.name("frame_rate");
         page.thousandths(rate);
     }
 }
 
-/// Adds the fields of the macroblocks.
-fn put_macroblock_fields(page: &mut Page, counts: MacroblockCounts) {
-    page.name("macroblocks");
-    page.put("{\"i4x4\":");
-    page.number(counts.intra_4x4);
-    page.number_field("i16x16", counts.intra_16x16);
-    page.number_field("pcm", counts.pcm);
-    page.number_field("p16x16", counts.inter_16x16);
-    page.number_field("p16x8", counts.inter_16x8);
-    page.number_field("p8x16", counts.inter_8x16);
-    page.number_field("p8x8", counts.inter_8x8);
-    page.number_field("skip", counts.skipped);
+/// Adds the object of a sequence parameter set.
+fn put_set_object(page: &mut Page, set: &Sequence)
+    ensures { Adds page.old page.new (set_object set.now) }
+{
+    page.put("{\"seq_parameter_set_id\":");
+    page.number(set.seq_parameter_set_id);
+    put_profile_fields(page, set);
+    put_side_fields(page, set);
+    put_buffer_fields(page, set);
+    put_timing_fields(page, set.timing);
+    put_rate_field(page, rate_of(set));
     page.put("}");
 }
 
 /// Adds the field of the set that was read last: its profile, and its level and size where they are known.
-fn put_last_set_field(page: &mut Page, set: &Declared) {
+fn put_declared_field(page: &mut Page, set: &Declared)
+    ensures { Adds page.old page.new (declared_field set.now) }
+{
     page.name("last_set");
     page.put("{\"profile_idc\":");
     page.number(set.profile_idc);
@@ -287,37 +455,123 @@ fn put_last_set_field(page: &mut Page, set: &Declared) {
     page.put("}");
 }
 
-/// Adds the fields of pictures and macroblocks; only that there is no picture, where there is none.
-fn put_count_fields(page: &mut Page, survey: &Survey) {
-    if survey.pictures.list.is_empty() {
-        page.number_field("pictures", 0);
-        return;
+/// Adds the field of the set that was read last, where it is known.
+fn put_last_set_field(page: &mut Page, set: Option<Declared>)
+    ensures { Adds page.old page.new (last_set_field set) }
+{
+    if let Some(set) = set {
+        put_declared_field(page, &set);
     }
-    let counts = count_pictures(survey.pictures.list.as_slice());
-    page.number_field("pictures", survey.pictures.list.as_slice().len() as u64);
+}
+
+/// Adds the fields of how many pictures there are of each kind.
+fn put_kind_fields(page: &mut Page, pictures: u64, counts: PictureCounts)
+    ensures { Adds page.old page.new (kind_fields pictures counts) }
+{
+    page.number_field("pictures", pictures);
     page.number_field("idr", counts.idr);
     page.number_field("i", counts.intra);
     page.number_field("p", counts.predicted);
+}
+
+/// Adds the macroblocks of intra prediction, by type.
+fn put_intra_fields(page: &mut Page, counts: MacroblockCounts)
+    ensures { Adds page.old page.new (intra_fields counts) }
+{
+    page.put("{\"i4x4\":");
+    page.number(counts.intra_4x4);
+    page.number_field("i16x16", counts.intra_16x16);
+    page.number_field("pcm", counts.pcm);
+}
+
+/// Adds the macroblocks of inter prediction, by type.
+fn put_inter_fields(page: &mut Page, counts: MacroblockCounts)
+    ensures { Adds page.old page.new (inter_fields counts) }
+{
+    page.number_field("p16x16", counts.inter_16x16);
+    page.number_field("p16x8", counts.inter_16x8);
+    page.number_field("p8x16", counts.inter_8x16);
+    page.number_field("p8x8", counts.inter_8x8);
+}
+
+/// Adds the field of the macroblocks.
+fn put_macroblocks_field(page: &mut Page, counts: MacroblockCounts)
+    ensures { Adds page.old page.new (macroblocks_field counts) }
+{
+    page.name("macroblocks");
+    put_intra_fields(page, counts);
+    put_inter_fields(page, counts);
+    page.number_field("skip", counts.skipped);
+    page.put("}");
+}
+
+/// Adds the fields of pictures and macroblocks, where there are pictures.
+fn put_sum_fields(page: &mut Page, pictures: &[Picture], macroblocks: MacroblockCounts)
+    ensures { Adds page.old page.new (sum_fields pictures.now macroblocks) }
+{
+    let counts = count_pictures(pictures);
+    put_kind_fields(page, pictures.len() as u64, counts);
     page.number_field("bytes", counts.bytes);
     page.number_field("largest", counts.largest);
-    put_macroblock_fields(page, survey.macroblocks);
+    put_macroblocks_field(page, macroblocks);
+}
+
+/// Adds the fields of pictures and macroblocks; only that there is no picture, where there is none.
+fn put_count_fields(page: &mut Page, pictures: &[Picture], macroblocks: MacroblockCounts)
+    ensures { Adds page.old page.new (count_fields pictures.now macroblocks) }
+{
+    if pictures.is_empty() {
+        page.number_field("pictures", 0);
+    } else {
+        put_sum_fields(page, pictures, macroblocks);
+    }
+}
+
+/// Adds the object of a further sequence parameter set, with a comma before it.
+fn put_after_comma(page: &mut Page, set: &Sequence)
+    ensures { Adds page.old page.new (after_comma set.now) }
+{
+    page.put(",");
+    put_set_object(page, set);
+}
+
+/// Adds the objects of further sequence parameter sets, a comma before each.
+fn put_more_sets(page: &mut Page, sets: &[Sequence])
+    ensures { Adds page.old page.new (flat_map after_comma sets.now) }
+{
+    for set in sets {
+        put_after_comma(page, set);
+    }
+}
+
+/// Adds the objects of sequence parameter sets, with commas between them.
+fn put_set_objects(page: &mut Page, sets: &[Sequence])
+    ensures { Adds page.old page.new (set_objects sets.now) }
+{
+    if let Some((set, more)) = sets.split_first() {
+        put_set_object(page, set);
+        put_more_sets(page, more);
+    }
+}
+
+/// Adds the field of the sequence parameter sets.
+fn put_sets_field(page: &mut Page, sets: &[Sequence])
+    ensures { Adds page.old page.new (sets_field sets.now) }
+{
+    page.name("sets");
+    page.put("[");
+    put_set_objects(page, sets);
+    page.put("]");
 }
 
 /// Adds the object of what a stream has, on a line of its own.
-pub fn put_info_object(page: &mut Page, file: &str, survey: &Survey, start: &Start) {
+pub fn put_info_object(page: &mut Page, file: &str, survey: &Survey, start: &Start)
+    ensures { (last : Option Declared) × Adds page.old page.new (info_object file.now survey.now.sets.sequences.items last survey.now.pictures.list.items
+        survey.now.macroblocks) }
+{
     page.open_object(file, "info");
-    page.name("sets");
-    page.put("[");
-    for (k, set) in survey.sets.sequences.iter().enumerate() {
-        if k > 0 {
-            page.put(",");
-        }
-        put_set_fields(page, set);
-    }
-    page.put("]");
-    if let Some(set) = last_set(survey, start) {
-        put_last_set_field(page, &set);
-    }
-    put_count_fields(page, survey);
+    put_sets_field(page, survey.sets.sequences.as_slice());
+    put_last_set_field(page, last_set(survey, start));
+    put_count_fields(page, survey.pictures.list.as_slice(), survey.macroblocks);
     page.close_object();
 }

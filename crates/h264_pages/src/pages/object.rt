@@ -1,18 +1,22 @@
 //! The fields of JSON of a verdict.
 #![tactic(auto)]
 
-ghost use Rattle.std.specs.Prelude.{◌≡◌, ◌++◌, [], None, Some, false, codes, if◌then◌else◌};
-ghost use Rattle.h264_pages.specs.Pages.{text_on, is_cut, word_text, found_fields, answer_fields, Adds, AddsFirst, Grows};
+ghost use Rattle.std.specs.Prelude.{◌≡◌, ℕ, List, ◌++◌, [], Option, None, Some, false, codes, if◌then◌else◌};
+ghost use Rattle.std.specs.Option.{option_copied};
+ghost use Rattle.h264_pages.specs.Pages.{text_on, is_cut, word_text, found_fields, answer_fields, Adds, AddsFirst};
 ghost use Rattle.h264_pages.specs.Pages as pages;
 ghost use Rattle.h264_pages.specs.Places.{bit_in, bit_fields, named_bit_fields, unit_fields, picture_fields, element_fields};
-ghost use Rattle.h264_pages.specs.Places.{finding_fields, guide_fields, bare_fields};
-ghost use Rattle.h264_pages.specs.Reasons.{size_fields, cabac_field, declared_fields, input_fields, reason_fields};
+ghost use Rattle.h264_pages.specs.Places.{finding_fields, bare_fields, allowed_as, remedied_place_fields, whole_finding_fields, said_fields, whole_fields};
+ghost use Rattle.h264_pages.specs.Findings.{rule_in};
+ghost use Rattle.h264_pages.specs.Reasons.{size_fields, cabac_field, declared_fields, input_fields, reason_fields, remedy_field, cause_text};
 
 use crate::pages::allowed::put_allowed;
-use crate::pages::finding::{Answer, BITS_A_BYTE, Finding, Guide, bit_of, file_in, reason_in};
+use crate::pages::finding::{
+    Answer, BITS_A_BYTE, Finding, Guide, bit_of, file_in, reason_in, rule_of,
+};
 use crate::pages::glance::{Declared, Size};
 use crate::pages::page::Page;
-use crate::pages::reason::{Reason, put_remedy, put_sentence};
+use crate::pages::reason::{Reason, put_cause_text, put_remedy};
 use crate::survey::{Survey, Unit};
 use h264_base::{Stop, Summary};
 use h264_lines::answer::answer_status;
@@ -132,7 +136,7 @@ fn put_input(page: &mut Page, reason: Reason)
 
 /// Adds the fields of the reason, and of what to do about it.
 fn put_reason(alloc: Global, page: &mut Page, reason: Reason, file: Option<&str>)
-    ensures { AddsFirst page.old page.new (reason_fields reason) }
+    ensures { Adds page.old page.new (reason_fields reason ++ remedy_field reason (option_copied file.entry)) }
 {
     page.text_field("reason", reason.name());
     put_input(page, reason);
@@ -193,7 +197,7 @@ fn put_finding(
     finding: &Finding,
     file: Option<&str>,
 )
-    ensures { AddsFirst page.old page.new (finding_fields survey.now.unit (Some finding.now)) }
+    ensures { Adds page.old page.new (remedied_place_fields (option_copied file.entry) survey.now.unit finding.now) }
 {
     put_bit(page, survey, finding);
     put_picture(page, finding);
@@ -212,9 +216,9 @@ fn put_allowed_field(
     survey: &Survey,
     finding: &Finding,
 )
-    ensures { Grows page.old page.new }
+    ensures { (words : Option (List ℕ)) × Adds page.old page.new (allowed_as (pages.text_field (codes "allowed")) (rule_in answer) words) }
 {
-    if let Err(Stop::No { rule, .. }) = answer {
+    if let Some(rule) = rule_of(answer) {
         let mut allowed = Page::new(alloc);
         put_allowed(&mut allowed, rule, survey, finding);
         let is_said = allowed.as_str() != "";
@@ -231,7 +235,8 @@ fn put_place(
     finding: Option<Finding>,
     file: Option<&str>,
 )
-    ensures { AddsFirst page.old page.new (finding_fields survey.now.unit finding) }
+    ensures { (words : Option (List ℕ)) × Adds page.old page.new (whole_finding_fields (option_copied file.entry) survey.now.unit
+        (rule_in answer) finding words) }
 {
     if let Some(finding) = finding {
         put_finding(alloc, page, survey, &finding, file);
@@ -241,21 +246,16 @@ fn put_place(
 
 /// Adds the field of the cause: what the input is, where it is no stream for this program; else what usually causes it.
 fn put_cause(alloc: Global, page: &mut Page, reason: Option<Reason>, guide: Guide<'_>)
-    ensures grows { Grows page.old page.new }
-    ensures usual { reason ≡ None → Adds page.old page.new (pages.text_field (codes "cause") guide.entry.cause.now) }
+    ensures { Adds page.old page.new (pages.text_field (codes "cause") (cause_text reason guide.entry.cause.now)) }
 {
     let mut cause = Page::new(alloc);
-    match reason {
-        Some(reason) => put_sentence(&mut cause, reason),
-        None => cause.put(guide.cause),
-    }
+    put_cause_text(&mut cause, reason, guide.cause);
     put_part(page, "cause", true, &cause);
 }
 
 /// Adds the fields of what is said of the rule or feature.
 fn put_guide(alloc: Global, page: &mut Page, finding: Option<Finding>, guide: Guide<'_>)
-    ensures grows { Grows page.old page.new }
-    ensures usual { finding ≡ None → Adds page.old page.new (guide_fields (Some guide.entry)) }
+    ensures { Adds page.old page.new (said_fields finding (Some guide.entry)) }
 {
     page.text_field("breaks", guide.breaks);
     put_cause(alloc, page, reason_in(finding), guide);
@@ -299,6 +299,7 @@ pub fn put_verdict_fields(
 )
     ensures answer { AddsFirst page.old page.new (answer_fields answer) }
     ensures place { AddsFirst page.old page.new (answer_fields answer ++ finding_fields survey.now.unit finding) }
+    ensures whole { (words : Option (List ℕ)) × Adds page.old page.new (whole_fields answer survey.now.unit finding guide.entry words) }
 {
     put_answer_fields(page, answer);
     put_place(alloc, page, answer, survey, finding, file_in(guide));

@@ -92,6 +92,16 @@ impl Page {
         }
     }
 
+    /// Adds a number after a text, where there is one.
+    pub fn number_after(&mut self, before: &str, value: Option<u64>)
+        ensures { Adds self.old self.new (pages.number_after before.now value) }
+    {
+        if let Some(number) = value {
+            self.put(before);
+            self.number(number);
+        }
+    }
+
     /// Adds a number with three decimals: so many thousandths.
     pub fn thousandths(&mut self, value: u64)
         ensures { Adds self.old self.new (pages.thousandths value) }

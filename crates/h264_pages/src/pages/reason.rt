@@ -7,7 +7,7 @@ ghost use Rattle.std.specs.Option.{option_copied};
 ghost use Rattle.std.specs.Str.{chars};
 ghost use Rattle.h264_pages.specs.Pages.{Adds};
 ghost use Rattle.h264_pages.specs.Reasons.{is_plain, is_shown_as_it_is, is_colon, reason_name, refusal, sentence, remedy, has_remedy};
-ghost use Rattle.h264_pages.specs.Reasons.{file_word, file_name, shell_word, shell_quoted};
+ghost use Rattle.h264_pages.specs.Reasons.{file_word, file_name, shell_word, shell_quoted, cause_text};
 
 use crate::pages::container::{Container, Start};
 use crate::pages::glance::Declared;
@@ -109,6 +109,16 @@ pub fn put_sentence(page: &mut Page, reason: Reason)
         Reason::Cabac => page.put(
             "The input is an H.264 stream that is coded with CABAC. h264v does not judge CABAC.",
         ),
+    }
+}
+
+/// Adds what causes an answer: what the input is, where it is no stream for this program; else what usually does.
+pub(crate) fn put_cause_text(page: &mut Page, reason: Option<Reason>, usual: &str)
+    ensures { Adds page.old page.new (cause_text reason usual.now) }
+{
+    match reason {
+        Some(reason) => put_sentence(page, reason),
+        None => page.put(usual),
     }
 }
 

@@ -2,9 +2,9 @@
 #![tactic(auto)]
 
 ghost use Rattle.std.specs.Prelude.{◌≡◌, ℕ, ◌+◌, ◌-◌, ◌<◌, ◌^◌, OnOk, OnErr};
-ghost use Rattle.std.specs.Prelude.{[]};
+ghost use Rattle.std.specs.Prelude.{[], false, None};
 ghost use Rattle.h264_base.specs.Call.{HasRoom, IsQuiet, Tells};
-ghost use Rattle.h264_lines.specs.Chosen.{held, pending_call, is_chosen, TookChosen, after_element};
+ghost use Rattle.h264_lines.specs.Chosen.{held, pending_call, is_chosen, TookChosen, after_element, at_first};
 ghost use Rattle.h264_pages.specs.Surveyed.{HasSurveyed};
 
 use crate::survey::notes::Survey;
@@ -42,6 +42,9 @@ impl<S: FrameSink + Drop, K: Sheet> Narrowed<S, K> {
         ensures sink { result.sink ≡ sink }
         ensures survey { result.survey ≡ survey }
         ensures choice { result.choice ≡ choice }
+        ensures reading { result.reading ≡ at_first.reading }
+        ensures pending { result.pending ≡ None }
+        ensures whole { result.broke_off ≡ false }
         ensures took { S.took sink [] → TookChosen S.took result.choice result.broke_off
             (record { reading = result.reading; pending = pending_call result.pending }) result.sink [] }
     {

@@ -1,7 +1,7 @@
 //! The survey of a stream.
 #![tactic(auto)]
 
-ghost use Rattle.std.specs.Prelude.{◌≡◌, ◌||◌, false, None, [], find, reverse, length, IfOk};
+ghost use Rattle.std.specs.Prelude.{◌≡◌, ◌||◌, false, None, [], find, reverse, length, nat_lt, IfOk};
 ghost use Rattle.circular_buffer.specs.Buffer.{last_item};
 ghost use Rattle.h264_units.specs.UnitTypes.{type_number};
 ghost use Rattle.h264_pages.specs.SurveyedPictures.{begins_picture, places_after};
@@ -150,6 +150,8 @@ impl Survey {
         ensures told { Follows (λ t. t) self.old self.new }
         ensures places_taken { self.new.pictures.is_short ≡ false → self.new.pictures.places_taken.items ≡
             places_after places self.old.pictures.list.items self.old.pictures.places_taken.items }
+        ensures pictures { nat_lt (length self.old.pictures.places_taken.items) (length self.old.pictures.list.items) ≡ false →
+            self.new.pictures.is_short ≡ self.old.pictures.is_short }
         ensures sets { self.new.sets.is_short ≡ self.old.sets.is_short }
     {
         self.pictures.note_places_taken(places);

@@ -1,0 +1,19 @@
+use Rattle.std.proofs.Common.{subst}
+use Rattle.h264_pages.specs.Pages.{Adds}
+use Rattle.h264_pages.proofs.Growing.{adds-both, four-added}
+use Rattle.h264_pages.proofs.pages.info.put_declared.Goals as goal
+
+pub returns : goal.returns
+returns c =
+    let a = c.args.page.now in
+    let p1 = c.put.new.self in
+    let p2 = c.number.new.self in
+    let p3 = c.put-2.new.self in
+    let p4 = c.put-3.new.self in
+    let p5 = c.put-4.new.self in
+    let p6 = c.put_level.new.page in
+    let p7 = c.put_size_after.new.page in
+    let p8 = c.put-5.new.self in
+    adds-both a p1 p8 _ _ c.put.ensures (adds-both p1 p2 p8 _ _ c.number.ensures
+    (adds-both p2 p3 p8 _ _ c.put-2.ensures (adds-both p3 p4 p8 _ _ (subst (λ v. Adds p3 p4 (v)) c.profile.ensures c.put-3.ensures)
+    (four-added p4 p5 p6 p7 p8 _ _ _ _ c.put-4.ensures c.put_level.ensures c.put_size_after.ensures c.put-5.ensures))))

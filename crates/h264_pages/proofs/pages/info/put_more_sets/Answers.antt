@@ -1,0 +1,8 @@
+use Rattle.h264_pages.specs.Info.{after_comma}
+use Rattle.h264_pages.proofs.Growing.{each-added}
+use Rattle.h264_pages.proofs.pages.info.put_more_sets.Goals as goal
+
+pub loop-set-preserved : goal.loop-set-preserved
+loop-set-preserved c = each-added after_comma c.args.page.now c.loop-set.page c.put_after_comma.new.page c.args.sets.now c.loop-set.set-index _
+    c.loop-set-test.true
+    c.loop-set.invariant c.put_after_comma.ensures
