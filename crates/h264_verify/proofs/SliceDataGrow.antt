@@ -116,7 +116,7 @@ module _ (fits : CodedMacroblock → Bool) (width : ℕ) (slice : SliceContext) 
 
     first-adds : (n : ℕ) (picture : List CodedMacroblock) (c : Bool) → HasMore body.bytes i c → c ≡ true →
         Says (macroblocks fits width slice n Next picture) body i es (Ok (ms, j)) → length picture < length ms
-    unfolding macroblocks next more ◌>>=◌
+    unfolding macroblocks next more ◌>>=◌ Gives
     first-adds zero picture c h e d = adds-first d.0 0 picture (λ s p. Done p) (follows d.0 c d.1 h e) (λ s p. within-all p) d.2
     first-adds (suc n) picture c h e d = adds-first d.0 (suc n) picture (λ s p. macroblocks fits width slice n s p) (follows d.0 c d.1 h e) (grow n) d.2
 
