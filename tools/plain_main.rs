@@ -8,6 +8,8 @@ use std::io::{Read, Write};
 const USAGE: &str = "usage: h264v-quick check|units|headers|frames|decode [--target baseline|main-ip] FILE";
 const NOT_PROVED: &str = "h264v-quick: a plain build, of which nothing is proved";
 const PIECE: usize = 1 << 16;
+/// How many bytes are kept at most of a file that can be read once.
+const MOST_KEPT: usize = 16 * 1024 * 1024;
 /// How many elements `check` keeps for a no.
 const KEPT: usize = 16;
 
@@ -183,11 +185,36 @@ fn last_line(task: &Task, answer: &Result<Summary, Stop>) -> (std::string::Strin
     }
 }
 
-fn judge<S: FrameSink>(file: &str, mode: Mode, target: Target, sink: &mut S) -> Result<Summary, Stop> {
-    let mut input: Box<dyn Read> = match file {
-        "-" => Box::new(std::io::stdin()),
-        _ => Box::new(std::fs::File::open(file).map_err(|_| Stop::Read)?),
-    };
+fn open(file: &str) -> Result<Box<dyn Read>, Stop> {
+    match file {
+        "-" => Ok(Box::new(std::io::stdin())),
+        _ => Ok(Box::new(std::fs::File::open(file).map_err(|_| Stop::Read)?)),
+    }
+}
+
+/// Reads an input, and keeps what it reads up to `MOST_KEPT` bytes, where it ends.
+struct Kept {
+    input: Box<dyn Read>,
+    bytes: std::vec::Vec<u8>,
+    has_ended: bool,
+    is_cut_short: bool,
+}
+
+impl Read for Kept {
+    fn read(&mut self, piece: &mut [u8]) -> std::io::Result<usize> {
+        let count = piece.len().min(MOST_KEPT - self.bytes.len());
+        if count == 0 || self.bytes.try_reserve(count).is_err() {
+            self.is_cut_short = true;
+            return Ok(0);
+        }
+        let n = self.input.read(&mut piece[..count])?;
+        self.has_ended = n == 0;
+        self.bytes.extend_from_slice(&piece[..n]);
+        Ok(n)
+    }
+}
+
+fn judge<S: FrameSink>(input: &mut dyn Read, mode: Mode, target: Target, sink: &mut S) -> Result<Summary, Stop> {
     let mut session = Session::new(rt::Global, mode, target)?;
     let mut piece = std::vec![0; PIECE];
     loop {
@@ -206,15 +233,28 @@ fn is_lasting(file: &str) -> bool {
     !is_of_the_system && std::fs::metadata(file).is_ok_and(|metadata| metadata.is_file())
 }
 
-/// Judges a file for `check`. Only a no needs the last elements: a file that can be read again is judged without a note of them first.
+/// Judges a file for `check`. Only a no needs the last elements: a file is judged without a note of them first. One that can't be read again is kept, up to a
+/// bound, and read again out of what was kept of it.
 fn check<W: Write>(file: &str, mode: Mode, target: Target, sink: &mut Sink<W>) -> Result<Summary, Stop> {
     if is_lasting(file) {
-        let answer = judge(file, mode, target, &mut NoSink);
+        let answer = judge(&mut *open(file)?, mode, target, &mut NoSink);
         if !matches!(answer, Err(Stop::No { .. })) {
             return answer;
         }
+        return judge(&mut *open(file)?, mode, target, sink);
     }
-    judge(file, mode, target, sink)
+    let mut kept = Kept { input: open(file)?, bytes: std::vec::Vec::new(), has_ended: false, is_cut_short: false };
+    let answer = judge(&mut kept, mode, target, &mut NoSink);
+    let is_told_again = match answer {
+        Err(Stop::No { .. }) => true,
+        Err(Stop::Read) => false,
+        _ => kept.is_cut_short,
+    };
+    if !is_told_again {
+        return answer;
+    }
+    let rest: Box<dyn Read> = if kept.has_ended { Box::new(std::io::empty()) } else { kept.input };
+    judge(&mut kept.bytes.as_slice().chain(rest), mode, target, sink)
 }
 
 fn fault() -> ! {
@@ -259,7 +299,7 @@ fn main() {
     let mut sink = Sink { task, out, frames: 0, last: [(ElementName::ProfileIdc, 0, 0); KEPT], told: 0 };
     let mut answer = match sink.task {
         Task::Check => check(file, mode, target, &mut sink),
-        _ => judge(file, mode, target, &mut sink),
+        _ => open(file).and_then(|mut input| judge(&mut *input, mode, target, &mut sink)),
     };
     if sink.task == Task::Decode && sink.out.flush().is_err() {
         answer = Err(Stop::Write);

@@ -22,6 +22,11 @@ excused-since reads kept h = record {
   read_told = ⊎_elim (λ e. inl (e ∙ kept)) (λ told. inr told) h.read_told;
 }
 
+-- what files of any name hold stays known where the opener stays the same after it was opened by
+pub held-still : {O : Type 0} (holds : O → List ℕ → Option (List ℕ)) {opener opener' opener'' : O} → opener'' ≡ opener' →
+    ((other : List ℕ) → holds opener' other ≡ holds opener other) → (other : List ℕ) → holds opener'' other ≡ holds opener other
+held-still holds same held other = ap (λ o. holds o other) same ∙ held other
+
 module _ {O : Type 0} (holds : O → List ℕ → Option (List ℕ)) (opener : O) {name given : List ℕ} (left : Option (List ℕ)) where
   -- what an open file gives is what the file of the name holds that the words give
   pub opened-as : name ≡ given → Keeps (holds opener name) left → Keeps (holds opener given) left

@@ -2,6 +2,7 @@ pub mod Commands
 pub mod Explained
 pub mod Files
 pub mod Further
+pub mod Keeping
 pub mod More
 pub mod Options
 pub mod Texts

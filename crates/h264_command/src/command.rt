@@ -1,15 +1,15 @@
 //! The command line.
 #![tactic(auto)]
 
-ghost use Rattle.std.specs.Prelude.{◌≡◌, ◌-◌, ◌<◌, ◌^◌, ◌⊎◌, true, false, List, Some, Err, codes, map, string_bytes};
+ghost use Rattle.std.specs.Prelude.{◌≡◌, ◌-◌, ◌<◌, ◌^◌, ◌⊎◌, Bool, true, false, List, Some, Err, IsErrOf, IfSome, IfNone, codes, map, string_bytes};
 ghost use Rattle.h264_base.specs.Call.{HasRoom};
 ghost use Rattle.clap.specs.Words.{Text, subcommand_of, takes, kind_of};
 ghost use Rattle.clap.specs.declared.error.kind.ErrorKind.TheVariants as kinds;
 ghost use Rattle.h264_base.specs.declared.mode.Mode.TheVariants as modes;
 ghost use Rattle.h264_lines.specs.Sent.{Sends, Takes, wrote};
-ghost use Rattle.h264_report.specs.Written.{OfBytes, last_line};
+ghost use Rattle.h264_report.specs.Written.{OfBytes, Checks, last_line};
 ghost use Rattle.h264_command.specs.Commands.{Performs, SaysAlone, TellsFailures, IsExcused, Faults, Comes, ComesTo, failed_read, files_read, span_of};
-ghost use Rattle.h264_command.specs.Files.{HasFailedToRead, HasReadAll, IsUnread};
+ghost use Rattle.h264_command.specs.Files.{left_of, HasFailedToRead, HasReadAll, IsUnread, TellsUnread};
 ghost use Rattle.h264_command.specs.declared.command_line.Task.TheVariants as tasks;
 ghost use Rattle.h264_command.specs.declared.command_line.Wanted.{Wanted as WantedView};
 ghost use Rattle.h264_command.specs.declared.outcome.Outcome.TheVariants as outcomes;
@@ -18,12 +18,13 @@ ghost use Rattle.h264_command.specs.Options.{IsPlain};
 
 use crate::command_line::{Request, Task, asked, listed};
 use crate::files::{OpenedFiles, Opener};
+use crate::job::is_told_again;
 use crate::outcome::Outcome;
 use clap::Error;
 use clap::error::ErrorKind;
 use h264_base::{Failed, Mode, Stop, Target};
 use h264_lines::{Device, Listing, put_text, shown};
-use h264_report::{Ending, check, check_unless_no, decode, list, put_answer, put_memory};
+use h264_report::{Ending, check, decode, judge_unnoted, list, put_answer, put_memory};
 use h264_verify::Source;
 use std::alloc::{AllocError, Global};
 
@@ -147,11 +148,43 @@ fn fault<W: Device, E: Device>(
     }
 }
 
-/// Whether a file of this name is judged first without a note of its elements: by `check`, where the file can be read again.
+/// Whether a file of this name, which was opened, is judged first without a note of its elements: by `check`, where the file can be read again.
 fn is_glanced_at<O: Opener + Drop>(task: Task, name: &str, files: &OpenedFiles<O>) -> bool
     ensures { result ≡ true → task ≡ tasks.Check }
 {
-    task == Task::Check && files.is_lasting(name)
+    task == Task::Check && files.keep(name)
+}
+
+/// Judges the open file without a note of its elements, for this target, and writes the last line of what is told of it. None where a second reading tells it:
+/// a no with its last elements, and what was cut short; then nothing is written.
+fn glance<O: Opener + Drop, W: Device>(
+    alloc: Global,
+    target: Target,
+    files: &mut OpenedFiles<O>,
+    out: &mut W,
+) -> Option<Ending>
+    requires { files.old.file.failures < 2 ^ 64 - 1 }
+    ensures checks { IfSome result (λ ending. OfBytes (left_of O.File.Read.remaining files.old.file.reader)
+        (λ bytes. Checks target bytes ending (wrote (W.contents out.old) (W.contents out.new)))) }
+    ensures read { IfSome result (λ ending. IsErrOf ending.answer Stop.Read → IsUnread files.old.file.failures files.old.file.reads
+        files.new.file.failures files.new.file.reads) }
+    // A read that failed is told as Read.
+    ensures read_told { IfSome result (λ ending. TellsUnread files.old.file.failures files.new.file.failures ending.answer) }
+    ensures write { IfSome result (λ ending. IsErrOf ending.answer Stop.Write → ⊥) }
+    ensures quiet { IfSome result (λ ending. ending.written ≡ true → W.has_failed out.new ≡ W.has_failed out.old) }
+    ensures handed_over { IfSome result (λ ending. ending.written ≡ true → W.holds_back out.new ≡ false) }
+    ensures failed { IfSome result (λ ending. ending.written ≡ false → W.has_failed out.new ≡ true) }
+    // Of a reading that was cut short a read that failed is told alone.
+    ensures whole { IfSome result (λ ending. (cut : Bool) × O.cut_short files.new.opener cut × (cut ≡ true → IsErrOf ending.answer Stop.Read)) }
+    ensures untold { IfNone result (out.new ≡ out.old) }
+    ensures unfailed { IfNone result (HasReadAll files.old.file.failures files.new.file.failures) }
+    ensures opener { files.new.opener ≡ files.old.opener }
+{
+    let answer = judge_unnoted(alloc, target, &mut files.file);
+    if is_told_again(answer, files.is_cut_short()) {
+        return None;
+    }
+    Some(put_answer(alloc, Mode::Full, answer, out))
 }
 
 /// Does what is asked of a file that stands for itself, for this target. Only a no of `check` needs its last elements: a file that can be read again is judged
@@ -180,10 +213,10 @@ fn serve<O: Opener + Drop, W: Device, E: Device>(
     if !is_glanced_at(task, file, files) {
         return perform(alloc, task, target, &mut files.file, out, err).status();
     }
-    if let Some(ending) = check_unless_no(alloc, target, &mut files.file, out) {
+    if let Some(ending) = glance(alloc, target, files, out) {
         return ending.status();
     }
-    match files.open(file) {
+    match files.open_again(file) {
         Ok(()) => perform(alloc, task, target, &mut files.file, out, err).status(),
         Err(Failed) => no_file(alloc, task, out, err).status(),
     }

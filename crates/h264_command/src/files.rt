@@ -1,7 +1,7 @@
 //! Files as sources of streams.
 #![tactic(auto)]
 
-ghost use Rattle.std.specs.Prelude.{◌≡◌, ℕ, ◌+◌, ◌-◌, ◌<◌, ◌^◌, true, false, nat_lt, List, Option, None, Some, Ok, IfOk, IfErr, OnOk, OnErr};
+ghost use Rattle.std.specs.Prelude.{◌≡◌, ℕ, ◌+◌, ◌-◌, ◌<◌, ◌^◌, true, false, nat_lt, Bool, List, Option, None, Some, Ok, IfOk, IfErr, OnOk, OnErr};
 ghost use Rattle.h264_base.specs.Call.{HasRoom, IsQuiet};
 ghost use Rattle.std.specs.IoError.{error_kind, kind_in, os_error_kinds};
 ghost use Rattle.std.specs.Io.KnownBytes.{Keeps};
@@ -27,9 +27,21 @@ pub trait Opener {
         // What is known of the others stays so.
         ensures others { (other : List ℕ) → holds self.new other ≡ holds self.old other };
 
-    /// Whether a name stands for a regular file, which can be opened and read again from its start. What comes of a second reading is told for itself, and may
+    /// Prepares the file of this name, which was opened last and of which nothing was read yet, for a second reading by `open_again`. Whether there can be one.
+    fn keep(&self, name: &str) -> bool;
+
+    /// The file of this name, which was opened last and kept, to be read again from where it began. What comes of a second reading is told for itself, and may
     /// be another answer where the file was changed meanwhile.
-    fn is_lasting(&self, name: &str) -> bool;
+    fn open_again(&mut self, name: &str) -> io::Result<Self::File>
+        ensures opened { IfOk result (λ file. Keeps (holds self.old name.now) (Self.File.Read.remaining file)) }
+        ensures others { (other : List ℕ) → holds self.new other ≡ holds self.old other };
+
+    /// Whether it may be said of the last reading that it was cut short.
+    ghost cut_short: { Self → Bool → Type 0 } = { λ _ _. Unit {0} };
+
+    /// Whether the last reading ended before its file did, since no more of it could be kept. What came of such a reading is nothing to be told.
+    fn is_cut_short(&self) -> bool
+        ensures { cut_short self.now result };
 }
 
 /// Makes files to write to.
@@ -120,6 +132,28 @@ impl<F: Read + Drop> OpenFile<F> {
         }
     }
 
+    /// Takes a file that was opened, to be read from its start. Failed: it could not be opened, by a cause that is kept.
+    fn begin(&mut self, opened: io::Result<F>) -> Result<(), Failed>
+        requires { self.old.failures < 2 ^ 64 - 1 }
+        ensures reader { IfOk opened (λ reader. self.new.reader ≡ Some reader) }
+        ensures reads { self.new.reads ≡ self.old.reads }
+        ensures kept { OnOk result (self.new.failures ≡ self.old.failures) }
+        ensures opened { OnErr opened (OnOk result ⊥) }
+        ensures failed { OnErr result (self.new.failures ≡ self.old.failures + 1) }
+    {
+        match opened {
+            Ok(reader) => {
+                self.reader = Some(reader);
+                self.seen = Seen::new();
+                Ok(())
+            }
+            Err(error) => {
+                self.cause = Some(error);
+                self.fail()
+            }
+        }
+    }
+
     /// Counts a failure.
     fn fail<T>(&mut self) -> Result<T, Failed>
         requires { self.old.failures < 2 ^ 64 - 1 }
@@ -160,9 +194,16 @@ impl<O: Opener + Drop> OpenedFiles<O> {
         &self.opener
     }
 
-    /// Whether a name stands for a regular file, which can be opened and read again from its start.
-    pub fn is_lasting(&self, name: &str) -> bool {
-        self.opener.is_lasting(name)
+    /// Prepares the file of this name, which was opened last and of which nothing was read yet, for a second reading by `open_again`. Whether there can be one.
+    pub fn keep(&self, name: &str) -> bool {
+        self.opener.keep(name)
+    }
+
+    /// Whether the last reading ended before its file did, since no more of it could be kept.
+    pub fn is_cut_short(&self) -> bool
+        ensures { O.cut_short self.now.opener result }
+    {
+        self.opener.is_cut_short()
     }
 
     /// Closes the open file, and counts it where it could not be opened or read.
@@ -291,16 +332,24 @@ impl<O: Opener + Drop> OpenedFiles<O> {
         ensures holds { (other : List ℕ) → O.holds self.new.opener other ≡ O.holds self.old.opener other }
         ensures unread { self.new.unread ≡ self.old.unread }
     {
-        match self.opener.open(name) {
-            Ok(reader) => {
-                self.file.reader = Some(reader);
-                self.file.seen = Seen::new();
-                Ok(())
-            }
-            Err(error) => {
-                self.file.cause = Some(error);
-                self.file.fail()
-            }
-        }
+        let opened = self.opener.open(name);
+        self.file.begin(opened)
+    }
+
+    /// Opens the file of this name again, which was opened last and kept, to be read from where it began.
+    ///
+    /// Failed: it can't be opened.
+    pub fn open_again(&mut self, name: &str) -> Result<(), Failed>
+        requires { self.old.file.failures < 2 ^ 64 - 1 }
+        ensures opened { OnOk result (Keeps (O.holds self.old.opener name.now) (left_of O.File.Read.remaining self.new.file.reader)) }
+        ensures reads { OnOk result ((n : ℕ) → was_read_by self.old.file.reads self.old.file.failures n →
+            was_read_by self.new.file.reads self.new.file.failures n) }
+        ensures kept { OnOk result (self.new.file.failures ≡ self.old.file.failures) }
+        ensures failed { OnErr result (self.new.file.failures ≡ self.old.file.failures + 1) }
+        ensures holds { (other : List ℕ) → O.holds self.new.opener other ≡ O.holds self.old.opener other }
+        ensures unread { self.new.unread ≡ self.old.unread }
+    {
+        let opened = self.opener.open_again(name);
+        self.file.begin(opened)
     }
 }

@@ -1,7 +1,7 @@
 //! One file, judged as the options say.
 #![tactic(auto)]
 
-ghost use Rattle.std.specs.Prelude.{◌≡◌, ◌-◌, ◌<◌, ◌^◌, List, [], true, false, None, Err, IsErrOf, IsSome, IfSome, IfNone, string_bytes};
+ghost use Rattle.std.specs.Prelude.{◌≡◌, ◌-◌, ◌<◌, ◌^◌, Bool, List, [], true, false, None, Err, IsErrOf, IsSome, IfSome, IfNone, string_bytes};
 ghost use Rattle.h264_base.specs.Call.{Call, HasRoom};
 ghost use Rattle.h264_base.specs.declared.stop.Stop.TheVariants.{Read, Write};
 ghost use Rattle.h264_lines.specs.Chosen.{TookChosen, pending_call};
@@ -16,7 +16,7 @@ ghost use Rattle.h264_command.specs.Surveys.{asks_for_survey, IsSurveyed};
 ghost use Rattle.h264_command.specs.Words.{mode_of};
 
 use crate::command_line::Task;
-use crate::files::{OpenFile, Seen};
+use crate::files::{OpenFile, OpenedFiles, Opener, Seen};
 use crate::options::Options;
 use crate::strictly::{FurtherRules, is_broken};
 use h264_base::{Mode, Stop};
@@ -472,38 +472,46 @@ fn check_unnoted<F: io::Read + Drop, M: Meter + Drop>(
     Some(found)
 }
 
-/// Whether an answer is told by a second reading alone: a no, with its last elements. Write is never told by the first, which writes nothing.
-fn is_told_again(answer: Answer) -> bool
+/// Whether an answer is told by a second reading alone: a no, with its last elements, and what came of a reading that was cut short. A read that failed is told
+/// by the first. Write is never told by the first, which writes nothing.
+pub fn is_told_again(answer: Answer, is_cut_short: bool) -> bool
     ensures no { result ≡ false → is_no answer ≡ false }
     ensures write { result ≡ false → answer ≡ Err Write → ⊥ }
     ensures read { result ≡ true → answer ≡ Err Read → ⊥ }
+    ensures cut { is_cut_short ≡ true → result ≡ false → answer ≡ Err Read }
 {
     match answer {
-        Ok(_) => false,
+        Ok(_) => is_cut_short,
         Err(Stop::No { .. }) => true,
-        Err(Stop::Outside { .. }) => false,
-        Err(Stop::Memory) => false,
+        Err(Stop::Outside { .. }) => is_cut_short,
+        Err(Stop::Memory) => is_cut_short,
         Err(Stop::Read) => false,
         Err(Stop::Write) => true,
     }
 }
 
-/// Judges the open file without a note of its elements: what is told of it. None where a second reading tells it, with its last elements, and where memory is
-/// wanting.
-pub fn glance_at<F: io::Read + Drop>(job: &Job<'_>, file: &mut OpenFile<F>) -> Option<Found>
-    requires { file.old.failures < 2 ^ 64 - 1 }
-    ensures answer { IfSome result (λ found. IsAnswerOf job.now.task job.now.options.target (left_of F.remaining file.old.reader) found.answer) }
-    ensures read { IfSome result (λ found. IsErrOf found.answer Read → IsUnread file.old.failures file.old.reads file.new.failures file.new.reads) }
-    ensures read_told { IfSome result (λ found. TellsUnread file.old.failures file.new.failures found.answer) }
-    ensures unread { IfNone result (HasReadAll file.old.failures file.new.failures) }
+/// Judges the open file without a note of its elements: what is told of it. None where a second reading tells it: a no with its last elements, and what was cut
+/// short; and where memory is wanting.
+pub fn glance_at<O: Opener + Drop>(job: &Job<'_>, files: &mut OpenedFiles<O>) -> Option<Found>
+    requires { files.old.file.failures < 2 ^ 64 - 1 }
+    ensures answer { IfSome result (λ found. IsAnswerOf job.now.task job.now.options.target (left_of O.File.Read.remaining files.old.file.reader)
+        found.answer) }
+    ensures read { IfSome result (λ found. IsErrOf found.answer Read → IsUnread files.old.file.failures files.old.file.reads
+        files.new.file.failures files.new.file.reads) }
+    ensures read_told { IfSome result (λ found. TellsUnread files.old.file.failures files.new.file.failures found.answer) }
+    ensures unread { IfNone result (HasReadAll files.old.file.failures files.new.file.failures) }
     ensures further { IfSome result (λ found. IsFound job.now.options.strict (terms_of (mode_of job.now.task) job.now.options.target)
-        (left_of F.remaining file.old.reader) found.answer found.strict) }
+        (left_of O.File.Read.remaining files.old.file.reader) found.answer found.strict) }
     // A no is never told without its last elements.
     ensures no { IfSome result (λ found. is_no found.answer ≡ false) }
+    // Of a reading that was cut short a read that failed is told alone.
+    ensures whole { IfSome result (λ found. (cut : Bool) × O.cut_short files.new.opener cut × (cut ≡ true → IsErrOf found.answer Read)) }
     ensures write { IfSome result (λ found. IsErrOf found.answer Write → ⊥) }
+    ensures opener { files.new.opener ≡ files.old.opener }
+    ensures closed { files.new.unread ≡ files.old.unread }
 {
-    let found = check_unnoted(job, file, NoMeter)?;
-    if is_told_again(found.answer) {
+    let found = check_unnoted(job, &mut files.file, NoMeter)?;
+    if is_told_again(found.answer, files.is_cut_short()) {
         return None;
     }
     Some(found)

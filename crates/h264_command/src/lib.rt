@@ -14,6 +14,7 @@ pub mod files;
 pub mod glob;
 pub mod handing;
 mod job;
+pub mod keeping;
 mod labels;
 mod listing;
 pub mod lists;

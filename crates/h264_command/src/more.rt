@@ -272,15 +272,15 @@ fn answers_aside(task: Task) -> bool
     }
 }
 
-/// Whether a file is judged first without a note of its elements, which only a no needs: where `check` would tell them, the file can be read again, and it is
-/// not told how far the judgement has come, which is told once.
+/// Whether a file that was opened is judged first without a note of its elements, which only a no needs: where `check` would tell them, it is not told how far
+/// the judgement has come, which is told once, and the file can be read again.
 fn is_glanced_at<O: Opener + Drop>(job: &Job<'_>, files: &OpenedFiles<O>) -> bool
     ensures { result ≡ true → job.now.task ≡ Check }
 {
     job.task == Task::Check
         && job.tells_elements()
         && !job.options.progress
-        && files.is_lasting(system_name(job.file))
+        && files.keep(system_name(job.file))
 }
 
 /// Opens a file and judges it, and writes its answer to `out`, or to `err` where the task writes something else to `out`.
@@ -312,10 +312,10 @@ fn do_file<O: Opener + Drop, W: Device, E: Device, M: Meter + Drop>(
     if !is_glanced_at(job, files) {
         return judge_opened(job, &mut files.file, out, err, meter);
     }
-    if let Some(found) = glance_at(job, &mut files.file) {
+    if let Some(found) = glance_at(job, files) {
         return put_answer(job, &found, out, err);
     }
-    match files.open(name) {
+    match files.open_again(name) {
         Ok(()) => judge_opened(job, &mut files.file, out, err, meter),
         Err(Failed) => put_no_verdict(job, Stop::Read, out, err),
     }

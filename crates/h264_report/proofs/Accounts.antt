@@ -261,9 +261,6 @@ module _ (es : List Element) where
       let none : trail_text es said ≡ [] = ⊎_elim (λ same. ap (trail_text es) same ∙ bare-answer answer e) (λ memory. ap (trail_text es) memory) t in
       subst (λ l. Takes written old new (l ++ last_line modes.Full said)) (sym none) takes
 
-pub not-read : {A : Type 0} (answer : Result Summary Stop) → is_no answer ≡ true → answer ≡ Err Read → A
-not-read answer e r = absurd (let d : false ≡ true = sym (ap is_no r) ∙ e in cc)
-
 pub none-elements : (s : List Element) → s ≡ [] → s ≡ keep_last 16 (elements_of [])
 unfolding elements_of
 none-elements s e = e
@@ -298,13 +295,11 @@ checked {s' = s'} {answer = answer} {ending = ending} trail old new j none holds
     record { account = b.0; text = subst (λ es. Takes ending.written old new (trail_text es ending.answer ++ last_line modes.Full ending.answer)) is t }
 
 -- the last line alone, of an answer that is no no
-pub checked-bare : {S : Type 0} {target : Target} {took : S → List Call → Type 0} {failures : S → ℕ} {bytes : List ℕ} {frames : Family} {s s' : S}
-    {answer : Result Summary Stop} {ending : Ending} (old new : Option (List ℕ)) →
-    Judged (terms_of modes.Verdict target) (span took failures s s') bytes frames [] answer → took s [] → is_no answer ≡ false →
-    (ending.answer ≡ answer) ⊎ (ending.answer ≡ Err Memory) → Takes ending.written old new (last_line modes.Full ending.answer) →
-    Checks target bytes ending (wrote old new)
-checked-bare {answer = answer} {ending = ending} old new j none bare e t =
-    let b = told-account answer ending.answer e (accounts j none).0 in
+pub checked-bare : {target : Target} {bytes : List ℕ} {answer : Result Summary Stop} {ending : Ending} (old new : Option (List ℕ)) →
+    is_no answer ≡ false → (ending.answer ≡ answer) ⊎ (ending.answer ≡ Err Memory) → Takes ending.written old new (last_line modes.Full ending.answer) →
+    Account (terms_of modes.Verdict target) bytes answer → Checks target bytes ending (wrote old new)
+checked-bare {answer = answer} {ending = ending} old new bare e t a =
+    let b = told-account answer ending.answer e a in
     let es = keep_last 16 (elements_of (calls_in b.0)) in
     record { account = b.0; text = takes-bare es answer ending.answer ending.written old new bare e t }
 

@@ -1,9 +1,10 @@
 //! A stream judged, and what is found written: lines, the last elements or the frames, and the last line.
 #![tactic(auto)]
 
-ghost use Rattle.std.specs.Prelude.{◌≡◌, ◌≢◌, ℕ, ◌+◌, ◌-◌, ◌<◌, ◌⊎◌, ◌^◌, true, false, List, ◌++◌, Some, Ok, Err, IsErrOf, IfSome, IfNone};
+ghost use Rattle.std.specs.Prelude.{◌≡◌, ◌≢◌, ℕ, ◌+◌, ◌-◌, ◌<◌, ◌⊎◌, ◌^◌, true, false, List, ◌++◌, Some, Ok, Err, IsErrOf};
 ghost use Rattle.h264_base.specs.Call.{HasRoom, IsQuiet};
 ghost use Rattle.h264_base.specs.declared.mode.Mode.TheVariants as modes;
+ghost use Rattle.h264_verify.specs.Account.{Account};
 ghost use Rattle.h264_verify.specs.Units.{terms_of};
 ghost use Rattle.h264_lines.specs.Objects.{bare};
 ghost use Rattle.h264_lines.specs.Sent.{Takes, wrote};
@@ -293,35 +294,23 @@ pub fn check<R: Source, W: Device>(
     put_trail(alloc, sink.trail(), answer, out)
 }
 
-/// Judges a stream whole, for this target, and makes no frames. Its elements are not noted, so that this takes less time than `check`. The last line is
-/// written; but None where a rule is broken: then nothing is written, since a no has its last elements before it.
+/// Judges a stream whole, for this target, and makes no frames: the answer. Its elements are not noted, so that this takes less time than `check`.
 ///
 /// The answer is Read where a read failed, or where the source was read 2^41 times; Memory where memory was wanting; never Write.
-pub fn check_unless_no<R: Source, W: Device>(
+pub fn judge_unnoted<R: Source>(
     alloc: Global,
     target: Target,
     source: &mut R,
-    out: &mut W,
-) -> Option<Ending>
+) -> Result<Summary, Stop>
     requires { HasRoom R.failures source.old }
-    ensures checks { IfSome result (λ ending. OfBytes (R.left source.old)
-        (λ bytes. Checks target bytes ending (wrote (W.contents out.old) (W.contents out.new)))) }
-    ensures read { IfSome result (λ ending. IsErrOf ending.answer Stop.Read → (R.failures source.new ≡ R.failures source.old + 1)
-        ⊎ ((n : ℕ) → R.was_read source.old n → R.was_read source.new (n + 2 ^ 41))) }
+    ensures account { OfBytes (R.left source.old) (λ bytes. Account (terms_of modes.Verdict target) bytes result) }
+    ensures read { IsErrOf result Stop.Read → (R.failures source.new ≡ R.failures source.old + 1)
+        ⊎ ((n : ℕ) → R.was_read source.old n → R.was_read source.new (n + 2 ^ 41)) }
     // A read that failed is told as Read.
-    ensures read_told { IfSome result (λ ending. (IsQuiet R.failures source.old source.new) ⊎ IsErrOf ending.answer Stop.Read) }
-    ensures write { IfSome result (λ ending. IsErrOf ending.answer Stop.Write → ⊥) }
-    ensures quiet { IfSome result (λ ending. ending.written ≡ true → W.has_failed out.new ≡ W.has_failed out.old) }
-    ensures handed_over { IfSome result (λ ending. ending.written ≡ true → W.holds_back out.new ≡ false) }
-    ensures failed { IfSome result (λ ending. ending.written ≡ false → W.has_failed out.new ≡ true) }
-    ensures untold { IfNone result (out.new ≡ out.old) }
-    ensures unfailed { IfNone result (IsQuiet R.failures source.old source.new) }
+    ensures read_told { (IsQuiet R.failures source.old source.new) ⊎ IsErrOf result Stop.Read }
+    ensures write { IsErrOf result Stop.Write → ⊥ }
 {
-    let answer = run(alloc, source, &mut NoSink, Mode::Verdict, target);
-    if is_no(answer) {
-        return None;
-    }
-    Some(put_answer(alloc, Mode::Full, answer, out))
+    run(alloc, source, &mut NoSink, Mode::Verdict, target)
 }
 
 /// Judges a stream whole, and writes its frames through a pen.

@@ -29,7 +29,8 @@ fn main(rt: HostRuntime) -> ExitCode {
     let status = match BufWriter::new(alloc, io::writer(&rt)) {
         Ok(buffer) => {
             let shared = RefCell::new(buffer);
-            let mut files = OpenedFiles::new(SystemFiles::new(&rt, &shared));
+            let opened = RefCell::new(None);
+            let mut files = OpenedFiles::new(SystemFiles::new(&rt, &shared, &opened));
             let mut out = WriteDevice::new(SharedWriter { writer: &shared });
             let meter = Progress::new(&rt);
             program(alloc, &words, &mut files, &mut out, &mut err, meter)

@@ -5,6 +5,7 @@ use crate::folders::{below, names_of};
 use crate::output::{SystemOutput, is_link_of_the_system, make_output};
 use h264_command::files::{Maker, Opener};
 use h264_command::handing::{HandingReader, SharedWriter};
+use h264_command::keeping::{Keeper, KeptInput, SharedInput};
 use h264_command::lists::{Below, Lister};
 use h264_command::words::{Words, has_odd_byte, words_of};
 use std::alloc::Global;
@@ -25,6 +26,12 @@ impl Words for SystemWords<'_> {
     }
 }
 
+/// How many bytes are kept at most of a file that the system gives once, as a pipe. A judgement of so many takes about a second.
+const MOST_KEPT: usize = 16 * 1024 * 1024;
+
+/// The file that was opened last, and what is kept of it.
+pub type Opened = RefCell<Option<KeptInput<File>>>;
+
 /// The files of the system. Each hands over what waits for standard output before it is read.
 #[derive(Drop)]
 pub struct SystemFiles<'a, W: Write + Drop> {
@@ -33,15 +40,32 @@ pub struct SystemFiles<'a, W: Write + Drop> {
     out: &'a RefCell<W>,
     /// The name that stands for standard input, where it has one of its own.
     input: RefCell<Option<String>>,
+    keeper: Keeper<'a, File>,
 }
 
 impl<'a, W: Write + Drop> SystemFiles<'a, W> {
     /// The files, and standard output.
-    pub fn new(rt: &'a HostRuntime, out: &'a RefCell<W>) -> SystemFiles<'a, W> {
+    pub fn new(rt: &'a HostRuntime, out: &'a RefCell<W>, opened: &'a Opened) -> SystemFiles<'a, W> {
         SystemFiles {
             rt,
             out,
             input: RefCell::new(None),
+            keeper: Keeper {
+                alloc: rt.alloc(),
+                input: opened,
+                most: MOST_KEPT,
+            },
+        }
+    }
+
+    /// A reader of this input.
+    fn handing(
+        &self,
+        reader: SharedInput<'a, File>,
+    ) -> HandingReader<'a, SharedInput<'a, File>, W> {
+        HandingReader {
+            reader,
+            out: SharedWriter { writer: self.out },
         }
     }
 
@@ -97,22 +121,35 @@ fn is_lasting_file(rt: &HostRuntime, name: &str) -> bool {
 }
 
 impl<'a, W: Write + Drop> Opener for SystemFiles<'a, W> {
-    type File = HandingReader<'a, File, W>;
+    type File = HandingReader<'a, SharedInput<'a, File>, W>;
 
-    fn open(&mut self, name: &str) -> io::Result<HandingReader<'a, File, W>> {
+    fn open(&mut self, name: &str) -> io::Result<HandingReader<'a, SharedInput<'a, File>, W>> {
         let name = if self.names_input(name) {
             STANDARD_INPUT
         } else {
             name
         };
-        Ok(HandingReader {
-            reader: open_input(self.rt, name)?,
-            out: SharedWriter { writer: self.out },
-        })
+        let file = open_input(self.rt, name)?;
+        Ok(self.handing(self.keeper.open(file)?))
     }
 
-    fn is_lasting(&self, name: &str) -> bool {
-        !self.names_input(name) && is_lasting_file(self.rt, name)
+    fn keep(&self, name: &str) -> bool {
+        let is_lasting = !self.names_input(name) && is_lasting_file(self.rt, name);
+        is_lasting || self.keeper.keep()
+    }
+
+    fn open_again(
+        &mut self,
+        name: &str,
+    ) -> io::Result<HandingReader<'a, SharedInput<'a, File>, W>> {
+        match self.keeper.open_again()? {
+            Some(reader) => Ok(self.handing(reader)),
+            None => self.open(name),
+        }
+    }
+
+    fn is_cut_short(&self) -> bool {
+        self.keeper.is_cut_short()
     }
 }
 

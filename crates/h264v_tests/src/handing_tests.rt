@@ -84,7 +84,15 @@ impl<'a> Opener for Watched<'a> {
         })
     }
 
-    fn is_lasting(&self, _name: &str) -> bool {
+    fn keep(&self, _name: &str) -> bool {
+        false
+    }
+
+    fn open_again(&mut self, name: &str) -> io::Result<HandingReader<'a, Watching<'a>, Held>> {
+        self.open(name)
+    }
+
+    fn is_cut_short(&self) -> bool {
         false
     }
 }

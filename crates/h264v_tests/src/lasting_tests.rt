@@ -13,7 +13,7 @@ const CHECK: [&str; 3] = ["h264v", "check", "stream"];
 const EXPLAINED: [&str; 4] = ["h264v", "check", "--explain", "stream"];
 
 /// A stream that breaks a rule: one frame, without its last byte.
-const BROKEN: &str = "000000016742c00ada710000000168ce388000000165888493";
+pub const BROKEN: &str = "000000016742c00ada710000000168ce388000000165888493";
 
 /// A stream that can be opened so often.
 fn opened_at_most(openings: usize) -> Devices {

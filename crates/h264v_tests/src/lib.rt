@@ -14,6 +14,8 @@ mod handing_tests;
 #[cfg(test)]
 mod header_tests;
 #[cfg(test)]
+mod keeping_tests;
+#[cfg(test)]
 mod lasting_tests;
 #[cfg(test)]
 mod more_tests;

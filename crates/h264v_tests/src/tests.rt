@@ -8,6 +8,7 @@ use crate::set_tests::{SETS_0, SETS_1, SETS_2, SETS_3};
 use crate::target_tests::{FOR_BASELINE, FOR_MAIN_IP};
 use h264_command::files::{Maker, OpenedFiles, Opener};
 use h264_command::glob::is_match;
+use h264_command::keeping::{Keeper, SharedInput};
 use h264_command::lists::{Below, Lister};
 use h264_command::program::run_words;
 use h264_command::words::words_of;
@@ -27,6 +28,8 @@ use std::test::Fail;
 pub struct Devices {
     /// How often the stream can be opened, where it can be read again.
     pub openings: Option<usize>,
+    /// How many of its bytes can be kept, where it can be read once and is kept.
+    pub most_kept: Option<usize>,
     pub read_size: usize,
     /// The number of the opening in which a read fails.
     pub failing_opening: usize,
@@ -39,6 +42,7 @@ pub struct Devices {
 /// Devices that take all, and never fail.
 pub const WELL: Devices = Devices {
     openings: None,
+    most_kept: None,
     read_size: usize::MAX,
     failing_opening: 0,
     failing_read: usize::MAX,
@@ -73,21 +77,22 @@ impl Read for Pieces<'_> {
 
 /// Opens the one stream that there is, by any name that begins with `stream`, and makes outputs: none of the name `full`, and one of the name `kept` that can't
 /// be finished.
-#[derive(Clone, Copy)]
-struct OneStream<'a> {
+#[derive(Drop)]
+struct OneStream<'a, 'b> {
     alloc: Global,
-    bytes: &'a [u8],
+    bytes: &'b [u8],
     devices: Devices,
     /// How often it was opened.
     opened: usize,
+    keeper: Keeper<'a, Pieces<'b>>,
     /// The output that was finished.
     finished: &'a RefCell<Option<Vec<u8>>>,
 }
 
-impl<'a> Opener for OneStream<'a> {
-    type File = Pieces<'a>;
+impl<'a, 'b> Opener for OneStream<'a, 'b> {
+    type File = SharedInput<'a, Pieces<'b>>;
 
-    fn open(&mut self, name: &str) -> io::Result<Pieces<'a>> {
+    fn open(&mut self, name: &str) -> io::Result<SharedInput<'a, Pieces<'b>>> {
         let opening = self.opened;
         self.opened = self.opened.saturating_add(1);
         let can_open = self.devices.openings.is_none_or(|most| opening < most);
@@ -95,7 +100,7 @@ impl<'a> Opener for OneStream<'a> {
             return Err(io::Error::from(ErrorKind::NotFound));
         }
         let fails = opening == self.devices.failing_opening;
-        Ok(Pieces {
+        self.keeper.open(Pieces {
             rest: self.bytes,
             reads: 0,
             size: self.devices.read_size,
@@ -107,8 +112,19 @@ impl<'a> Opener for OneStream<'a> {
         })
     }
 
-    fn is_lasting(&self, _name: &str) -> bool {
-        self.devices.openings.is_some()
+    fn keep(&self, _name: &str) -> bool {
+        self.devices.openings.is_some() || self.devices.most_kept.is_some() && self.keeper.keep()
+    }
+
+    fn open_again(&mut self, name: &str) -> io::Result<SharedInput<'a, Pieces<'b>>> {
+        match self.keeper.open_again()? {
+            Some(reader) => Ok(reader),
+            None => self.open(name),
+        }
+    }
+
+    fn is_cut_short(&self) -> bool {
+        self.keeper.is_cut_short()
     }
 }
 
@@ -129,7 +145,7 @@ impl Write for Output {
     }
 }
 
-impl Maker for OneStream<'_> {
+impl Maker for OneStream<'_, '_> {
     type Output = Output;
 
     fn make(&mut self, name: &str) -> io::Result<Output> {
@@ -160,7 +176,7 @@ impl Maker for OneStream<'_> {
 }
 
 /// Two files below any folder but `none`, one of which is no stream's, and beside them a socket; a list has two names.
-impl Lister for OneStream<'_> {
+impl Lister for OneStream<'_, '_> {
     fn listed_in(&self, list: &str) -> io::Result<Vec<String>> {
         if list != "list" {
             return Err(io::Error::from(ErrorKind::NotFound));
@@ -253,11 +269,18 @@ pub fn words(alloc: Global, given: &[&str]) -> Result<Vec<String>, Fail> {
 /// What the program writes to words, over a stream that comes by such devices.
 fn run_over(alloc: Global, words: &[String], bytes: &[u8], devices: Devices) -> Written {
     let finished = RefCell::new(None);
+    let opened = RefCell::new(None);
+    let keeper = Keeper {
+        alloc,
+        input: &opened,
+        most: devices.most_kept.unwrap_or(0),
+    };
     let mut files = OpenedFiles::new(OneStream {
         alloc,
         bytes,
         devices,
         opened: 0,
+        keeper,
         finished: &finished,
     });
     let mut out = WriteDevice::new(writer(alloc, devices.write_size, devices.failing_write));

@@ -3,7 +3,7 @@ use Rattle.h264_report.proofs.Accounts.{of-kept}
 use Rattle.h264_lines.specs.Sent.{wrote}
 use Rattle.h264_report.specs.Written.{OfBytes, Checks, status_of}
 use Rattle.h264_command.specs.Commands.{Performs, Unopened, Done}
-use Rattle.h264_command.proofs.Reopened.{excused-since, opened-again, read-after}
+use Rattle.h264_command.proofs.Reopened.{excused-since, held-still, opened-again, read-after}
 use Rattle.h264_command.proofs.command.serve.Goals as goal
 
 -- and the other writer holds what it held
@@ -41,17 +41,18 @@ returns-in-Some g c words asks plain target =
     })
     (rw (c.if-not-is_glanced_at.ensures refl)
     (beside (g.O.Opener.holds c.args.files.now.opener c.args.request.file.now)
-    (λ bytes. Checks c.args.target bytes c.in-Some.ending (wrote (g.W.Device.contents c.args.out.now) (g.W.Device.contents c.check_unless_no.new.out)))
+    (λ bytes. Checks c.args.target bytes c.in-Some.ending (wrote (g.W.Device.contents c.args.out.now) (g.W.Device.contents c.glance.new.out)))
     (g.E.Device.contents c.args.err.now)
     (of-kept (g.O.Opener.holds c.args.files.now.opener c.args.request.file.now) _
-    (λ bytes. Checks c.args.target bytes c.in-Some.ending (wrote (g.W.Device.contents c.args.out.now) (g.W.Device.contents c.check_unless_no.new.out)))
+    (λ bytes. Checks c.args.target bytes c.in-Some.ending (wrote (g.W.Device.contents c.args.out.now) (g.W.Device.contents c.glance.new.out)))
     c.in_default.ensures.opened c.in-Some.ensures.checks)))
 
 pub returns-in-Ok : goal.returns-in-Ok
 returns-in-Ok g c words asks plain target =
-    let kept = c.in-Ok.ensures.kept ∙ c.in_default-check_unless_no.ensures.unfailed ∙ c.in_default.ensures.kept in
-    let untold = c.in_default-check_unless_no.ensures.untold in
-    let k = opened-again g.O.Opener.holds _ _ c.in_default.ensures.holds refl c.in-Ok.ensures.opened in
+    let kept = c.in-Ok.ensures.kept ∙ c.in_default-glance.ensures.unfailed ∙ c.in_default.ensures.kept in
+    let untold = c.in_default-glance.ensures.untold in
+    let same = held-still g.O.Opener.holds c.in_default-glance.ensures.opener c.in_default.ensures.holds in
+    let k = opened-again g.O.Opener.holds _ _ same refl c.in-Ok.ensures.opened in
     Done c.args.request.task c.args.request.file.now c.args.target c.perform-in-Ok.result asks plain target c.status-in-Ok.ensures
     (excused-since _ kept (rw untold at c.perform-in-Ok.ensures.excused))
     (of-kept (g.O.Opener.holds c.args.files.now.opener c.args.request.file.now) _
@@ -60,10 +61,10 @@ returns-in-Ok g c words asks plain target =
     (wrote (g.E.Device.contents c.args.err.now) (g.E.Device.contents c.perform-in-Ok.new.err)))
     k (rw untold at c.perform-in-Ok.ensures.performs))
 
-pub returns-in-Err-open : goal.returns-in-Err-open
-returns-in-Err-open g c words asks plain target =
-    let untold = c.in_default-check_unless_no.ensures.untold in
-    Unopened c.args.request.task c.args.request.file.now c.no_file-in-Err-open.result.written asks plain
-    (c.status-in-Err-open.ensures ∙ ap (λ answer. status_of c.no_file-in-Err-open.result.written answer) c.no_file-in-Err-open.ensures.answer)
-    (inl (c.in-Err-open.ensures.failed ∙ ap (λ n. n + 1) (c.in_default-check_unless_no.ensures.unfailed ∙ c.in_default.ensures.kept)))
-    (rw untold at c.no_file-in-Err-open.ensures.failures) (rw untold at c.no_file-in-Err-open.ensures.says)
+pub returns-in-Err-open_again : goal.returns-in-Err-open_again
+returns-in-Err-open_again g c words asks plain target =
+    let untold = c.in_default-glance.ensures.untold in
+    Unopened c.args.request.task c.args.request.file.now c.no_file-in-Err-open_again.result.written asks plain
+    (c.status-in-Err-open_again.ensures ∙ ap (λ answer. status_of c.no_file-in-Err-open_again.result.written answer) c.no_file-in-Err-open_again.ensures.answer)
+    (inl (c.in-Err-open_again.ensures.failed ∙ ap (λ n. n + 1) (c.in_default-glance.ensures.unfailed ∙ c.in_default.ensures.kept)))
+    (rw untold at c.no_file-in-Err-open_again.ensures.failures) (rw untold at c.no_file-in-Err-open_again.ensures.says)

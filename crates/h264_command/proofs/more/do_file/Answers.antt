@@ -9,7 +9,7 @@ use Rattle.h264_command.specs.Words.{mode_of}
 use Rattle.h264_command.proofs.Answered.{or-memory}
 use Rattle.h264_command.proofs.Further.{broken-kept, broken-told, told-answer, told-plainly}
 use Rattle.h264_command.proofs.ToldReads.{told-kept, told-since}
-use Rattle.h264_command.proofs.Reopened.{opened-again, opened-as, read-after}
+use Rattle.h264_command.proofs.Reopened.{held-still, opened-again, opened-as, read-after}
 use Rattle.h264_command.proofs.Texts.{text-alone, text-kept}
 use Rattle.h264_command.proofs.Writing.{read-told, writes-untold}
 use Rattle.h264_command.proofs.more.do_file.Goals as goal
@@ -82,13 +82,15 @@ returns-in-Some-clause-text g c =
 
 pub returns-in-Ok-clause-answer : goal.returns-in-Ok-clause-answer
 returns-in-Ok-clause-answer g c =
-    let k = opened-again g.O.Opener.holds _ _ c.in_default.ensures.holds c.system_name-name.ensures c.in-Ok.ensures.opened in
+    let same = held-still g.O.Opener.holds c.in_default-glance_at.ensures.opener c.in_default.ensures.holds in
+    let k = opened-again g.O.Opener.holds _ _ same c.system_name-name.ensures c.in-Ok.ensures.opened in
     of-kept _ _ (λ bytes. IsAnswer (terms_of (mode_of c.args.job.now.task) c.args.job.now.options.target) bytes c.judge_opened-in-Ok.result.ending.answer) k
     c.judge_opened-in-Ok.ensures.answer
 
 pub returns-in-Ok-clause-broken : goal.returns-in-Ok-clause-broken
 returns-in-Ok-clause-broken g c =
-    let k = opened-again g.O.Opener.holds _ _ c.in_default.ensures.holds c.system_name-name.ensures c.in-Ok.ensures.opened in
+    let same = held-still g.O.Opener.holds c.in_default-glance_at.ensures.opener c.in_default.ensures.holds in
+    let k = opened-again g.O.Opener.holds _ _ same c.system_name-name.ensures c.in-Ok.ensures.opened in
     broken-kept _ _ _ _ c.judge_opened-in-Ok.result k c.judge_opened-in-Ok.ensures.broken
 
 pub returns-in-Ok-clause-read : goal.returns-in-Ok-clause-read
@@ -101,12 +103,14 @@ returns-in-Ok-clause-read_told g c = told-since (c.in-Ok.ensures.kept ∙ c.in_d
 
 pub returns-in-Ok-clause-text : goal.returns-in-Ok-clause-text
 returns-in-Ok-clause-text g c =
-    let k = opened-again g.O.Opener.holds _ _ c.in_default.ensures.holds c.system_name-name.ensures c.in-Ok.ensures.opened in
+    let same = held-still g.O.Opener.holds c.in_default-glance_at.ensures.opener c.in_default.ensures.holds in
+    let k = opened-again g.O.Opener.holds _ _ same c.system_name-name.ensures c.in-Ok.ensures.opened in
     text-kept _ _ _ k c.judge_opened-in-Ok.ensures.text
 
 pub returns-in-Ok-clause-holds : goal.returns-in-Ok-clause-holds
-returns-in-Ok-clause-holds g c name = c.in-Ok.ensures.holds name ∙ c.in_default.ensures.holds name
+returns-in-Ok-clause-holds g c name = c.in-Ok.ensures.holds name ∙
+    held-still g.O.Opener.holds c.in_default-glance_at.ensures.opener c.in_default.ensures.holds name
 
-pub returns-in-Err-open-clause-read : goal.returns-in-Err-open-clause-read
-returns-in-Err-open-clause-read g c e = inl
-    (c.in-Err-open.ensures.failed ∙ ap (λ n. n + 1) (c.in_default-glance_at.ensures.unread ∙ c.in_default.ensures.kept))
+pub returns-in-Err-open_again-clause-read : goal.returns-in-Err-open_again-clause-read
+returns-in-Err-open_again-clause-read g c e = inl
+    (c.in-Err-open_again.ensures.failed ∙ ap (λ n. n + 1) (c.in_default-glance_at.ensures.unread ∙ c.in_default.ensures.kept))
