@@ -17,7 +17,7 @@ PARTS = VERSION.split(".")
 SONAME = f"libh264v.so.{PARTS[0]}"
 #: The file, the pattern with what is to stand between its two groups, and that.
 PLACES = [
-    ("crates/h264_command/src/command_line.rt", r'(\.version\(")([^"]*)("\))', VERSION),
+    ("crates/h264_words/src/command_line.rt", r'(\.version\(")([^"]*)("\))', VERSION),
     ("crates/h264v_tests/src/more_tests.rt", r'(err: "h264v )(\d[^"\\]*)(\\n")', VERSION),
     ("include/h264v.h", r'(#define H264V_VERSION_TEXT ")([^"]*)(")', VERSION),
     *(("include/h264v.h", r"(#define H264V_VERSION_%s )(\d+)(\n)" % name, part) for name, part in zip(("MAJOR", "MINOR", "PATCH"), PARTS)),

@@ -27,8 +27,8 @@ use Rattle.h264_verify.specs.declared.state.Terms.{Terms}
 use Rattle.h264_command.specs.More.{IsAnswer, IsAnswerOf}
 use Rattle.h264_command.specs.Surveys.{IsSurveyed}
 use Rattle.h264_command.specs.declared.job.Job.{Job}
-use Rattle.h264_command.specs.Words.{mode_of}
-use Rattle.h264_command.specs.declared.command_line.Task.{Task}
+use Rattle.h264_words.specs.Words.{mode_of}
+use Rattle.h264_words.specs.declared.command_line.Task.{Task}
 
 of-judged : {S : Type 0} {took : S → List Call → Type 0} {failures : S → ℕ} {terms : Terms} {bytes : List ℕ} {frames : Family} {s s' : S}
     (answer : Result Summary Stop) →

@@ -1,4 +1,3 @@
-pub mod Added
 mod Failing
 mod Statuses
 mod Texts
@@ -8,5 +7,4 @@ mod Writing
 mod ToldReads
 mod Reopened
 mod Answered
-mod Given
 mod Further

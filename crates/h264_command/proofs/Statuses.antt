@@ -1,11 +1,9 @@
 -- The exit status of one file, and of several.
-use Rattle.std.proofs.Common.{◌≡◌, ℕ, max, List, [], ◌∷◌, ◌++◌, map, length, get_or, Bool, fold, cond, ◌+◌, refl, ap, ◌∙◌, subst, arith}
-use Rattle.std.specs.List.{count_by}
-use Rattle.clap.specs.Words.{Text}
+use Rattle.std.proofs.Common.{◌≡◌, ℕ, max, List, [], ◌∷◌, ◌++◌, map, length, get_or, refl, ap, ◌∙◌, subst, arith}
 use Rattle.h264_command.specs.Commands.{Output, from_to}
 use Rattle.h264_command.specs.More.{FileDone, FilesSpan, IsStatus, done_status, worst}
-use Rattle.h264_command.specs.Words.{Given}
-use Rattle.h264_command.specs.declared.command_line.Task.{Task}
+use Rattle.h264_words.specs.Words.{Given}
+use Rattle.h264_words.specs.declared.command_line.Task.{Task}
 
 pub worst-more : (files : List FileDone) (f : FileDone) → worst (files ++ f ∷ []) ≡ max (worst files) (done_status f.done)
 worst-more [] f = let here : max (done_status f.done) 0 ≡ max 0 (done_status f.done) = omega arith in here
@@ -20,14 +18,6 @@ pub single : {X Y : Type 0} (of : X → Y) (xs : List X) (d : X) → length xs �
 single of [] d e = absurd (omega (arith, e))
 single of (x ∷ []) d e = refl
 single of (x ∷ y ∷ xs) d e = absurd (omega (arith, e))
-
-fold-map : {X Y A : Type 0} (g : A → Y → A) (of : X → Y) (a : A) (xs : List X) → fold g a (map of xs) ≡ fold (λ b x. g b (of x)) a xs
-fold-map g of a [] = refl
-fold-map g of a (x ∷ xs) = fold-map g of (g a (of x)) xs
-
--- how many pass, of the things that elements are turned into
-pub count-map : {X : Type 0} (p : Text → Bool) (of : X → Text) (xs : List X) → count_by p (map of xs) ≡ count_by (λ x. p (of x)) xs
-count-map p of xs = let none : ℕ = 0 in fold-map (λ n y. n + cond (p y) 1 0) of none xs
 
 -- what comes of a task, with the same rows and devices
 pub moved : {task : Task} {given given' : Given} {files : FilesSpan} {status : ℕ} {was was' out err err' now : Output} → given ≡ given' → was ≡ was' →

@@ -28,11 +28,11 @@ use Rattle.h264_command.specs.Further.{IsNoVerdict, IsToldOf}
 use Rattle.h264_command.specs.More.{FileDone, texts_of}
 use Rattle.h264_command.specs.Texts.{IsFrontOfNext, IsMade, IsListed, chooses, IsDecoded, IsTextOf, TakesText, TellsAnswer, Quiet, Whole, Short, IsEnd, AreBoth}
 use Rattle.h264_command.specs.Texts.{IsFileText, Judged, Unjudged, answers_aside, listing_of}
-use Rattle.h264_command.specs.Words.{mode_of}
-use Rattle.h264_command.specs.declared.command_line.Task.{Task}
-use Rattle.h264_command.specs.declared.command_line.Task.TheVariants as tasks
+use Rattle.h264_words.specs.Words.{mode_of}
+use Rattle.h264_words.specs.declared.command_line.Task.{Task}
+use Rattle.h264_words.specs.declared.command_line.Task.TheVariants as tasks
 use Rattle.h264_command.specs.declared.job.Found.{Found}
-use Rattle.h264_command.specs.declared.options.Options.{Options}
+use Rattle.h264_words.specs.declared.options.Options.{Options}
 use Rattle.h264_command.proofs.Told.{taken}
 
 -- ---- what a sink's device took

@@ -18,19 +18,20 @@ use Rattle.h264_verify.specs.Units.{terms_of}
 use Rattle.h264_base.specs.declared.summary.Summary.{Summary}
 use Rattle.h264_lines.specs.declared.device.WriteDevice.{WriteDevice}
 use Rattle.h264_command.specs.Commands.{Output, OutputSpan, IsHandedOver, from_to, output_by, span_by}
-use Rattle.h264_command.specs.Further.{asks_further, TellsBroken}
+use Rattle.h264_command.specs.Further.{TellsBroken}
+use Rattle.h264_words.specs.Options.{asks_further}
 use Rattle.h264_command.specs.More.{AreDone, AreTold, AreToldAside, Broke, Each, FileDone, Work, HasTaken, IsAnswerOf, IsJudged, IsPutAside, IsTextOfFile}
 use Rattle.h264_command.specs.More.{IsToldAside, NoneTook, TellReads, TellUnread, TellsRead, TellsWrites, are_several, done_status}
 use Rattle.h264_command.specs.More.{file_of_output, files_span, is_whole, says_verdict}
 use Rattle.h264_command.specs.More.{texts_of, work, worst}
-use Rattle.h264_command.specs.Options.{output_file}
+use Rattle.h264_words.specs.Options.{output_file}
 use Rattle.h264_command.specs.Files.{Counts, IsUnread, TellsFailure}
 use Rattle.h264_command.specs.Texts.{IsFileText, TakesText, opening_in, prefix_of}
-use Rattle.h264_command.specs.Words.{mode_of, system_name}
+use Rattle.h264_words.specs.Words.{mode_of, system_name}
 use Rattle.h264_command.proofs.Texts.{texts-one}
-use Rattle.h264_command.specs.declared.command_line.Task.{Task}
+use Rattle.h264_words.specs.declared.command_line.Task.{Task}
 use Rattle.h264_command.specs.declared.job.Done.{Done}
-use Rattle.h264_command.specs.declared.options.Options.{Options}
+use Rattle.h264_words.specs.declared.options.Options.{Options}
 
 -- an answer of a failed write is told where the device failed, and only there
 failed-told : (failed : Bool) (answer said : Result Summary Stop) → said ≡ told_of failed answer → said ≡ Err Write → failed ≡ true

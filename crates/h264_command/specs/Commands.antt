@@ -8,10 +8,10 @@ use Rattle.h264_report.specs.Written.{OfBytes, Lists, Checks, Decodes, last_line
 use Rattle.h264_lines.specs.declared.device.WriteDevice.{WriteDevice}
 use Rattle.h264_report.specs.declared.judging.Ending.{Ending}
 use Rattle.h264_lines.specs.declared.listing.Listing.TheVariants as listings
-use Rattle.h264_command.specs.Options.{IsPlain}
-use Rattle.h264_command.specs.Words.{program, asks, name_of, value_in, IsRefusable, IsTarget}
-use Rattle.h264_command.specs.declared.command_line.Task.{Task}
-use Rattle.h264_command.specs.declared.command_line.Task.TheVariants as tasks
+use Rattle.h264_words.specs.Options.{IsPlain}
+use Rattle.h264_words.specs.Words.{program, asks, name_of, value_in, IsRefusable, IsTarget}
+use Rattle.h264_words.specs.declared.command_line.Task.{Task}
+use Rattle.h264_words.specs.declared.command_line.Task.TheVariants as tasks
 use Rattle.clap.specs.Words.{Text, subcommand_of, subcommand_rows_of}
 use Rattle.h264_command.specs.declared.outcome.Outcome.{Outcome}
 use Rattle.h264_command.specs.declared.outcome.Outcome.TheVariants as outcomes

@@ -4,7 +4,5 @@ pub mod Files
 pub mod Further
 pub mod Keeping
 pub mod More
-pub mod Options
 pub mod Texts
 pub mod Surveys
-pub mod Words

@@ -18,13 +18,13 @@ use Rattle.h264_base.specs.declared.summary.Summary.{Summary}
 use Rattle.h264_verify.specs.declared.state.Terms.{Terms}
 use Rattle.h264_command.specs.declared.job.Done.{Done}
 use Rattle.h264_command.specs.Texts.{IsFileText, opening_in, prefix_of}
-use Rattle.h264_command.specs.Words.{program, asks, name_of, Given, values_in, system_name, mode_of}
-use Rattle.h264_command.specs.Further.{asks_further, TellsBroken}
-use Rattle.h264_command.specs.Options.{AreOptions, AreWellUsed, IsRefused, output_file, refusal_text}
-use Rattle.h264_command.specs.declared.options.Options.{Options}
-use Rattle.h264_command.specs.declared.refusal.Refusal.{Refusal}
-use Rattle.h264_command.specs.declared.command_line.Task.{Task}
-use Rattle.h264_command.specs.declared.command_line.Task.TheVariants as tasks
+use Rattle.h264_words.specs.Words.{program, asks, name_of, Given, values_in, system_name, mode_of}
+use Rattle.h264_command.specs.Further.{TellsBroken}
+use Rattle.h264_words.specs.Options.{asks_further, AreOptions, AreWellUsed, IsRefused, output_file, refusal_text}
+use Rattle.h264_words.specs.declared.options.Options.{Options}
+use Rattle.h264_words.specs.declared.refusal.Refusal.{Refusal}
+use Rattle.h264_words.specs.declared.command_line.Task.{Task}
+use Rattle.h264_words.specs.declared.command_line.Task.TheVariants as tasks
 use Rattle.clap.specs.Words.{Text, subcommand_of, takes}
 use Rattle.h264_command.specs.Commands.{Output, OutputSpan, from_to, FilesRead, files_read, Comes, HasFailed, IsHandedOver}
 use Rattle.h264_command.specs.Files.{Counts, HasReadAll, IsUnread, TellsFailure}

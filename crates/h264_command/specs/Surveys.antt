@@ -1,5 +1,5 @@
 -- Of which calls a survey is made beside a judgement, so that more can be told of them. To be read beside docs/OUTPUT.md.
-use Rattle.std.specs.Prelude.{ℕ, Bool, true, ◌||◌, List, Option, Result}
+use Rattle.std.specs.Prelude.{ℕ, Bool, true, List, Option, Result}
 use Rattle.h264_base.specs.declared.stop.Stop.{Stop}
 use Rattle.h264_pages.specs.Surveyed.{HasSurveyed}
 use Rattle.h264_report.specs.Written.{OfBytes}
@@ -7,15 +7,12 @@ use Rattle.h264_verify.specs.Account.{Account, calls_in}
 use Rattle.h264_pages.specs.declared.survey.notes.Survey.{Survey}
 use Rattle.h264_verify.specs.Units.{terms_of}
 use Rattle.h264_base.specs.declared.summary.Summary.{Summary}
-use Rattle.h264_command.specs.Words.{mode_of}
-use Rattle.h264_command.specs.declared.command_line.Task.{Task}
-use Rattle.h264_command.specs.declared.command_line.Task.TheVariants as tasks
+use Rattle.h264_words.specs.Words.{mode_of}
+use Rattle.h264_words.specs.declared.command_line.Task.{Task}
+use Rattle.h264_words.specs.declared.command_line.Task.TheVariants as tasks
+use Rattle.h264_words.specs.Options.{asks_for_survey}
 use Rattle.h264_command.specs.declared.job.Job.{Job}
-use Rattle.h264_command.specs.declared.options.Options.{Options}
-
--- An option tells more of a judgement than its sink does.
-abbrev pub asks_for_survey : Options → Bool
-asks_for_survey o = o.explain || (o.json || o.progress)
+use Rattle.h264_words.specs.declared.options.Options.{Options}
 
 -- the calls of a task are surveyed with these options
 abbrev pub surveys : Task → Options → Bool

@@ -23,10 +23,10 @@ use Rattle.h264_base.specs.declared.summary.Summary.{Summary}
 use Rattle.h264_verify.specs.declared.state.Terms.{Terms}
 use Rattle.h264_command.specs.Commands.{Output}
 use Rattle.h264_command.specs.Further.{IsNoVerdict, IsToldOf}
-use Rattle.h264_command.specs.Words.{mode_of}
-use Rattle.h264_command.specs.declared.command_line.Task.{Task}
-use Rattle.h264_command.specs.declared.command_line.Task.TheVariants as tasks
-use Rattle.h264_command.specs.declared.options.Options.{Options}
+use Rattle.h264_words.specs.Words.{mode_of}
+use Rattle.h264_words.specs.declared.command_line.Task.{Task}
+use Rattle.h264_words.specs.declared.command_line.Task.TheVariants as tasks
+use Rattle.h264_words.specs.declared.options.Options.{Options}
 use Rattle.clap.specs.Words.{Text}
 
 -- ---- which calls have a line, and what it begins with

@@ -10,13 +10,12 @@ ghost use Rattle.h264_lines.specs.Sent.{Sends, Takes, wrote};
 ghost use Rattle.h264_report.specs.Written.{OfBytes, Checks, last_line};
 ghost use Rattle.h264_command.specs.Commands.{Performs, SaysAlone, TellsFailures, IsExcused, Faults, Comes, ComesTo, failed_read, files_read, span_of};
 ghost use Rattle.h264_command.specs.Files.{left_of, HasFailedToRead, HasReadAll, IsUnread, TellsUnread};
-ghost use Rattle.h264_command.specs.declared.command_line.Task.TheVariants as tasks;
-ghost use Rattle.h264_command.specs.declared.command_line.Wanted.{Wanted as WantedView};
+ghost use Rattle.h264_words.specs.declared.command_line.Task.TheVariants as tasks;
+ghost use Rattle.h264_words.specs.declared.command_line.Wanted.{Wanted as WantedView};
 ghost use Rattle.h264_command.specs.declared.outcome.Outcome.TheVariants as outcomes;
-ghost use Rattle.h264_command.specs.Words.{program, asks, name_of, value_in, is_judging, IsTarget};
-ghost use Rattle.h264_command.specs.Options.{IsPlain};
+ghost use Rattle.h264_words.specs.Words.{program, asks, name_of, value_in, is_judging, IsTarget};
+ghost use Rattle.h264_words.specs.Options.{IsPlain};
 
-use crate::command_line::{Request, Task, asked, listed};
 use crate::files::{OpenedFiles, Opener};
 use crate::job::is_told_again;
 use crate::outcome::Outcome;
@@ -26,6 +25,7 @@ use h264_base::{Failed, Mode, Stop, Target};
 use h264_lines::{Device, Listing, put_text, shown};
 use h264_report::{Ending, check, decode, judge_unnoted, list, put_answer, put_memory};
 use h264_verify::Source;
+use h264_words::command_line::{Request, Task, asked, listed};
 use std::alloc::{AllocError, Global};
 
 /// What is said where the words name no task.

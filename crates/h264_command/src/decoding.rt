@@ -10,7 +10,7 @@ ghost use Rattle.h264_command.specs.Files.{left_of, HasReadAll, IsUnread, TellsU
 ghost use Rattle.h264_command.specs.More.{IsAnswerOf};
 ghost use Rattle.h264_command.specs.Surveys.{IsSurveyed};
 ghost use Rattle.h264_command.specs.Texts.{IsDecoded, TakesText};
-ghost use Rattle.h264_command.specs.Words.{mode_of};
+ghost use Rattle.h264_words.specs.Words.{mode_of};
 
 use crate::files::OpenFile;
 use crate::job::{Found, Job, Watch, found_with, judge};

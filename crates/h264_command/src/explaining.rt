@@ -5,9 +5,9 @@ ghost use Rattle.std.specs.Prelude.{◌≡◌, ◌++◌, IfOk, IfSome, IfNone, O
 ghost use Rattle.h264_command.specs.Explained.{folded, label_in, IsNoLabel, rule_lines, rule_object, feature_lines, feature_object, entry_text};
 ghost use Rattle.h264_command.specs.Explained.{strict_lines, strict_front, strict_object};
 
-use crate::labels::same_but_for_case;
 use h264_pages::{FeatureEntry, RuleEntry, entry_by_label, escaped, feature_by_name};
 use h264_strict::{StrictEntry, strict_by_label};
+use h264_words::labels::same_but_for_case;
 use std::alloc::{AllocError, Global};
 
 /// What is said of a rule, of a feature that is not judged, or of a further rule.

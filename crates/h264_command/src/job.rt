@@ -12,12 +12,11 @@ ghost use Rattle.h264_verify.specs.Units.{terms_of};
 ghost use Rattle.h264_command.specs.Files.{left_of, HasReadAll, IsUnread, TellsUnread};
 ghost use Rattle.h264_command.specs.Further.{AreJudged, BreakOne, IsFound};
 ghost use Rattle.h264_command.specs.More.{done_status, IsAnswerOf};
-ghost use Rattle.h264_command.specs.Surveys.{asks_for_survey, IsSurveyed};
-ghost use Rattle.h264_command.specs.Words.{mode_of};
+ghost use Rattle.h264_command.specs.Surveys.{IsSurveyed};
+ghost use Rattle.h264_words.specs.Options.{asks_for_survey};
+ghost use Rattle.h264_words.specs.Words.{mode_of};
 
-use crate::command_line::Task;
 use crate::files::{OpenFile, OpenedFiles, Opener, Seen};
-use crate::options::Options;
 use crate::strictly::{FurtherRules, is_broken};
 use h264_base::{Mode, Stop};
 use h264_lines::head::Head;
@@ -27,6 +26,8 @@ use h264_pages::survey::{Meter, Narrowed, NoMeter, Survey, Surveyed};
 use h264_report::{Ending, NoSink, StrictJudgement, judge_strictly};
 use h264_strict::StrictSink;
 use h264_verify::{FrameSink, run};
+use h264_words::command_line::Task;
+use h264_words::options::Options;
 use std::alloc::Global;
 use std::io;
 

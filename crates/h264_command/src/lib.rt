@@ -7,23 +7,17 @@
 #![tactic(auto)]
 
 mod command;
-mod command_line;
 mod decoding;
 mod explaining;
 pub mod files;
-pub mod glob;
 pub mod handing;
 mod job;
 pub mod keeping;
-mod labels;
 mod listing;
 pub mod lists;
 mod more;
-mod options;
 mod outcome;
 pub mod program;
-mod refusal;
 mod reporting;
 mod strictly;
 mod telling;
-pub mod words;

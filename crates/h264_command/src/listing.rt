@@ -12,9 +12,8 @@ ghost use Rattle.h264_command.specs.Files.{left_of, HasReadAll, IsUnread, TellsU
 ghost use Rattle.h264_command.specs.More.{IsAnswerOf};
 ghost use Rattle.h264_command.specs.Surveys.{IsSurveyed};
 ghost use Rattle.h264_command.specs.Texts.{IsListed, IsMade, TakesText, chooses, head_of, listing_of, opening_in};
-ghost use Rattle.h264_command.specs.Words.{mode_of};
+ghost use Rattle.h264_words.specs.Words.{mode_of};
 
-use crate::command_line::Task;
 use crate::files::OpenFile;
 use crate::job::{Found, Job, Watch, found_with, judge, judge_chosen};
 use h264_lines::choice::Choice;
@@ -22,6 +21,7 @@ use h264_lines::{Device, Form, LineSink, Listing, Pen, Sheet};
 use h264_pages::escaped;
 use h264_pages::pages::Answer;
 use h264_pages::survey::{Meter, Narrowed, Survey, Surveyed};
+use h264_words::command_line::Task;
 use std::alloc::{AllocError, Global};
 use std::io;
 use std::marker::Brand;

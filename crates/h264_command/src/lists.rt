@@ -6,16 +6,16 @@
 
 ghost use Rattle.std.specs.Prelude.{◌≡◌, false, true, IfNone, IfSome, map, string_bytes};
 ghost use Rattle.clap.specs.Words.{takes};
-ghost use Rattle.h264_command.specs.Words.{program};
+ghost use Rattle.h264_words.specs.Words.{program};
 
 use crate::command::FAULT;
-use crate::command_line::{FLAGS, VALUES, asked, listed, takes_lists};
-use crate::glob::is_match;
-use crate::labels::all_labels;
 use crate::more::blame;
 use clap::error::ErrorKind;
 use clap::{ArgMatches, Error};
 use h264_lines::{Device, put_text};
+use h264_words::command_line::{FLAGS, VALUES, asked, listed, takes_lists};
+use h264_words::glob::is_match;
+use h264_words::labels::all_labels;
 use std::alloc::{AllocError, Global};
 use std::io;
 

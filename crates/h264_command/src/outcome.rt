@@ -1,7 +1,7 @@
 //! What comes of the words.
 #![tactic(auto)]
 
-use crate::command_line::Wanted;
+use h264_words::command_line::Wanted;
 
 /// What comes of the words of a command line.
 #[derive(Drop)]

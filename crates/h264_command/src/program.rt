@@ -8,15 +8,15 @@ ghost use Rattle.h264_command.specs.Files.{counts};
 ghost use Rattle.h264_command.specs.More.{HasTaken, IsStatus, Ends, Runs, RunsOnSome, files_span};
 
 use crate::command::command;
-use crate::command_line::Wanted;
 use crate::files::{Maker, OpenedFiles, Opener};
 use crate::lists::{Listed, Lister, listed_words};
 use crate::more::{blame_output, blame_reading, more};
 use crate::outcome::Outcome;
-use crate::words::Words;
 use h264_lines::{Device, WriteDevice};
 use h264_pages::survey::{Meter, NoMeter};
 use h264_report::put_memory;
+use h264_words::command_line::Wanted;
+use h264_words::words::Words;
 use std::alloc::Global;
 use std::io;
 use std::io::{ErrorKind, Write};

@@ -13,7 +13,7 @@ ghost use Rattle.h264_command.specs.Further.{IsFound};
 ghost use Rattle.h264_command.specs.More.{IsAnswerOf};
 ghost use Rattle.h264_command.specs.Surveys.{IsSurveyed};
 ghost use Rattle.h264_command.specs.Texts.{TakesText};
-ghost use Rattle.h264_command.specs.Words.{mode_of};
+ghost use Rattle.h264_words.specs.Words.{mode_of};
 
 use crate::files::OpenFile;
 use crate::job::{Found, Job, JudgedFurther, Watch, judge, judge_further};

@@ -11,9 +11,8 @@ ghost use Rattle.h264_report.specs.Written.{last_line};
 ghost use Rattle.h264_command.specs.Further.{BreakOne, IsNoVerdict};
 ghost use Rattle.h264_command.specs.Texts.{change_fields, change_line, change_object, change_of, head_of, opening_in, size_text, verdict_object};
 ghost use Rattle.h264_command.specs.Texts.{EndsWith, EndsWithAnswer, EndsWithChange, TellsAnswer};
-ghost use Rattle.h264_command.specs.Words as words;
+ghost use Rattle.h264_words.specs.Words as words;
 
-use crate::command_line::Task;
 use crate::job::{Done, Found, Job, mode_of};
 use crate::strictly::{put_strict_lines, put_strict_objects};
 use h264_base::Stop;
@@ -23,6 +22,7 @@ use h264_pages::pages::{
     Answer, Page, guide_on, put_answer_fields, put_explanation, put_verdict_fields,
 };
 use h264_report::{Ending, put_line};
+use h264_words::command_line::Task;
 use std::alloc::{AllocError, Global};
 
 /// Adds the lines before the last: what explains the answer, where that is asked, and what the further rules found.

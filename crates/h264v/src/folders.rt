@@ -2,7 +2,7 @@
 #![tactic(auto)]
 
 use h264_command::lists::Below;
-use h264_command::words::{has_odd_byte, word_of};
+use h264_words::words::{has_odd_byte, word_of};
 use std::alloc::{AllocError, Global};
 use std::fs::Files;
 use std::io::Read;

@@ -1,7 +1,7 @@
 //! The file of `--output`: written beside its name, which it takes once it is whole. So no link is followed, and nothing half written has the name.
 #![tactic(auto)]
 
-use h264_command::words::has_odd_byte;
+use h264_words::words::has_odd_byte;
 use std::alloc::Global;
 use std::fs::{File, Metadata, OpenOptions};
 use std::io::{BufWriter, ErrorKind, Write};

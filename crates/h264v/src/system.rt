@@ -7,7 +7,7 @@ use h264_command::files::{Maker, Opener};
 use h264_command::handing::{HandingReader, SharedWriter};
 use h264_command::keeping::{Keeper, KeptInput, SharedInput};
 use h264_command::lists::{Below, Lister};
-use h264_command::words::{Words, has_odd_byte, words_of};
+use h264_words::words::{Words, has_odd_byte, words_of};
 use std::alloc::Global;
 use std::cell::RefCell;
 use std::fs::File;

@@ -1,7 +1,7 @@
 use Rattle.std.proofs.Common.{map, string_bytes, refl, subst, codes}
 use Rattle.h264_command.specs.Commands.{Refused, Faulted}
-use Rattle.h264_command.specs.Options.{IsPlain}
-use Rattle.h264_command.specs.Words.{IsTarget, value_in}
+use Rattle.h264_words.specs.Options.{IsPlain}
+use Rattle.h264_words.specs.Words.{IsTarget, value_in}
 use Rattle.h264_command.proofs.command.command.Goals as goal
 
 pub returns-in-Err-clause-comes : goal.returns-in-Err-clause-comes

@@ -2,7 +2,7 @@ use Rattle.std.proofs.Common.{false, rules, sym}
 use Rattle.h264_verify.specs.Units.{terms_of}
 use Rattle.h264_command.specs.Files.{left_of}
 use Rattle.h264_command.specs.Texts.{IsDecoded}
-use Rattle.h264_command.specs.Words.{mode_of}
+use Rattle.h264_words.specs.Words.{mode_of}
 use Rattle.h264_command.proofs.Texts.{carried}
 use Rattle.h264_command.proofs.decoding.decode_bare.Goals as goal
 

@@ -7,7 +7,7 @@ use Rattle.h264_strict.specs.declared.strict_sink.StrictSink.{StrictSink}
 use Rattle.h264_verify.specs.Modes.{purpose_for}
 use Rattle.h264_verify.proofs.FamiliesByPurpose.{with-family}
 use Rattle.h264_command.specs.Files.{left_of}
-use Rattle.h264_command.specs.Words.{mode_of}
+use Rattle.h264_words.specs.Words.{mode_of}
 use Rattle.h264_command.proofs.Answered.{answered, survey-of, surveyed-calls}
 use Rattle.h264_command.proofs.Further.{judged}
 use Rattle.h264_command.proofs.job.judge_further.Goals as goal

@@ -4,7 +4,7 @@ use Rattle.h264_lines.specs.Told.{lines_of}
 use Rattle.h264_verify.specs.Units.{terms_of}
 use Rattle.h264_command.specs.Files.{left_of}
 use Rattle.h264_command.specs.Texts.{IsListed, listing_of}
-use Rattle.h264_command.specs.Words.{mode_of}
+use Rattle.h264_words.specs.Words.{mode_of}
 use Rattle.h264_command.proofs.Texts.{carried}
 use Rattle.h264_command.proofs.listing.list_chosen.Goals as goal
 

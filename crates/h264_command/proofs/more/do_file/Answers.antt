@@ -2,10 +2,11 @@ use Rattle.std.proofs.Common.{◌+◌, [], false, refl, sym, ap, ◌∙◌, subs
 use Rattle.h264_report.proofs.Accounts.{of-kept}
 use Rattle.h264_verify.specs.Units.{terms_of}
 use Rattle.h264_command.specs.Files.{left_of}
-use Rattle.h264_command.specs.Further.{IsFound, asks_further}
+use Rattle.h264_command.specs.Further.{IsFound}
+use Rattle.h264_words.specs.Options.{asks_further}
 use Rattle.h264_command.specs.More.{IsAnswer}
 use Rattle.h264_command.specs.Texts.{IsTextOf, opening_in}
-use Rattle.h264_command.specs.Words.{mode_of}
+use Rattle.h264_words.specs.Words.{mode_of}
 use Rattle.h264_command.proofs.Answered.{or-memory}
 use Rattle.h264_command.proofs.Further.{broken-kept, broken-told, told-answer, told-plainly}
 use Rattle.h264_command.proofs.ToldReads.{told-kept, told-since}

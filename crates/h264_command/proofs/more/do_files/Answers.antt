@@ -11,7 +11,7 @@ use Rattle.h264_command.proofs.Told.{taken}
 use Rattle.h264_command.proofs.ToldReads.{grows-by-one, tells-next, tells-none}
 use Rattle.h264_command.proofs.Writing.{IsWritten, each-written, written-of}
 use Rattle.h264_command.specs.Files.{one_more}
-use Rattle.h264_command.specs.Words.{system_name}
+use Rattle.h264_words.specs.Words.{system_name}
 use Rattle.h264_command.proofs.more.do_files.Goals as goal
 
 pub loop-name-init : goal.loop-name-init

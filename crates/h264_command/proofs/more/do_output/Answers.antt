@@ -4,7 +4,7 @@ use Rattle.h264_report.proofs.Accounts.{of-kept}
 use Rattle.h264_verify.specs.Units.{terms_of}
 use Rattle.h264_command.specs.Files.{IsUnread, TellsFailure, left_of, was_read_by}
 use Rattle.h264_command.specs.More.{IsAnswer}
-use Rattle.h264_command.specs.Words.{mode_of}
+use Rattle.h264_words.specs.Words.{mode_of}
 use Rattle.h264_command.proofs.Failing.{opened, read-since}
 use Rattle.h264_command.proofs.Further.{broken-kept, broken-same}
 use Rattle.h264_command.proofs.Texts.{text-kept}

@@ -1,10 +1,10 @@
 use Rattle.std.proofs.Common.{◌≡◌, ℕ, List, [], Bor, slice_index_or, length, option_map, refl, sym, ap, ◌∙◌, arith, rules}
 use Rattle.clap.specs.Words.{subcommand_rows_of}
 use Rattle.h264_command.specs.More.{Refused, Explained, Judged}
-use Rattle.h264_command.specs.Options.{Same}
-use Rattle.h264_command.specs.declared.refusal.Clash.TheVariants as clashes
-use Rattle.h264_command.specs.declared.refusal.Refusal.TheVariants as refusals
-use Rattle.h264_command.proofs.Given.{names-given}
+use Rattle.h264_words.specs.Options.{Same}
+use Rattle.h264_words.specs.declared.refusal.Clash.TheVariants as clashes
+use Rattle.h264_words.specs.declared.refusal.Refusal.TheVariants as refusals
+use Rattle.h264_words.proofs.Given.{names-given}
 use Rattle.h264_command.proofs.Statuses.{single}
 use Rattle.h264_command.proofs.Writing.{alone, alone-elsewhere, of-words, output-given, some-text}
 use Rattle.h264_command.proofs.more.more.Goals as goal

@@ -3,7 +3,7 @@ use Rattle.std.proofs.lemmas.Bool.{true≢false}
 use Rattle.h264_pages.specs.Pages.{is_cut}
 use Rattle.h264_lines.specs.Told.{ended}
 use Rattle.h264_command.specs.Texts.{Short}
-use Rattle.h264_command.specs.Words.{mode_of}
+use Rattle.h264_words.specs.Words.{mode_of}
 use Rattle.h264_command.proofs.telling.put_found.Goals as goal
 use Rattle.h264_command.proofs.telling.put_found.Goals.{then-not-job, else-not-job}
 

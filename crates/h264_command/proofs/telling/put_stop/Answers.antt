@@ -1,7 +1,7 @@
 use Rattle.std.proofs.Common.{◌++◌, ap}
 use Rattle.h264_lines.specs.Told.{ended}
 use Rattle.h264_command.specs.Texts.{Short}
-use Rattle.h264_command.specs.Words.{mode_of}
+use Rattle.h264_words.specs.Words.{mode_of}
 use Rattle.h264_command.proofs.telling.put_stop.Goals as goal
 
 pub returns-clause-text : goal.returns-clause-text

@@ -1,0 +1,39 @@
+-- What is found of words, by clap's rows of a subcommand.
+use Rattle.std.proofs.Common.{◌≡◌, ℕ, ◌+◌, List, [], ◌∷◌, fold, cond, Bool, refl, Bor, Option, Some, None, map, option_map, unwrap_or, codes, sym, ap, ◌∙◌}
+use Rattle.std.specs.Prelude.{option_and_then}
+use Rattle.std.specs.List.{count_by}
+use Rattle.std.specs.Option.{is_some}
+use Rattle.clap.specs.Words.{Row, Text}
+use Rattle.h264_words.specs.Words.{Given, all_in, values_in}
+
+-- the rows are those of the subcommand that was found, so what is asked of them is what is asked of it
+pub of-rows : {X : Type 0} (of : List Row → Option X) (given : Given) (rows : List Row) → Some rows ≡ option_map (λ p. p.1) given →
+    option_and_then (λ p. of p.1) given ≡ of rows
+of-rows of None rows e = absurd (let d = e in cc)
+of-rows of (Some p) rows e = ap (λ o. of (unwrap_or o rows)) (sym e)
+
+-- a value is given exactly where one is found
+pub some-given : {X Y : Type 0} (of : X → Y) (found : Option X) (given : Option Y) → option_map of found ≡ given → is_some found ≡ is_some given
+some-given of None given e = ap is_some e
+some-given of (Some x) given e = ap is_some e
+
+-- the names of the files that are found are those that are given
+pub names-given : (found : Option (Bor (List (Bor Text)))) (names none : Bor (List (Bor Text))) (given : Given) →
+    option_map (λ s. map (λ v. v.now) s.now) found ≡ all_in given (codes "FILE") →
+    names ≡ unwrap_or found none → none.now ≡ [] → map (λ v. v.now) names.now ≡ values_in given (codes "FILE")
+names-given None names none given e is empty =
+    let texts : Bor (List (Bor Text)) → List Text = λ b. map (λ v. v.now) b.now in
+    ap texts is ∙ ap (map (λ (v : Bor Text). v.now)) empty ∙ ap (λ o. unwrap_or o []) e
+names-given (Some s) names none given e is empty =
+    let texts : Bor (List (Bor Text)) → List Text = λ b. map (λ v. v.now) b.now in
+    ap texts is ∙ ap (λ o. unwrap_or o []) e
+
+-- ---- names that are counted
+
+fold-map : {X Y A : Type 0} (g : A → Y → A) (of : X → Y) (a : A) (xs : List X) → fold g a (map of xs) ≡ fold (λ b x. g b (of x)) a xs
+fold-map g of a [] = refl
+fold-map g of a (x ∷ xs) = fold-map g of (g a (of x)) xs
+
+-- how many pass, of the things that elements are turned into
+pub count-map : {X : Type 0} (p : Text → Bool) (of : X → Text) (xs : List X) → count_by p (map of xs) ≡ count_by (λ x. p (of x)) xs
+count-map p of xs = let none : ℕ = 0 in fold-map (λ n y. n + cond (p y) 1 0) of none xs

@@ -1,0 +1,11 @@
+use Rattle.std.proofs.Common.{◌≡◌, false, map, take}
+use Rattle.clap.specs.Words.{app_of}
+use Rattle.clap.specs.declared.builder.command.Command.TheViews.{out-Command as fields_of}
+use Rattle.h264_words.proofs.Added.{added}
+use Rattle.h264_words.proofs.command_line.program.Given as goal
+
+abbrev pub invariant-loop-name : goal.invariant-loop-name
+invariant-loop-name l = record {
+  local : (fields_of l.command).has_globals ≡ false;
+  app : app_of l.command ≡ added (map (λ p. p.0.now) (take l.name-index l.name-items));
+}
