@@ -1,5 +1,5 @@
 -- What a command comes to: what it writes to standard output and to standard error, and its exit status. To be read beside docs/OUTPUT.md.
-use Rattle.std.specs.Prelude.{◌≡◌, ◌≢◌, ℕ, Bool, true, false, List, Option, Some, Err, IsErrOf, ◌⊎◌, codes}
+use Rattle.std.specs.Prelude.{◌≡◌, ◌≢◌, ◌==◌, ◌||◌, ℕ, Bool, true, false, List, Option, Some, Err, IsErrOf, ◌⊎◌, codes}
 use Rattle.h264_base.specs.declared.mode.Mode.TheVariants as modes
 use Rattle.h264_base.specs.declared.mode.Target.{Target}
 use Rattle.h264_base.specs.declared.stop.Stop.TheVariants.{Memory, Read, Write}
@@ -13,6 +13,8 @@ use Rattle.h264_words.specs.Words.{program, asks, name_of, value_in, IsRefusable
 use Rattle.h264_words.specs.declared.command_line.Task.{Task}
 use Rattle.h264_words.specs.declared.command_line.Task.TheVariants as tasks
 use Rattle.clap.specs.Words.{Text, subcommand_of, subcommand_rows_of}
+use Rattle.h264_command.specs.declared.lists.Listed.{Listed}
+use Rattle.h264_command.specs.declared.lists.Listed.TheVariants as lists
 use Rattle.h264_command.specs.declared.outcome.Outcome.{Outcome}
 use Rattle.h264_command.specs.declared.outcome.Outcome.TheVariants as outcomes
 
@@ -111,6 +113,12 @@ pub data Faults (words : List Text) (status : ℕ) (out err : OutputSpan) : Type
   Short : (written : Bool) → status ≡ status_of written (Err Memory) → (written ≡ false → out.new.has_failed ≡ true) →
       (written ≡ true → out.new.holds_back ≡ false) →
       Takes written out.old.bytes out.new.bytes (last_line modes.Full (Err Memory)) → err.new ≡ err.old → Faults words status out err
+
+-- The exit status of words whose lists can't be followed: 64 where the words are refused, 4 where a list or a folder can't be read.
+abbrev pub has_fault_status : Listed → Bool
+has_fault_status (lists.Words words) = true
+has_fault_status (lists.Fault status) = (status == 64) || (status == 4)
+has_fault_status lists.Memory = true
 
 -- What is known of files: the bytes that the file of a name holds, where that is known; that a read failed; and that none did.
 pub record FilesRead : Type 1 where

@@ -120,6 +120,7 @@ pub struct OpenFile<F: Read + Drop> {
 impl<F: Read + Drop> OpenFile<F> {
     /// No file.
     fn none() -> OpenFile<F>
+        ensures reader { result.reader ≡ None }
         ensures reads { result.reads ≡ 0 }
         ensures no_failure { result.failures ≡ 0 }
     {
@@ -136,6 +137,7 @@ impl<F: Read + Drop> OpenFile<F> {
     fn begin(&mut self, opened: io::Result<F>) -> Result<(), Failed>
         requires { self.old.failures < 2 ^ 64 - 1 }
         ensures reader { IfOk opened (λ reader. self.new.reader ≡ Some reader) }
+        ensures unopened { OnErr result (self.new.reader ≡ self.old.reader) }
         ensures reads { self.new.reads ≡ self.old.reads }
         ensures kept { OnOk result (self.new.failures ≡ self.old.failures) }
         ensures opened { OnErr opened (OnOk result ⊥) }
@@ -209,6 +211,7 @@ impl<O: Opener + Drop> OpenedFiles<O> {
     /// Closes the open file, and counts it where it could not be opened or read.
     pub fn close(&mut self)
         ensures opener { self.new.opener ≡ self.old.opener }
+        ensures closed { self.new.file.reader ≡ None }
         ensures reads { self.new.file.reads ≡ 0 }
         ensures no_failure { self.new.file.failures ≡ 0 }
         ensures unread { self.new.unread ≡ one_more (nat_lt 0 self.old.file.failures) self.old.unread }
@@ -222,6 +225,7 @@ impl<O: Opener + Drop> OpenedFiles<O> {
     /// Closes the open file, and forgets the count of those that are closed.
     pub fn restart(&mut self)
         ensures opener { self.new.opener ≡ self.old.opener }
+        ensures closed { self.new.file.reader ≡ None }
         ensures reads { self.new.file.reads ≡ 0 }
         ensures no_failure { self.new.file.failures ≡ 0 }
         ensures unread { self.new.unread ≡ 0 }
@@ -279,6 +283,8 @@ fn outcome(read: io::Result<usize>, cause: &mut Option<io::Error>) -> Result<Opt
     ensures bytes { IfOk read (λ n. result ≡ Ok (Some n)) }
     ensures interrupted { IfErr read (λ e. error_kind e ≡ kind_in os_error_kinds 4 → result ≡ Ok None) }
     ensures failed { IfErr read (λ e. (error_kind e ≡ kind_in os_error_kinds 4 → ⊥) → OnOk result ⊥) }
+    ensures cause { IfErr read (λ e. (error_kind e ≡ kind_in os_error_kinds 4 → ⊥) → cause.new ≡ Some e) }
+    ensures no_cause { OnOk result (cause.new ≡ cause.old) }
 {
     match read {
         Ok(n) => Ok(Some(n)),
@@ -329,6 +335,7 @@ impl<O: Opener + Drop> OpenedFiles<O> {
             was_read_by self.new.file.reads self.new.file.failures n) }
         ensures kept { OnOk result (self.new.file.failures ≡ self.old.file.failures) }
         ensures failed { OnErr result (self.new.file.failures ≡ self.old.file.failures + 1) }
+        ensures unopened { OnErr result (self.new.file.reader ≡ self.old.file.reader) }
         ensures holds { (other : List ℕ) → O.holds self.new.opener other ≡ O.holds self.old.opener other }
         ensures unread { self.new.unread ≡ self.old.unread }
     {
@@ -346,6 +353,7 @@ impl<O: Opener + Drop> OpenedFiles<O> {
             was_read_by self.new.file.reads self.new.file.failures n) }
         ensures kept { OnOk result (self.new.file.failures ≡ self.old.file.failures) }
         ensures failed { OnErr result (self.new.file.failures ≡ self.old.file.failures + 1) }
+        ensures unopened { OnErr result (self.new.file.reader ≡ self.old.file.reader) }
         ensures holds { (other : List ℕ) → O.holds self.new.opener other ≡ O.holds self.old.opener other }
         ensures unread { self.new.unread ≡ self.old.unread }
     {

@@ -7,6 +7,7 @@
 ghost use Rattle.std.specs.Prelude.{◌≡◌, false, true, IfNone, IfSome, map, string_bytes};
 ghost use Rattle.clap.specs.Words.{takes};
 ghost use Rattle.h264_words.specs.Words.{program};
+ghost use Rattle.h264_command.specs.Commands.{has_fault_status};
 
 use crate::command::FAULT;
 use crate::more::blame;
@@ -320,6 +321,7 @@ pub fn listed_words<L: Lister, E: Device>(
 ) -> Option<Listed>
     ensures refused { IfSome result (λ _. takes program (map (λ w. string_bytes w) words.now) ≡ false) }
     ensures untold { IfNone result (err.new ≡ err.old) }
+    ensures status { IfSome result (λ listed. has_fault_status listed ≡ true) }
 {
     if !is_refused(alloc, words) {
         return None;
