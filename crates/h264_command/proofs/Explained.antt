@@ -1,7 +1,8 @@
 -- The entries of labels, with one more.
 use Rattle.std.proofs.Common.{◌≡◌, ℕ, ◌+◌, ◌<◌, Bool, List, [], ◌∷◌, ◌++◌, map, flat_map, take, length, get_or, refl, sym, ap, ◌∙◌, subst}
 use Rattle.std.proofs.lemmas.List.{append-nil, append_assoc, map-append, take_more}
-use Rattle.h264_command.specs.Explained.{folded, label_in, entry_text, IsExplained}
+use Rattle.h264_words.specs.Labels.{folded}
+use Rattle.h264_command.specs.Explained.{label_in, entry_text, IsExplained}
 use Rattle.h264_command.specs.declared.explaining.Entry.{Entry}
 
 -- the first of some elements with one more, each turned into another thing

@@ -1,9 +1,6 @@
 -- The further rules of a file, and what is told of them.
-use Rattle.std.proofs.Common.{◌≡◌, ℕ, ◌+◌, ◌<◌, Bool, true, false, ◌⊎◌, inl, inr, ⊎_elim, List, [], length, take, get_or, Option, Some, None, Result, Ok, Err}
-use Rattle.std.proofs.Common.{OnOk, refl, sym, ap, ◌∙◌, subst, arith}
-use Rattle.std.specs.List.{All}
-use Rattle.std.proofs.lemmas.List.{take_more}
-use Rattle.std.proofs.lemmas.List.Elements.{All-push}
+use Rattle.std.proofs.Common.{◌≡◌, ℕ, Bool, true, false, ◌⊎◌, inl, inr, ⊎_elim, List, [], Option, Some, None, Result, Ok, Err}
+use Rattle.std.proofs.Common.{OnOk, refl, sym, ap, ◌∙◌, subst}
 use Rattle.std.specs.Io.KnownBytes.{Keeps}
 use Rattle.h264_base.specs.Call.{Call, span}
 use Rattle.h264_base.specs.declared.mode.Mode.{Mode}
@@ -15,8 +12,6 @@ use Rattle.h264_strict.specs.Strict.{TookStrict}
 use Rattle.h264_strict.specs.StrictUnits.{TellsOfBytes}
 use Rattle.h264_lines.specs.Answer.{told_of}
 use Rattle.h264_strict.specs.declared.strict_rule.StrictRule.{StrictRule}
-use Rattle.h264_strict.specs.declared.strict_rule.StrictRule.TheVariants as rules
-use Rattle.h264_strict.specs.declared.strict_rule.TheConstants.{EVERY_STRICT_RULE}
 use Rattle.h264_verify.specs.Giving.{AreFirst}
 use Rattle.h264_verify.specs.Telling.{Family}
 use Rattle.h264_verify.specs.Units.{terms_of}
@@ -26,57 +21,6 @@ use Rattle.h264_verify.specs.declared.state.Terms.{Terms}
 use Rattle.h264_command.specs.Further.{AreJudged, BreakOne, IsFound, IsNoVerdict, IsToldOf, TellsBroken, Judged, Unjudged}
 use Rattle.h264_command.specs.declared.job.Done.{Done}
 use Rattle.h264_command.specs.declared.strictly.FurtherRules.{FurtherRules}
-
--- what holds of every rule by its place holds of each
-pub each : (P : StrictRule → Type 0) → All P EVERY_STRICT_RULE → (rule : StrictRule) → P rule
-each P all rules.ReservedBits = all 0 rules.ReservedBits (omega arith)
-each P all rules.AspectRatio = all 1 rules.AspectRatio (omega arith)
-each P all rules.VideoFormat = all 2 rules.VideoFormat (omega arith)
-each P all rules.ColourPrimaries = all 3 rules.ColourPrimaries (omega arith)
-each P all rules.TransferCharacteristics = all 4 rules.TransferCharacteristics (omega arith)
-each P all rules.MatrixCoefficients = all 5 rules.MatrixCoefficients (omega arith)
-each P all rules.ChromaLocation = all 6 rules.ChromaLocation (omega arith)
-each P all rules.Timing = all 7 rules.Timing (omega arith)
-each P all rules.Restriction = all 8 rules.Restriction (omega arith)
-each P all rules.OperationsExclude = all 9 rules.OperationsExclude (omega arith)
-each P all rules.IdrCount = all 10 rules.IdrCount (omega arith)
-each P all rules.SetRefIdc = all 11 rules.SetRefIdc (omega arith)
-each P all rules.DelimiterFirst = all 12 rules.DelimiterFirst (omega arith)
-each P all rules.FillerFirst = all 13 rules.FillerFirst (omega arith)
-each P all rules.AfterEndOfStream = all 14 rules.AfterEndOfStream (omega arith)
-each P all rules.Level1b = all 15 rules.Level1b (omega arith)
-each P all rules.ReservedConstraint = all 16 rules.ReservedConstraint (omega arith)
-each P all rules.DirectInference = all 17 rules.DirectInference (omega arith)
-each P all rules.LowDelay = all 18 rules.LowDelay (omega arith)
-each P all rules.UnitLength = all 19 rules.UnitLength (omega arith)
-each P all rules.EndFirst = all 20 rules.EndFirst (omega arith)
-each P all rules.LongTermReference = all 21 rules.LongTermReference (omega arith)
-each P all rules.Weights = all 22 rules.Weights (omega arith)
-each P all rules.FrameNumRepeated = all 23 rules.FrameNumRepeated (omega arith)
-each P all rules.CountRepeated = all 24 rules.CountRepeated (omega arith)
-each P all rules.Reorder = all 25 rules.Reorder (omega arith)
-each P all rules.VectorCount = all 26 rules.VectorCount (omega arith)
-each P all rules.FrameRate = all 27 rules.FrameRate (omega arith)
-each P all rules.ScheduleOrder = all 28 rules.ScheduleOrder (omega arith)
-each P all rules.ScheduleLimits = all 29 rules.ScheduleLimits (omega arith)
-each P all rules.CommonFactor = all 30 rules.CommonFactor (omega arith)
-each P all rules.PictureBytes = all 31 rules.PictureBytes (omega arith)
-each P all rules.SeiSizes = all 32 rules.SeiSizes (omega arith)
-each P all rules.DelimiterBits = all 33 rules.DelimiterBits (omega arith)
-each P all rules.FillerBytes = all 34 rules.FillerBytes (omega arith)
-each P all rules.ZeroByte = all 35 rules.ZeroByte (omega arith)
-each P all rules.DelimiterType = all 36 rules.DelimiterType (omega arith)
-each P all rules.SeiContent = all 37 rules.SeiContent (omega arith)
-each P all rules.BufferUnderflow = all 38 rules.BufferUnderflow (omega arith)
-each P all rules.InitialDelay = all 39 rules.InitialDelay (omega arith)
-each P all rules.BufferOverflow = all 40 rules.BufferOverflow (omega arith)
-each P all rules.MinCompression = all 41 rules.MinCompression (omega arith)
-each P all rules.RemovalRate = all 42 rules.RemovalRate (omega arith)
-
--- what holds of the first of some rules, with one more
-pub one-rule-more : (P : StrictRule → Type 0) (rules : List StrictRule) (i : ℕ) (d : StrictRule) → i < length rules → All P (take i rules) →
-    P (get_or rules i d) → All P (take (i + 1) rules)
-one-rule-more P rules i d inside all one = subst (All P) (sym (take_more rules i d inside)) (All-push P (take i rules) (get_or rules i d) all one)
 
 -- a judgement with the further rules
 pub judged : {S : Type 0} {took : S → List Call → Type 0} {failures : S → ℕ} {frames : Family} {s s' : S} (mode whole : Mode) (target : Target)

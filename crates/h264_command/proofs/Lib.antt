@@ -8,3 +8,4 @@ mod ToldReads
 mod Reopened
 mod Answered
 mod Further
+mod Kept

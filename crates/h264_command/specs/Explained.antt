@@ -1,6 +1,5 @@
 -- What `explain` tells of rules, features and further rules. To be read beside docs/OUTPUT.md.
 use Rattle.std.specs.Prelude.{◌≡◌, ℕ, Bool, true, false, List, ◌++◌, codes, map, flat_map}
-use Rattle.std.specs.Char.{to_ascii_lowercase}
 use Rattle.h264_base.specs.Rule.{label_of, clause_of}
 use Rattle.h264_base.specs.Feature.{text_of}
 use Rattle.h264_base.specs.declared.rule.Rule.{Rule as RuleOf}
@@ -11,6 +10,7 @@ use Rattle.h264_pages.specs.declared.rules.FeatureEntry.{FeatureEntry}
 use Rattle.h264_strict.specs.StrictRules.{label_of as further_label_of, clause_of as further_clause_of}
 use Rattle.h264_strict.specs.declared.strict_rule.StrictRule.{StrictRule}
 use Rattle.h264_strict.specs.declared.strict_entries.StrictEntry.{StrictEntry}
+use Rattle.h264_words.specs.Labels.{folded}
 use Rattle.h264_command.specs.declared.explaining.Entry.{Entry}
 use Rattle.h264_command.specs.declared.explaining.Entry.TheVariants.{Rule, Feature, Further}
 
@@ -74,10 +74,6 @@ entry_text true (Further e) = strict_object e
 entry_text false (Rule e) = rule_lines e
 entry_text false (Feature e) = feature_lines e
 entry_text false (Further e) = strict_lines e
-
--- a label in small letters
-abbrev pub folded : List ℕ → List ℕ
-folded label = map to_ascii_lowercase label
 
 -- This text has the entry of each of these labels, in their order, whatever the case of their letters.
 pub record IsExplained (json : Bool) (labels : List (List ℕ)) (text : List ℕ) : Type 0 where

@@ -2,7 +2,8 @@
 #![tactic(auto)]
 
 ghost use Rattle.std.specs.Prelude.{◌≡◌, ◌++◌, IfOk, IfSome, IfNone, OnOk, string_bytes};
-ghost use Rattle.h264_command.specs.Explained.{folded, label_in, IsNoLabel, rule_lines, rule_object, feature_lines, feature_object, entry_text};
+ghost use Rattle.h264_words.specs.Labels.{IsLikeNone, folded};
+ghost use Rattle.h264_command.specs.Explained.{label_in, IsNoLabel, rule_lines, rule_object, feature_lines, feature_object, entry_text};
 ghost use Rattle.h264_command.specs.Explained.{strict_lines, strict_front, strict_object};
 
 use h264_pages::{FeatureEntry, RuleEntry, entry_by_label, escaped, feature_by_name};
@@ -173,7 +174,7 @@ fn entry_of_label(label: &str) -> Option<Entry>
 /// The entry of the rule, the feature or the further rule with this label, whatever the case of its letters.
 pub fn entry_labelled(label: &str) -> Option<Entry>
     ensures is { IfSome result (λ entry. folded (label_in entry) ≡ folded label.now) }
-    ensures none { IfNone result (IsNoLabel label.now) }
+    ensures none { IfNone result (IsLikeNone label.now) }
 {
     match entry_of_label(label) {
         Some(entry) => Some(entry),

@@ -1,9 +1,10 @@
 //! An input of which what is read is kept, so that it can be read again from where it began.
 #![tactic(auto)]
 
-ghost use Rattle.std.specs.Prelude.{◌≡◌, ◌≢◌, ◌++◌, [], take, Ok, IfOk, IsOk, OnErr, true, false};
+ghost use Rattle.std.specs.Prelude.{◌≡◌, ◌≢◌, ◌++◌, ◌⊎◌, [], take, drop, Ok, IfOk, IsOk, OnErr, MatchResult, true, false};
 ghost use Rattle.std.specs.Io.{ReadsAtMost};
-ghost use Rattle.h264_command.specs.Keeping.{GaveAgain, past};
+ghost use Rattle.std.specs.Io.KnownBytes.{Consumes, IsAtEnd, Keeps, ReadConsumes};
+ghost use Rattle.h264_command.specs.Keeping.{GaveAgain, to_come};
 ghost use Rattle.h264_command.specs.declared.keeping.Stage.TheVariants as stages;
 
 use std::alloc::Global;
@@ -43,7 +44,11 @@ pub struct KeptInput<R: Read + Drop> {
 impl<R: Read + Drop> KeptInput<R> {
     /// An input of which nothing is kept.
     pub fn new(alloc: Global, reader: R, most: usize) -> KeptInput<R>
+        ensures reader { result.reader ≡ reader }
+        ensures given { result.stage ≡ stages.Given }
         ensures bytes { result.bytes.items ≡ [] }
+        ensures most { result.most ≡ most }
+        ensures unended { result.has_ended ≡ false }
         ensures whole { result.is_cut_short ≡ false }
     {
         KeptInput {
@@ -67,12 +72,9 @@ impl<R: Read + Drop> KeptInput<R> {
 
     /// Has what was kept given once more, and after it what is left. Whether anything was to be kept.
     pub fn begin_again(&mut self) -> bool
-        ensures bytes { self.new.bytes ≡ self.old.bytes }
-        ensures ended { self.new.has_ended ≡ self.old.has_ended }
-        ensures start { self.new.given ≡ 0 }
-        ensures whole { self.new.is_cut_short ≡ false }
+        ensures start { self.new ≡ record self.old { stage = self.new.stage; given = 0; is_cut_short = false } }
         ensures again { result ≡ true → (self.old.stage ≡ stages.Kept) × (self.new.stage ≡ stages.Again) }
-        ensures none { result ≡ false → self.old.stage ≢ stages.Kept }
+        ensures none { result ≡ false → (self.old.stage ≢ stages.Kept) × (self.new.stage ≡ self.old.stage) }
     {
         self.is_cut_short = false;
         self.given = 0;
@@ -98,6 +100,17 @@ impl<R: Read + Drop> KeptInput<R> {
         ensures bound { ReadsAtMost result piece.new }
         ensures kept { IfOk result (λ n. self.new.bytes.items ≡ self.old.bytes.items ++ take n piece.new) }
         ensures none { OnErr result (self.new.bytes.items ≡ self.old.bytes.items) }
+        // They are the reader's.
+        ensures read { MatchResult result (λ n. Consumes (R.remaining self.old.reader) (R.remaining self.new.reader) (take n piece.new))
+            (λ _. Keeps (R.remaining self.old.reader) (R.remaining self.new.reader)) }
+        ensures end { result ≡ Ok 0 → (self.new.is_cut_short ≡ true) ⊎ (self.new.has_ended ≡ true) }
+        ensures ended { self.old.has_ended ≡ false → self.new.has_ended ≡ true → IsAtEnd (R.remaining self.new.reader) }
+        ensures others { self.new ≡ record self.old {
+          reader = self.new.reader;
+          bytes = self.new.bytes;
+          has_ended = self.new.has_ended;
+          is_cut_short = self.new.is_cut_short;
+        } }
     {
         let room = self.most.saturating_sub(self.bytes.len());
         let count = piece.len().min(room);
@@ -115,8 +128,8 @@ impl<R: Read + Drop> KeptInput<R> {
 
     /// Gives what was kept once more: how many bytes.
     fn give(&mut self, piece: &mut [u8]) -> usize
-        ensures gave { GaveAgain (past self.old.given self.old.bytes.items) (past self.new.given self.new.bytes.items) piece.old piece.new result }
-        ensures ended { self.new.has_ended ≡ self.old.has_ended }
+        ensures gave { GaveAgain (drop self.old.given self.old.bytes.items) (drop self.new.given self.new.bytes.items) piece.old piece.new result }
+        ensures others { self.new ≡ record self.old { given = self.new.given } }
     {
         let left = self.bytes.len().saturating_sub(self.given);
         let n = left.min(piece.len());
@@ -132,11 +145,16 @@ impl<R: Read + Drop> KeptInput<R> {
     /// Gives what was kept once more, and after it what is left.
     fn read_again(&mut self, piece: &mut [u8]) -> io::Result<usize>
         ensures bound { ReadsAtMost result piece.new }
-        ensures fits { past self.old.given self.old.bytes.items ≢ [] → IsOk result }
-        ensures gave { past self.old.given self.old.bytes.items ≢ [] → IfOk result (λ n.
-            GaveAgain (past self.old.given self.old.bytes.items) (past self.new.given self.new.bytes.items) piece.old piece.new n) }
+        ensures fits { drop self.old.given self.old.bytes.items ≢ [] → IsOk result }
+        ensures gave { drop self.old.given self.old.bytes.items ≢ [] → IfOk result (λ n.
+            GaveAgain (drop self.old.given self.old.bytes.items) (drop self.new.given self.new.bytes.items) piece.old piece.new n) }
         // Nothing is read after the end that was read.
-        ensures ended { past self.old.given self.old.bytes.items ≡ [] → self.old.has_ended ≡ true → result ≡ Ok 0 }
+        ensures ended { drop self.old.given self.old.bytes.items ≡ [] → self.old.has_ended ≡ true → result ≡ Ok 0 }
+        ensures bytes { self.old.stage ≡ stages.Again → ReadConsumes
+            (to_come self.old.stage self.old.has_ended (drop self.old.given self.old.bytes.items) (R.remaining self.old.reader))
+            (to_come self.new.stage self.new.has_ended (drop self.new.given self.new.bytes.items) (R.remaining self.new.reader)) result piece.new }
+        ensures end { self.new.has_ended ≡ self.old.has_ended }
+        ensures most { self.new.most ≡ self.old.most }
     {
         let n = self.give(piece);
         if n > 0 || piece.is_empty() || self.has_ended {
@@ -150,6 +168,8 @@ impl<R: Read + Drop> KeptInput<R> {
 }
 
 impl<R: Read + Drop> Read for KeptInput<R> {
+    ghost remaining = { λ s. to_come s.stage s.has_ended (drop s.given s.bytes.items) (R.remaining s.reader) };
+
     fn read(&mut self, piece: &mut [u8]) -> io::Result<usize> {
         match self.stage {
             Stage::Given => self.reader.read(piece),

@@ -77,11 +77,30 @@ pub record HasNoOption (given : Given) : Type 0 where
   pub picture : value_in given (codes "picture") ≡ None
   pub mb : value_in given (codes "mb") ≡ None
 
+-- The words have an option beside `--target`.
+pub data HasOption (given : Given) : Type 0 where
+  Explain : IsFlag (flag_in given (codes "explain")) true → HasOption given
+  Json : IsFlag (flag_in given (codes "json")) true → HasOption given
+  Quiet : IsFlag (flag_in given (codes "quiet")) true → HasOption given
+  Progress : IsFlag (flag_in given (codes "progress")) true → HasOption given
+  Y4m : IsFlag (flag_in given (codes "y4m")) true → HasOption given
+  Strict : IsFlag (flag_in given (codes "strict")) true → HasOption given
+  Brief : IsFlag (flag_in given (codes "brief")) true → HasOption given
+  Output : IsSome (value_in given (codes "output")) → HasOption given
+  Picture : IsSome (value_in given (codes "picture")) → HasOption given
+  Mb : IsSome (value_in given (codes "mb")) → HasOption given
+
 -- The words name this FILE alone, which is not standard input, and have no option but `--target`.
 pub record IsPlain (given : Given) (name : Text) : Type 0 where
   pub options : HasNoOption given
   pub files : length (values_in given (codes "FILE")) ≡ 1
   pub input : name ≢ codes "-"
+
+-- The words ask for more than a judgement of this FILE: they have an option beside `--target`, or name other FILEs beside it, or it is standard input.
+pub data AsksForMore (given : Given) (name : Text) : Type 0 where
+  WithOption : HasOption given → AsksForMore given name
+  WithFiles : length (values_in given (codes "FILE")) ≢ 1 → AsksForMore given name
+  OfInput : name ≡ codes "-" → AsksForMore given name
 
 -- ---- the output
 

@@ -6,7 +6,7 @@
 //! want of memory alone.
 #![tactic(auto)]
 
-ghost use Rattle.std.specs.Prelude.{◌≡◌, true, false, length, map, None, Some, IfOk, IfErr, IfSome, option_map, string_bytes, codes};
+ghost use Rattle.std.specs.Prelude.{◌≡◌, ◌↔◌, true, false, length, map, None, Some, IfOk, IfErr, IfSome, option_map, string_bytes, codes};
 ghost use Rattle.clap.specs.Words.{app_of, found_of, takes, kind_of, subcommand_of, subcommand_rows_of, with_rule};
 ghost use Rattle.clap.specs.Walk.{rows_of};
 ghost use Rattle.clap.specs.declared.error.kind.ErrorKind.TheVariants as kinds;
@@ -14,7 +14,7 @@ ghost use Rattle.clap.specs.declared.builder.command.Command.TheViews.{out-Comma
 ghost use Rattle.h264_words.specs.Words.{files_rule, flag_rule, value_rule, with_flags, with_values, file_app, with_file, bare, program, name_of};
 ghost use Rattle.h264_words.specs.Words.{is_judging, found_by, IsRequest, IsTarget, AsksFor, all_in, value_in, values_in};
 ghost use Rattle.h264_base.specs.declared.mode.Target.{Target as TargetView};
-ghost use Rattle.h264_words.specs.Options.{asks_further, flag_in, HasNoOption, IsFlag, IsPlain};
+ghost use Rattle.h264_words.specs.Options.{asks_further, flag_in, AsksForMore, HasNoOption, HasOption, IsFlag, IsPlain};
 ghost use Rattle.h264_words.specs.declared.command_line.Task.{Task as TaskView};
 
 use clap::{Arg, ArgAction, ArgMatches, Command, Error};
@@ -137,7 +137,7 @@ impl<'a> Wanted<'a> {
 
     /// Whether the words name one file.
     fn has_one_file(&self) -> bool
-        ensures { result ≡ true → length (values_in (subcommand_rows_of self.now.matches) (codes "FILE")) ≡ 1 }
+        ensures { result ≡ true ↔ length (values_in (subcommand_rows_of self.now.matches) (codes "FILE")) ≡ 1 }
     {
         match self.files() {
             Some(files) => files.len() == 1,
@@ -147,7 +147,8 @@ impl<'a> Wanted<'a> {
 
     /// Whether the words have an option beside `--target`.
     fn has_option(&self) -> bool
-        ensures { result ≡ false → HasNoOption (subcommand_rows_of self.now.matches) }
+        ensures none { result ≡ false → HasNoOption (subcommand_rows_of self.now.matches) }
+        ensures some { result ≡ true → HasOption (subcommand_rows_of self.now.matches) }
     {
         self.has("explain")
             || self.has("json")
@@ -167,6 +168,9 @@ impl<'a> Wanted<'a> {
         ensures target { IfSome result (IsTarget (value_in (subcommand_rows_of self.now.matches) (codes "target"))) }
         ensures judging { IfSome result (λ _. is_judging self.now.request.task ≡ true) }
         ensures plain { IfSome result (λ _. IsPlain (subcommand_rows_of self.now.matches) self.now.request.file.now) }
+        ensures more { result ≡ None → is_judging self.now.request.task ≡ true → (target : TargetView) →
+            IsTarget (value_in (subcommand_rows_of self.now.matches) (codes "target")) target →
+            AsksForMore (subcommand_rows_of self.now.matches) self.now.request.file.now }
     {
         let is_plain = self.request.task.is_judging()
             && self.has_one_file()
