@@ -265,12 +265,12 @@ fn plain_words(
     let mut words: Vec<String> = Vec::new(alloc);
     words.push(String::from_str(alloc, "h264v")?)?;
     words.push(String::from_str(alloc, subcommand)?)?;
-    for option in FLAGS {
+    for (option, _) in FLAGS {
         if found.get_flag(option) {
             words.push(format!(in alloc; "--{option}")?)?;
         }
     }
-    for option in VALUES {
+    for (option, ..) in VALUES {
         if let Some(value) = found.get_str(option) {
             words.push(format!(in alloc; "--{option}={value}")?)?;
         }

@@ -1,3 +1,3 @@
-pub mod Added
-pub mod Given
 pub mod EachLabel
+pub mod Given
+mod InTurn

@@ -1,6 +1,6 @@
 -- To be read beside docs/OUTPUT.md. The command line: a simple command of clap with one level of subcommands, each of which takes one FILE or more, and
 -- options.
-use Rattle.std.specs.Prelude.{◌≡◌, ℕ, Bool, true, false, List, [], Option, Some, None, option_map, option_and_then, unwrap_or, codes, if◌then◌else◌}
+use Rattle.std.specs.Prelude.{◌≡◌, ℕ, Bool, true, false, List, [], ◌∷◌, fold, Option, Some, None, option_map, option_and_then, unwrap_or, codes, if◌then◌else◌}
 use Rattle.std.specs.Str.{bytes_eq}
 use Rattle.clap.specs.Lexer.{usize_max}
 use Rattle.clap.specs.Words.{App, Row, Rule, Shape, Text, new_app, all_of, first_of, new_rule, subcommand_of, subcommand_rows_of, takes, with_rule}
@@ -30,16 +30,22 @@ value_rule option letter = record (new_rule option) { long = Some option; short 
 abbrev pub with_flag : App → Text → App
 with_flag a option = with_rule a (flag_rule option)
 
-abbrev pub with_flags : App → App
-with_flags a =
-    let told = with_flag (with_flag (with_flag (with_flag a (codes "explain")) (codes "json")) (codes "quiet")) (codes "progress") in
-    with_flag (with_flag (with_flag told (codes "y4m")) (codes "strict")) (codes "brief")
+-- the options without a value
+abbrev pub flags : List Text
+flags = codes "explain" ∷ codes "json" ∷ codes "quiet" ∷ codes "progress" ∷ codes "y4m" ∷ codes "strict" ∷ codes "brief" ∷ []
 
-abbrev pub with_value : App → Text → ℕ → App
-with_value a option letter = with_rule a (value_rule option letter)
+abbrev pub with_flags : App → App
+with_flags a = fold with_flag a flags
+
+-- the options with a value, and their letters
+abbrev pub values : List (Text × ℕ)
+values = (codes "output", 111) ∷ (codes "picture", 112) ∷ (codes "mb", 109) ∷ (codes "target", 116) ∷ []
+
+abbrev pub with_value : App → Text × ℕ → App
+with_value a option = with_rule a (value_rule option.0 option.1)
 
 abbrev pub with_values : App → App
-with_values a = with_value (with_value (with_value (with_value a (codes "output") 111) (codes "picture") 112) (codes "mb") 109) (codes "target") 116
+with_values a = fold with_value a values
 
 -- a subcommand
 abbrev pub file_app : Text → App
@@ -55,11 +61,13 @@ bare = record { top = top; subs = (new_app (codes "h264v")).subs }
 abbrev pub with_file : App → Text → App
 with_file a name = with_subcommand a (file_app name).top
 
+-- the names of the subcommands
+abbrev pub subcommands : List Text
+subcommands =
+    codes "check" ∷ codes "units" ∷ codes "headers" ∷ codes "frames" ∷ codes "decode" ∷ codes "elements" ∷ codes "info" ∷ codes "report" ∷ codes "explain" ∷ []
+
 abbrev pub program : App
-program =
-    let streams =
-    with_file (with_file (with_file (with_file (with_file bare (codes "check")) (codes "units")) (codes "headers")) (codes "frames")) (codes "decode") in
-    with_file (with_file (with_file (with_file streams (codes "elements")) (codes "info")) (codes "report")) (codes "explain")
+program = fold with_file bare subcommands
 
 -- the name of a task's subcommand
 abbrev pub name_of : Task → Text

@@ -342,43 +342,61 @@ fn with_value<'a>(
     command.arg(value)
 }
 
-/// What the help says of `--explain`.
-const EXPLAIN_HELP: &str =
-    "After a no or an outside, says where it is, what was found and what is allowed";
+/// The options that take no value: the name of each, and what its help says.
+pub const FLAGS: [(&str, &str); 7] = [
+    (
+        "explain",
+        "After a no or an outside, says where it is, what was found and what is allowed",
+    ),
+    ("json", "Prints one JSON object a line"),
+    ("quiet", "Prints nothing; the exit status alone answers"),
+    (
+        "progress",
+        "Tells bytes, pictures and frames a second on standard error",
+    ),
+    (
+        "y4m",
+        "Writes YUV4MPEG2, which players open, in the place of bare samples",
+    ),
+    (
+        "strict",
+        "Judges further rules of H.264 beside the verdict, and says which are broken",
+    ),
+    ("brief", "Leaves out the last elements before a no"),
+];
 
-/// What the help says of `--progress`.
-const PROGRESS_HELP: &str = "Tells bytes, pictures and frames a second on standard error";
-
-/// What the help says of `--y4m`.
-const Y4M_HELP: &str = "Writes YUV4MPEG2, which players open, in the place of bare samples";
-
-/// What the help says of `--strict`.
-const STRICT_HELP: &str =
-    "Judges further rules of H.264 beside the verdict, and says which are broken";
-
-/// What the help says of `--brief`.
-const BRIEF_HELP: &str = "Leaves out the last elements before a no";
-
-/// What the help says of `--output` and its value.
-const OUTPUT_HELP: (&str, &str) = (
-    "OUTPUT",
-    "Writes to this file in the place of standard output",
-);
-
-/// What the help says of `--target` and its value.
-const TARGET_HELP: (&str, &str) = (
-    "TARGET",
-    "What the stream has to suit: baseline, or main-ip for Main's progressive CAVLC streams with weighted prediction",
-);
-
-/// What the help says of `--picture` and its value.
-const PICTURE_HELP: (&str, &str) = (
-    "NUMBER",
-    "Only the picture of this number in decoding order, from 0",
-);
-
-/// What the help says of `--mb` and its value.
-const MB_HELP: (&str, &str) = ("ADDRESS", "Only the macroblock of this address");
+/// The options that take a value: the name of each, its letter, and what the help says of its value and of it.
+pub const VALUES: [(&str, char, (&str, &str)); 4] = [
+    (
+        "output",
+        'o',
+        (
+            "OUTPUT",
+            "Writes to this file in the place of standard output",
+        ),
+    ),
+    (
+        "picture",
+        'p',
+        (
+            "NUMBER",
+            "Only the picture of this number in decoding order, from 0",
+        ),
+    ),
+    (
+        "mb",
+        'm',
+        ("ADDRESS", "Only the macroblock of this address"),
+    ),
+    (
+        "target",
+        't',
+        (
+            "TARGET",
+            "What the stream has to suit: baseline, or main-ip for Main's progressive CAVLC streams with weighted prediction",
+        ),
+    ),
+];
 
 /// The command with the options that take no value.
 fn with_flags<'a>(
@@ -390,17 +408,11 @@ fn with_flags<'a>(
     ensures app { IfOk result (λ c. app_of c ≡ with_flags (app_of command.entry)) }
     ensures local { IfOk result (λ c. (fields_of c).has_globals ≡ false) }
 {
-    let hidden = !is_shown("explain", name);
-    let first = with_flag(alloc, command, "explain", EXPLAIN_HELP, hidden)?;
-    let second = with_flag(alloc, first, "json", "Prints one JSON object a line", false)?;
-    let quiet = "Prints nothing; the exit status alone answers";
-    let third = with_flag(alloc, second, "quiet", quiet, !is_shown("quiet", name))?;
-    let hidden = !is_shown("progress", name);
-    let fourth = with_flag(alloc, third, "progress", PROGRESS_HELP, hidden)?;
-    let fifth = with_flag(alloc, fourth, "y4m", Y4M_HELP, !is_shown("y4m", name))?;
-    let hidden = !is_shown("strict", name);
-    let sixth = with_flag(alloc, fifth, "strict", STRICT_HELP, hidden)?;
-    with_flag(alloc, sixth, "brief", BRIEF_HELP, !is_shown("brief", name))
+    let mut all = command;
+    for (option, about) in FLAGS {
+        all = with_flag(alloc, all, option, about, !is_shown(option, name))?;
+    }
+    Ok(all)
 }
 
 /// The command with the options that take a value.
@@ -413,22 +425,12 @@ fn with_values<'a>(
     ensures app { IfOk result (λ c. app_of c ≡ with_values (app_of command.entry)) }
     ensures local { IfOk result (λ c. (fields_of c).has_globals ≡ false) }
 {
-    let hidden = !is_shown("output", name);
-    let first = with_value(alloc, command, "output", 'o', OUTPUT_HELP, hidden)?;
-    let hidden = !is_shown("picture", name);
-    let second = with_value(alloc, first, "picture", 'p', PICTURE_HELP, hidden)?;
-    let third = with_value(alloc, second, "mb", 'm', MB_HELP, !is_shown("mb", name))?;
-    let hidden = !is_shown("target", name);
-    with_value(alloc, third, "target", 't', TARGET_HELP, hidden)
+    let mut all = command;
+    for (option, short, about) in VALUES {
+        all = with_value(alloc, all, option, short, about, !is_shown(option, name))?;
+    }
+    Ok(all)
 }
-
-/// The options that take no value.
-pub const FLAGS: [&str; 7] = [
-    "explain", "json", "quiet", "progress", "y4m", "strict", "brief",
-];
-
-/// The options that take a value.
-pub const VALUES: [&str; 4] = ["output", "picture", "mb", "target"];
 
 /// What the help says of `--files0-from` and its value.
 const LIST_HELP: (&str, &str) = (

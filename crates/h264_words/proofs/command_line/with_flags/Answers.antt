@@ -1,15 +1,15 @@
-use Rattle.std.proofs.Common.{ap, ◌∙◌, codes}
-use Rattle.std.proofs.lemmas.Result.{IfOk-weaker}
-use Rattle.clap.specs.Words.{App}
+use Rattle.std.proofs.Common.{◌≡◌, arith}
 use Rattle.h264_words.specs.Words.{with_flag}
+use Rattle.h264_words.proofs.InTurn.{one-more}
 use Rattle.h264_words.proofs.command_line.with_flags.Goals as goal
+
+pub loop-option-preserved : goal.loop-option-preserved
+loop-option-preserved c = record {
+  local = c.in_ok-all.ensures.local;
+  app = one-more (λ a p. with_flag a p.0.now) _ _ c.loop-option.option-index _ _ _ c.in_ok-all.ensures.app c.loop-option.invariant.app c.loop-option-test.true;
+}
 
 pub returns-clause-app : goal.returns-clause-app
 returns-clause-app c =
-    let one = c.in_ok-first.ensures.app in
-    let two = c.in_ok-second.ensures.app ∙ ap (λ (a : App). with_flag a (codes "json")) one in
-    let three = c.in_ok-third.ensures.app ∙ ap (λ (a : App). with_flag a (codes "quiet")) two in
-    let four = c.in_ok-fourth.ensures.app ∙ ap (λ (a : App). with_flag a (codes "progress")) three in
-    let five = c.in_ok-fifth.ensures.app ∙ ap (λ (a : App). with_flag a (codes "y4m")) four in
-    let six = c.in_ok-sixth.ensures.app ∙ ap (λ (a : App). with_flag a (codes "strict")) five in
-    IfOk-weaker c.with_flag-7.result _ _ (λ r h. h ∙ ap (λ (a : App). with_flag a (codes "brief")) six) c.with_flag-7.ensures.app
+    let last : c.loop-option.option-index ≡ 7 = (let t = c.loop-option-test.false in let e = c.loop-option.auto.option-index-end in omega arith) in
+    rw last at c.loop-option.invariant.app
