@@ -6,7 +6,8 @@ use Rattle.h264_words.proofs.command_line.with_values.Goals as goal
 pub loop-option-preserved : goal.loop-option-preserved
 loop-option-preserved c = record {
   local = c.in_ok-all.ensures.local;
-  app = one-more (λ a p. with_value a (p.0.now, p.1)) _ _ c.loop-option.option-index _ _ _ c.in_ok-all.ensures.app c.loop-option.invariant.app c.loop-option-test.true;
+  app = one-more (λ a p. with_value a (p.0.now, p.1)) _ _ c.loop-option.option-index _ _ _ c.in_ok-all.ensures.app
+      c.loop-option.invariant.app c.loop-option-test.true;
 }
 
 pub returns-clause-app : goal.returns-clause-app

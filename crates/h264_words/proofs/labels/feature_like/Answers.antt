@@ -9,7 +9,8 @@ use Rattle.h264_words.proofs.labels.feature_like.Goals as goal
 
 pub loop-feature-preserved : goal.loop-feature-preserved
 loop-feature-preserved c =
-    All-more (λ feature. folded (text_of feature) ≡ folded c.args.label.now → ⊥) FEATURES c.loop-feature.feature-index _ c.loop-feature-test.true c.loop-feature.invariant
+    All-more (λ feature. folded (text_of feature) ≡ folded c.args.label.now → ⊥) FEATURES c.loop-feature.feature-index _ c.loop-feature-test.true
+    c.loop-feature.invariant
     (λ same. false≢true (sym c.if-eq_ignore_ascii_case.false ∙ c.eq_ignore_ascii_case.ensures.test.1 (ap folded c.text.ensures ∙ same)))
 
 pub returns-clause-none : goal.returns-clause-none

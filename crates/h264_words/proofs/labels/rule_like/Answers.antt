@@ -9,7 +9,8 @@ use Rattle.h264_words.proofs.labels.rule_like.Goals as goal
 
 pub loop-rule-preserved : goal.loop-rule-preserved
 loop-rule-preserved c =
-    All-more (λ rule. folded (label_of rule) ≡ folded c.args.label.now → ⊥) RULES c.loop-rule.rule-index _ c.loop-rule-test.true c.loop-rule.invariant
+    All-more (λ rule. folded (label_of rule) ≡ folded c.args.label.now → ⊥) RULES c.loop-rule.rule-index _ c.loop-rule-test.true
+    c.loop-rule.invariant
     (λ same. false≢true (sym c.if-eq_ignore_ascii_case.false ∙ c.eq_ignore_ascii_case.ensures.test.1 (ap folded c.label.ensures ∙ same)))
 
 pub returns-clause-none : goal.returns-clause-none

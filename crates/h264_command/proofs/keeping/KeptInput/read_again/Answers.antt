@@ -1,7 +1,8 @@
 use Rattle.std.proofs.Common.{◌≡◌, ◌<◌, true, length, sym, ap, ◌∙◌, rules, arith}
 use Rattle.h264_command.proofs.Kept.{gave-once}
 use Rattle.h264_command.proofs.keeping.KeptInput.read_again.Goals as goal
-use Rattle.h264_command.proofs.keeping.KeptInput.read_again.Goals.{then-n-gt0-via-then-n-gt0, then-n-gt0-via-else-n-gt0+then-is_empty, then-n-gt0-via-else-n-gt0+else-is_empty+then-self}
+use Rattle.h264_command.proofs.keeping.KeptInput.read_again.Goals.{then-n-gt0-via-then-n-gt0, then-n-gt0-via-else-n-gt0+then-is_empty}
+use Rattle.h264_command.proofs.keeping.KeptInput.read_again.Goals.{then-n-gt0-via-else-n-gt0+else-is_empty+then-self}
 
 pub returns-then-n-gt0-clause-bytes : goal.returns-then-n-gt0-clause-bytes
 returns-then-n-gt0-clause-bytes g c again =
