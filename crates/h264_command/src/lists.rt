@@ -265,7 +265,7 @@ fn plain_words(
     let mut words: Vec<String> = Vec::new(alloc);
     words.push(String::from_str(alloc, "h264v")?)?;
     words.push(String::from_str(alloc, subcommand)?)?;
-    for (option, _) in FLAGS {
+    for (option, ..) in FLAGS {
         if found.get_flag(option) {
             words.push(format!(in alloc; "--{option}")?)?;
         }

@@ -248,31 +248,28 @@ const FILE_HELP: &str =
 /// What the help says of LABEL.
 const LABEL_HELP: &str = "The label of a rule, as a no prints it, such as VectorRange";
 
-/// Whether the help of a subcommand shows an option. Each is known to all subcommands; one that says nothing to a subcommand is refused later, with a text of
-/// its own.
-fn is_shown(option: &str, name: &str) -> bool {
-    if name == "explain" {
-        return option == "json";
+/// The subcommands that judge a stream with lines or frames as their answer.
+const JUDGING: &[&str] = &["check", "units", "headers", "frames", "decode", "elements"];
+
+/// The subcommands that judge a stream.
+const OF_STREAMS: &[&str] = &[
+    "check", "units", "headers", "frames", "decode", "elements", "info", "report",
+];
+
+/// All subcommands.
+const ALL: &[&str] = &[
+    "check", "units", "headers", "frames", "decode", "elements", "info", "report", "explain",
+];
+
+/// Whether a subcommand is one of these, whose help shows an option. Each option is known to all subcommands; one that says nothing to a subcommand is refused
+/// later, with a text of its own.
+fn is_one_of(name: &str, subcommands: &[&str]) -> bool {
+    for it in subcommands.iter() {
+        if *it == name {
+            return true;
+        }
     }
-    if option == "y4m" {
-        return name == "decode";
-    }
-    if option == "strict" {
-        return name == "check" || name == "report";
-    }
-    if option == "brief" {
-        return name == "check";
-    }
-    if option == "output" {
-        return name == "decode" || name == "report";
-    }
-    if option == "picture" || option == "mb" {
-        return name == "elements";
-    }
-    if option == "explain" {
-        return name != "info" && name != "report";
-    }
-    true
+    false
 }
 
 /// The files of a subcommand, of which there is at least one where they are required.
@@ -342,31 +339,43 @@ fn with_value<'a>(
     command.arg(value)
 }
 
-/// The options that take no value: the name of each, and what its help says.
-pub const FLAGS: [(&str, &str); 7] = [
+/// The options that take no value: the name of each, what its help says, and the subcommands whose help shows it.
+pub const FLAGS: [(&str, &str, &[&str]); 7] = [
     (
         "explain",
         "After a no or an outside, says where it is, what was found and what is allowed",
+        JUDGING,
     ),
-    ("json", "Prints one JSON object a line"),
-    ("quiet", "Prints nothing; the exit status alone answers"),
+    ("json", "Prints one JSON object a line", ALL),
+    (
+        "quiet",
+        "Prints nothing; the exit status alone answers",
+        OF_STREAMS,
+    ),
     (
         "progress",
         "Tells bytes, pictures and frames a second on standard error",
+        OF_STREAMS,
     ),
     (
         "y4m",
         "Writes YUV4MPEG2, which players open, in the place of bare samples",
+        &["decode"],
     ),
     (
         "strict",
         "Judges further rules of H.264 beside the verdict, and says which are broken",
+        &["check", "report"],
     ),
-    ("brief", "Leaves out the last elements before a no"),
+    (
+        "brief",
+        "Leaves out the last elements before a no",
+        &["check"],
+    ),
 ];
 
-/// The options that take a value: the name of each, its letter, and what the help says of its value and of it.
-pub const VALUES: [(&str, char, (&str, &str)); 4] = [
+/// The options that take a value: the name of each, its letter, what the help says of its value and of it, and the subcommands whose help shows it.
+pub const VALUES: [(&str, char, (&str, &str), &[&str]); 4] = [
     (
         "output",
         'o',
@@ -374,6 +383,7 @@ pub const VALUES: [(&str, char, (&str, &str)); 4] = [
             "OUTPUT",
             "Writes to this file in the place of standard output",
         ),
+        &["decode", "report"],
     ),
     (
         "picture",
@@ -382,11 +392,13 @@ pub const VALUES: [(&str, char, (&str, &str)); 4] = [
             "NUMBER",
             "Only the picture of this number in decoding order, from 0",
         ),
+        &["elements"],
     ),
     (
         "mb",
         'm',
         ("ADDRESS", "Only the macroblock of this address"),
+        &["elements"],
     ),
     (
         "target",
@@ -395,6 +407,7 @@ pub const VALUES: [(&str, char, (&str, &str)); 4] = [
             "TARGET",
             "What the stream has to suit: baseline, or main-ip for Main's progressive CAVLC streams with weighted prediction",
         ),
+        OF_STREAMS,
     ),
 ];
 
@@ -409,8 +422,8 @@ fn with_flags<'a>(
     ensures local { IfOk result (λ c. (fields_of c).has_globals ≡ false) }
 {
     let mut all = command;
-    for (option, about) in FLAGS {
-        all = with_flag(alloc, all, option, about, !is_shown(option, name))?;
+    for (option, about, shown) in FLAGS {
+        all = with_flag(alloc, all, option, about, !is_one_of(name, shown))?;
     }
     Ok(all)
 }
@@ -426,8 +439,8 @@ fn with_values<'a>(
     ensures local { IfOk result (λ c. (fields_of c).has_globals ≡ false) }
 {
     let mut all = command;
-    for (option, short, about) in VALUES {
-        all = with_value(alloc, all, option, short, about, !is_shown(option, name))?;
+    for (option, short, about, shown) in VALUES {
+        all = with_value(alloc, all, option, short, about, !is_one_of(name, shown))?;
     }
     Ok(all)
 }
