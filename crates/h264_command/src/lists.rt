@@ -199,21 +199,22 @@ fn add_given<L: Lister>(
     Ok(())
 }
 
-/// The names of all files that words name.
-fn names_in<L: Lister, E: Device>(
+/// Adds the names of all files that words name.
+fn add_files<L: Lister, E: Device>(
     alloc: Global,
+    names: &mut Vec<String>,
     lister: &L,
-    subcommand: &str,
-    found: &ArgMatches<'_>,
+    matches: (&str, &ArgMatches<'_>),
     err: &mut E,
-) -> Result<Vec<String>, Unlisted> {
-    let mut names: Vec<String> = Vec::new(alloc);
-    add_given(alloc, &mut names, lister, found)?;
+) -> Result<(), Unlisted> {
+    let (subcommand, found) = matches;
+    let before = names.len();
+    add_given(alloc, names, lister, found)?;
     if !takes_lists(subcommand) {
-        return Ok(names);
+        return Ok(());
     }
     for list in found.get_strs("files0-from").unwrap_or(&[]).iter() {
-        add_listed(alloc, &mut names, lister, list)?;
+        add_listed(alloc, names, lister, list)?;
     }
     let glob = found.get_str("glob");
     let folders = found.get_strs("recursive").unwrap_or(&[]);
@@ -221,24 +222,27 @@ fn names_in<L: Lister, E: Device>(
         return Err(Unlisted::Refused("h264v: --glob belongs to --recursive\n"));
     }
     for folder in folders.iter() {
-        add_below(alloc, &mut names, lister, folder, glob, err)?;
+        add_below(alloc, names, lister, folder, glob, err)?;
     }
-    if names.is_empty() {
+    if names.len() == before {
         return Err(Unlisted::Refused("h264v: the lists name no file\n"));
     }
-    Ok(names)
+    Ok(())
 }
 
-/// The labels that words name: all of them, and those that are given beside that.
-fn labels_in(alloc: Global, found: &ArgMatches<'_>) -> Result<Vec<String>, Unlisted> {
-    let mut names: Vec<String> = Vec::new(alloc);
+/// Adds the labels that words name: those that are given, and all of them beside that.
+fn add_labels(
+    alloc: Global,
+    names: &mut Vec<String>,
+    found: &ArgMatches<'_>,
+) -> Result<(), AllocError> {
     for label in found.get_strs("FILE").unwrap_or(&[]).iter() {
-        add(&mut names, String::from_str(alloc, label)?)?;
+        names.push(String::from_str(alloc, label)?)?;
     }
     for label in all_labels(alloc)?.iter() {
-        add(&mut names, String::from_str(alloc, label)?)?;
+        names.push(String::from_str(alloc, label)?)?;
     }
-    Ok(names)
+    Ok(())
 }
 
 /// Whether words name files by lists, or all labels.
@@ -255,14 +259,13 @@ fn has_list(name: &str, found: &ArgMatches<'_>) -> bool {
             || found.get_str("glob").is_some())
 }
 
-/// The plain words of a subcommand with these options, and these names for its files.
-fn plain_words(
+/// Adds the plain words of a subcommand with these options, behind which the names of its files follow.
+fn add_front(
     alloc: Global,
+    words: &mut Vec<String>,
     subcommand: &str,
     found: &ArgMatches<'_>,
-    names: Vec<String>,
-) -> Result<Vec<String>, AllocError> {
-    let mut words: Vec<String> = Vec::new(alloc);
+) -> Result<(), AllocError> {
     words.push(String::from_str(alloc, "h264v")?)?;
     words.push(String::from_str(alloc, subcommand)?)?;
     for (option, ..) in FLAGS {
@@ -276,10 +279,7 @@ fn plain_words(
         }
     }
     words.push(String::from_str(alloc, "--")?)?;
-    for name in names {
-        words.push(name)?;
-    }
-    Ok(words)
+    Ok(())
 }
 
 /// What words say that have a list. None where they have none.
@@ -294,22 +294,23 @@ fn list_in<'a>(alloc: Global, words: &'a [String]) -> Option<ArgMatches<'a>> {
     if has_one { Some(matches) } else { None }
 }
 
-/// The plain words that stand for words with a list.
+/// Adds the plain words that stand for words with a list.
 fn follow<L: Lister, E: Device>(
     alloc: Global,
+    words: &mut Vec<String>,
     matches: &ArgMatches<'_>,
     lister: &L,
     err: &mut E,
-) -> Result<Vec<String>, Unlisted> {
+) -> Result<(), Unlisted> {
     let Some((name, found)) = matches.subcommand() else {
-        return Ok(Vec::new(alloc));
+        return Ok(());
     };
-    let names = if name == "explain" {
-        labels_in(alloc, found)?
+    add_front(alloc, words, name, found)?;
+    if name == "explain" {
+        Ok(add_labels(alloc, words, found)?)
     } else {
-        names_in(alloc, lister, name, found, err)?
-    };
-    Ok(plain_words(alloc, name, found, names)?)
+        add_files(alloc, words, lister, (name, found), err)
+    }
 }
 
 /// What comes of words that name files by lists, the program's name first. None where they have no list, as all words that the plain command line takes.
@@ -329,8 +330,9 @@ pub fn listed_words<L: Lister, E: Device>(
     let Some(matches) = list_in(alloc, words) else {
         return None;
     };
-    match follow(alloc, &matches, lister, err) {
-        Ok(plain) => Some(Listed::Words(plain)),
+    let mut plain: Vec<String> = Vec::new(alloc);
+    match follow(alloc, &mut plain, &matches, lister, err) {
+        Ok(()) => Some(Listed::Words(plain)),
         Err(Unlisted::Memory) => Some(Listed::Memory),
         Err(Unlisted::Unread(name, cause)) => {
             blame(alloc, err, name.as_str(), &cause);
