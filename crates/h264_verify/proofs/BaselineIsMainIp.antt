@@ -21,13 +21,10 @@ use Rattle.h264_verify.specs.Telling.{Told, Said}
 use Rattle.h264_verify.specs.Content.{Content}
 use Rattle.h264_verify.specs.Steps.{Step, Tells, needs, Course, Takes, Reads, Runs}
 use Rattle.h264_units.specs.UnitHeader.{header_of, nal_unit_type}
-use Rattle.h264_verify.specs.Order.{header_demands}
-use Rattle.h264_verify.specs.Order.{closing_at}
-use Rattle.h264_verify.specs.Order.{whole_at}
+use Rattle.h264_verify.specs.Order.{header_demands, closing_at, whole_at, content, content_steps, data_course, frames_at, unit_course}
 use Rattle.h264_verify.specs.History.{History}
 use Rattle.h264_base.specs.declared.summary.Summary.{Summary}
 use Rattle.h264_verify.specs.Units.{extent_at, other_content, unit_call}
-use Rattle.h264_verify.specs.Order.{content, content_steps, data_course, frames_at, unit_course}
 use Rattle.h264_verify.specs.Verdict.{AreLegal, Holds}
 
 -- where the first structure gives a value, the second runs as it does

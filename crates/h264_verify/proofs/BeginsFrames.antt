@@ -18,10 +18,9 @@ use Rattle.h264_dpb.specs.Numbered.{is_taken}
 use Rattle.h264_verify.specs.declared.decoder.Decoder.{Decoder}
 use Rattle.h264_verify.specs.declared.decoder.Format.{Format}
 use Rattle.h264_verify.specs.Pictures.{CodedSlice, CodedPicture}
-use Rattle.h264_verify.specs.Keeping.{HasFormat, IsSettled, IsSized, IsRoomFor, AreOlder}
+use Rattle.h264_verify.specs.Keeping.{HasFormat, IsSettled, IsSized, IsRoomFor, AreOlder, KeepsFrames, EntersFrames, EntersSome, EntersBy, IsPlaced}
 use Rattle.h264_verify.specs.Memory.{format_of}
-use Rattle.h264_verify.specs.Keeping.{KeepsFrames, EntersFrames, EntersSome, EntersBy, IsPlaced, HasFreePlace}
-use Rattle.h264_verify.specs.Keeping.{BegunFrames, BeginsFrames}
+use Rattle.h264_verify.specs.Keeping.{HasFreePlace, BegunFrames, BeginsFrames}
 use Rattle.h264_verify.proofs.FillsFrames.{sized}
 use Rattle.h264_verify.proofs.LentFrames.{some-not, output-kept, holds-serves}
 use Rattle.h264_verify.proofs.FamiliesByPurpose.{family-kept, some-of, some-made, some-map, lent-made}

@@ -1,5 +1,5 @@
 -- Steps and the course of a unit, as relations and as outcomes.
-use Rattle.std.proofs.Common.{◌≡◌, ℕ, ◌⊎◌, inl, inr, Bool, true, false, IsTrue, IsFalse, List, [], ◌∷◌, ◌++◌, Result, Ok, Err, refl, ap, sym, ◌∙◌}
+use Rattle.std.proofs.Common.{◌≡◌, ℕ, ◌⊎◌, inl, inr, Bool, true, false, IsTrue, IsFalse, List, [], ◌∷◌, ◌++◌, Result, Ok, Err, refl, ap, sym, ◌∙◌, append_assoc}
 use Rattle.std.proofs.Common.{if◌then◌else◌}
 use Rattle.h264_base.specs.declared.stop.Stop.{Stop}
 use Rattle.h264_base.specs.declared.stop.Stop.TheVariants.{No}
@@ -55,6 +55,10 @@ pub either : (steps : List Step) → Either steps
 either [] = inl ([], refl)
 either (Needs d ∷ steps) = either-need d steps d.met refl (either steps)
 either (Tells call ∷ steps) = either-tell call steps (either steps)
+
+-- three parts before a fourth
+pub three-before : (xs ys zs ts : List Step) → (xs ++ (ys ++ zs)) ++ ts ≡ xs ++ (ys ++ (zs ++ ts))
+three-before xs ys zs ts = append_assoc xs (ys ++ zs) ts ∙ ap (λ (l : List Step). xs ++ l) (append_assoc ys zs ts)
 
 -- rules alone, and rules before other steps
 pub needs-judged : (ds : List Demand) → steps_outcome (needs ds) ≡ answers (judged ds)

@@ -16,18 +16,16 @@ use Rattle.h264_verify.specs.Content.{Content}
 use Rattle.h264_verify.specs.Outcome.{Outcome, ◌>>=◌, with_calls, continued, answers, gives, Plays}
 use Rattle.h264_verify.specs.Steps.{Step, needs, Course, Takes, Reads, Ends}
 use Rattle.h264_verify.specs.History.{History}
-use Rattle.h264_verify.specs.Pictures.{CodedPicture, goes_on as may_go_on, runs_of}
-use Rattle.h264_verify.specs.Order.{closing_demands}
+use Rattle.h264_verify.specs.Pictures.{CodedPicture, goes_on as may_go_on, runs_of, ended_pictures}
+use Rattle.h264_verify.specs.Order.{closing_demands, whole_picture, whole_steps, end_steps}
 use Rattle.h264_verify.specs.Buffering.{closing_frames, last_frames}
 use Rattle.h264_verify.specs.Keeping.{close_steps}
-use Rattle.h264_verify.specs.Pictures.{ended_pictures}
-use Rattle.h264_verify.specs.Order.{whole_picture, whole_steps, end_steps}
 use Rattle.h264_verify.specs.Demands.{Demand}
 use Rattle.h264_base.specs.declared.summary.Summary.{Summary}
 use Rattle.h264_verify.specs.Units.{picture_demand, summary_of}
 use Rattle.h264_verify.specs.StepOutcome.{steps_outcome, structure_from, course_outcome}
 use Rattle.h264_verify.specs.UnitOutcome.{end_outcome}
-use Rattle.h264_verify.proofs.CourseOutcome.{outcome, steps-append}
+use Rattle.h264_verify.proofs.CourseOutcome.{outcome, steps-append, three-before}
 use Rattle.h264_verify.proofs.OutcomesPlayed.{plays-on, plays-stops, gives-plays, plays-as}
 use Rattle.h264_verify.proofs.ToldInOrder.{closing-of}
 
@@ -173,11 +171,8 @@ module _ {S : Type 0} (took : S → List Told → Type 0) (failures : S → ℕ)
   abbrev after_last : List Step
   after_last = needs (picture_demand depth before bit ∷ []) ++ last_frames depth (runs_of before)
 
-  three : (xs ys zs ts : List Step) → (xs ++ (ys ++ zs)) ++ ts ≡ xs ++ (ys ++ (zs ++ ts))
-  three xs ys zs ts = append_assoc xs (ys ++ zs) ts ∙ ap (λ (l : List Step). xs ++ l) (append_assoc ys zs ts)
-
   end-is : steps_outcome (end_steps depth before bit) ≡ (steps_outcome (close_steps depth true before) >>= λ _. steps_outcome after_last)
-  end-is = ap steps_outcome (sym (three (whole_steps depth before) (needs (closing_demands before)) (closing_frames depth before) after_last)) ∙
+  end-is = ap steps_outcome (sym (three-before (whole_steps depth before) (needs (closing_demands before)) (closing_frames depth before) after_last)) ∙
       steps-append (close_steps depth true before) after_last
 
   -- it stops while the last picture ends

@@ -9,9 +9,8 @@ use Rattle.h264_verify.specs.Telling.{Told}
 use Rattle.h264_verify.specs.History.{History}
 use Rattle.h264_verify.specs.Steps.{AreMet}
 use Rattle.h264_verify.specs.Order.{end_steps}
-use Rattle.h264_verify.specs.Pictures.{CodedPicture, goes_on, held_in, runs_of}
+use Rattle.h264_verify.specs.Pictures.{CodedPicture, goes_on, held_in, runs_of, ended_pictures}
 use Rattle.h264_verify.specs.Buffering.{within_newest}
-use Rattle.h264_verify.specs.Pictures.{ended_pictures}
 use Rattle.h264_verify.specs.Sound.{AreSound, has_ended}
 use Rattle.h264_verify.specs.Held.{AreAmong}
 use Rattle.h264_verify.specs.Predicting.{ArePredicted}

@@ -21,8 +21,7 @@ use Rattle.h264_header.specs.Picture.{is_reference}
 use Rattle.h264_base.proofs.Gives.{Gives, gives-following, gives-bind, gives-run}
 use Rattle.h264_units.specs.UnitHeader.{nal_unit_type, nal_ref_idc, is_never_reference, fits_kind}
 use Rattle.h264_verify.specs.Units.{slice_unit_of}
-use Rattle.h264_verify.specs.Sound.{IsMarked}
-use Rattle.h264_verify.specs.Sound.{is_idr_marking, is_own}
+use Rattle.h264_verify.specs.Sound.{IsMarked, is_idr_marking, is_own}
 
 -- what a header takes from its unit
 pub record IsOfUnit (u : SliceUnit) (h : Header) : Type 0 where

@@ -22,9 +22,9 @@ use Rattle.h264_dpb.specs.Turns.{Shown, Turn, turn_then, stays, names, missing_t
 use Rattle.h264_dpb.specs.Turns.{store_turn}
 use Rattle.h264_verify.specs.Pictures.{CodedPicture, held_after, held_in, is_met}
 use Rattle.h264_verify.specs.Buffering.{gap_on, gaps_turn, missing_before, ended_picture, ended_turn, after_all, within_newest}
-use Rattle.h264_verify.specs.Sound.{IsMarked, AreSound}
+use Rattle.h264_verify.specs.Sound.{IsMarked, AreSound, is_idr_marking, is_own, has_gap_filled}
 use Rattle.h264_verify.specs.Held.{Stands, AreAmong}
-use Rattle.h264_verify.specs.Sound.{is_idr_marking, is_own, has_gap_filled}
+use Rattle.h264_dpb.proofs.Truths.{or-true}
 use Rattle.h264_verify.proofs.HeldInBuffer.{IsAmong, filled-holds, marked-holds, reset-holds, reset-by as either}
 use Rattle.h264_verify.proofs.HeldStay.{stands-missing, stands-reference, stands-other, stands-own}
 
@@ -118,11 +118,7 @@ is-of p ps = record { reference = refl; number = refl; empty = refl }
 
 idr-bare : (idr : Bool) (m : Marking) → (idr ≡ true → is_idr_marking m ≡ true) → (idr || resets_by m) ≡ true → (is_idr_marking m || resets_by m) ≡ true
 idr-bare true m f e = subst (λ (x : Bool). (x || resets_by m) ≡ true) (sym (f refl)) refl
-idr-bare false m f e = or-second (is_idr_marking m) (resets_by m) e
-  where
-    or-second : (a b : Bool) → b ≡ true → (a || b) ≡ true
-    or-second true b h = refl
-    or-second false b h = h
+idr-bare false m f e = or-true (is_idr_marking m) (resets_by m) e
 
 ended-by : (p : CodedPicture) (ps : List CodedPicture) (e : Ended) → IsOf p ps e → (m : Option (Found Marking)) → p.first.header.marking ≡ m →
     IsMarked p.first.header → (refs : References) (b : Buffered Shown) → is_met (ended m (numbering_of p.first.sps p.first.header) e.picture refs) ≡ true →

@@ -2,6 +2,7 @@
 use Rattle.std.proofs.Common.{◌≡◌, ℕ, zero, suc, ◌-◌, ◌==◌, ◌&&◌, ◌||◌, nat_lt, Bool, true, false, List, [], ◌∷◌, ◌++◌, map, length, Option, Some, None, ℤ}
 use Rattle.std.proofs.Common.{refl, sym, ◌∙◌, subst, if◌then◌else◌, eqb-true}
 use Rattle.std.specs.List.{filter, list_any}
+use Rattle.std.proofs.lemmas.Bool.{and_from}
 use Rattle.h264_marking.specs.Frames.{References}
 use Rattle.h264_dpb.specs.declared.entry.Entry.{Entry}
 use Rattle.h264_dpb.specs.Bumping.{Step, in_front, is_next, is_below, is_held, missing_in, is_in_use, least_count, left_of, written_at, written_by, bumped}
@@ -72,11 +73,7 @@ module _ (n : ℕ) (refs : References) (held : is_held (names refs) n ≡ true) 
   stays-by : (e : Entry Shown) (es : List (Entry Shown)) (u : Bool) → is_in_use (marked_by (still refs) e) ≡ u → (same : (e.of.picture == n) ≡ true) →
       Stands n (if u then marked_by (still refs) e ∷ filter is_in_use (map (marked_by (still refs)) es) else filter is_in_use
       (map (marked_by (still refs)) es))
-  stays-by e es true q same = true-or _ _ (both (is_held (names refs) e.of.picture) (e.of.picture == n) (is-marked e same) same)
-    where
-      both : (a b : Bool) → a ≡ true → b ≡ true → (a && b) ≡ true
-      both true b f g = g
-      both false b f g = cc
+  stays-by e es true q same = true-or _ _ (and_from (is_held (names refs) e.of.picture) (e.of.picture == n) (is-marked e same) same)
   stays-by e es false q same = let t : is_in_use (marked_by (still refs) e) ≡ true = or-true e.waiting _ (is-marked e same) in let f : true ≡ false = sym t ∙
       q in cc
 
@@ -122,8 +119,5 @@ pub stands-own : (n : ℕ) (e : Entry Shown) (refs : References) (b : Buffered S
 unfolding reference_turn stored_reference
 stands-own n e refs b r q =
     let left = marked (still refs) b.entries in
-    stands-right n (made_room (length left) (b.size - missing_in (names refs)) left).entries (e ∷ []) (true-or _ _ (both e.reference (e.of.picture == n) r q))
-  where
-    both : (a b : Bool) → a ≡ true → b ≡ true → (a && b) ≡ true
-    both true b f g = g
-    both false b f g = cc
+    stands-right n (made_room (length left) (b.size - missing_in (names refs)) left).entries (e ∷ [])
+    (true-or _ _ (and_from e.reference (e.of.picture == n) r q))

@@ -7,8 +7,7 @@ use Rattle.h264_near.specs.Coded.{CodedMacroblock}
 use Rattle.h264_picture.specs.declared.work.Work.{Work}
 use Rattle.h264_picture.specs.Holds.{HoldsMacroblocks}
 use Rattle.h264_verify.specs.Pictures.{CodedPicture, last_slice, picture_size, open_of}
-use Rattle.h264_verify.specs.Order.{whole_picture}
-use Rattle.h264_verify.specs.Order.{coded_before}
+use Rattle.h264_verify.specs.Order.{whole_picture, coded_before}
 use Rattle.h264_verify.specs.Keeping.{HoldsCoded, HoldsNewest, HoldsOpen}
 use Rattle.h264_verify.specs.Outcome.{answers}
 use Rattle.h264_verify.specs.StepOutcome.{steps_outcome}

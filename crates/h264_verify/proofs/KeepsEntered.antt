@@ -15,14 +15,13 @@ use Rattle.h264_verify.specs.Content.{Content}
 use Rattle.h264_verify.specs.Content as contents
 use Rattle.h264_verify.specs.declared.slices.PicturesSoFar.{PicturesSoFar}
 use Rattle.h264_verify.specs.declared.picture.OpenPicture.{OpenPicture}
-use Rattle.h264_units.specs.UnitHeader.{header_of, nal_unit_type}
+use Rattle.h264_units.specs.UnitHeader.{header_of, nal_unit_type, ends_picture}
 use Rattle.h264_verify.specs.History.{History, maps_with, maps_of}
 use Rattle.h264_verify.specs.Sound.{AreSound, has_ended, HasActive, NamesSet}
 use Rattle.h264_near.specs.Coded.{CodedMacroblock}
 use Rattle.h264_verify.specs.Keeping.{HoldsEnd, HoldsOpen, IsLeft, KeepsPictures, KeepsSlices, Entered, held_by, begins_by}
 use Rattle.h264_verify.specs.Pictures.{CodedSlice, CodedPicture, last_slice, with_sets, goes_on, open_of, begins_after, begins_at, joined_to, joined_by}
 use Rattle.h264_verify.specs.Pictures.{runs_of, counted}
-use Rattle.h264_units.specs.UnitHeader.{ends_picture}
 use Rattle.h264_verify.specs.Slices.{idr_id, is_idr_due, newest_idr_of}
 
 -- it begins a picture, as the code finds it

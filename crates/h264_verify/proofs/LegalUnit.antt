@@ -2,20 +2,19 @@
 use Rattle.std.proofs.Common.{◌≡◌, ℕ, ◌*◌, ◌==◌, Bool, true, false, IsTrue, List, [], ◌∷◌, ◌++◌, length, inl, inr, Option, Some, None, Result, Ok, Err, refl}
 use Rattle.std.proofs.Common.{sym, subst, if◌then◌else◌}
 use Rattle.std.specs.Option.{is_some}
-use Rattle.h264_verify.specs.Units.{extent_at}
+use Rattle.h264_verify.specs.Units.{extent_at, unit_call, slice_unit}
 use Rattle.h264_base.specs.declared.mode.Target.{Target}
 use Rattle.h264_verify.specs.declared.state.Depth.TheVariants as depths
 use Rattle.h264_base.specs.declared.stop.Stop.{Stop}
 use Rattle.h264_base.specs.declared.stop.Stop.TheVariants.{No}
 use Rattle.h264_base.specs.Body.{Body}
 use Rattle.h264_base.specs.Grammar.{Grammar, Element, Says}
-use Rattle.h264_base.proofs.Gives.{Gives, gives-done, gives-any, gives-bind, gives-if, gives-both, gives-weaker, gives-derived}
+use Rattle.h264_base.proofs.Gives.{Gives, gives-any, gives-both, gives-weaker, gives-derived}
 use Rattle.h264_rbsp.specs.Rbsp.{body_of}
 use Rattle.h264_units.specs.Stream.{NalUnit}
 use Rattle.h264_sps.specs.declared.sps.Sps.{Sps}
 use Rattle.h264_sps.specs.Sps.{sps}
 use Rattle.h264_pps.specs.declared.Pps.{Pps}
-use Rattle.h264_pps.specs.Pps.{pps}
 use Rattle.h264_bits.specs.declared.element.Found.{Found}
 use Rattle.h264_header.specs.declared.header.Header.{Header}
 use Rattle.h264_header.specs.declared.header.Marking.{Marking}
@@ -29,19 +28,13 @@ use Rattle.h264_verify.specs.Content as contents
 use Rattle.h264_verify.specs.Demands.{Demand, judged}
 use Rattle.h264_verify.specs.Steps.{Step, Needs, Tells, needs, AreMet, Course, Takes, Reads, Ends, told, Runs}
 use Rattle.h264_units.specs.UnitHeader.{header_of, nal_unit_type}
-use Rattle.h264_verify.specs.Order.{header_demands}
+use Rattle.h264_verify.specs.Order.{header_demands, closing_at, whole_at, content, content_steps, data_course, frames_at, content_course}
 use Rattle.h264_verify.specs.History.{History, ReadUnit, maps_of}
-use Rattle.h264_verify.specs.Order.{closing_at}
-use Rattle.h264_verify.specs.Order.{whole_at}
-use Rattle.h264_verify.specs.Units.{unit_call, slice_unit, other_content}
-use Rattle.h264_units.specs.UnitHeader.{is_slice}
-use Rattle.h264_verify.specs.Order.{content, content_steps, data_course, frames_at, content_course}
 use Rattle.h264_verify.specs.Verdict.{IsLegal}
-use Rattle.h264_verify.proofs.HeaderSets.{HasSets, sets-given}
+use Rattle.h264_verify.proofs.HeaderSets.{HasSets, sets-given, content-gives}
 use Rattle.h264_verify.proofs.HeaderMarking.{IsOfUnit, marked-of, header-gives as unit-gives}
 use Rattle.h264_verify.proofs.NamedSizes.{LeavesAlone}
-use Rattle.h264_verify.specs.Sound.{is_own}
-use Rattle.h264_verify.specs.Sound.{IsMarked}
+use Rattle.h264_verify.specs.Sound.{is_own, IsMarked}
 
 -- ---- steps
 
@@ -168,24 +161,12 @@ IsContent before unit (contents.OfPps set) = Unit {0}
 IsContent before unit (contents.OfSlice h macroblocks) = IsHeader (sets_of (maps_of before)) (slice_unit unit) h
 IsContent before unit contents.Passed = Unit {0}
 
-other-gives : (kind : ℕ) (before : History) (unit : NalUnit) → Gives (other_content depths.Full kind before unit) (IsContent before unit)
-other-gives kind before unit = gives-if (IsContent before unit) (is_slice kind) _ _
-    (gives-bind _ (IsContent before unit) _ _ (header-gives (sets_of (maps_of before)) (slice_unit unit)) (λ h i. gives-done (IsContent before unit) _ i))
-    (gives-done (IsContent before unit) _ tt)
-
-content-gives : (target : Target) (kind : ℕ) (before : History) (unit : NalUnit) →
-    Gives (content (extent_at depths.Full target) kind before unit) (IsContent before unit)
-unfolding content
-content-gives target kind before unit =
-    gives-if (IsContent before unit) (kind == 7) _ _
-    (gives-bind _ (IsContent before unit) _ _ (gives-any (sps target)) (λ set a. gives-done (IsContent before unit) _ tt))
-    (gives-if (IsContent before unit) (kind == 8) _ _
-    (gives-bind _ (IsContent before unit) _ _ (gives-any (pps target)) (λ set a. gives-done (IsContent before unit) _ tt)) (other-gives kind before unit))
-
 pub is-content : (target : Target) (before : History) (unit : NalUnit) (c : Content) (calls : List Told) (m : HasMet target before unit c calls) →
     IsContent before unit m.found
 is-content target before unit c calls m =
-    given (IsContent before unit) _ (body_of unit) 0 m.elements m.found m.bit (content-gives target (nal_unit_type (header_of unit)) before unit) m.says
+    given (IsContent before unit) _ (body_of unit) 0 m.elements m.found m.bit
+    (content-gives (IsContent before unit) (extent_at depths.Full target) (nal_unit_type (header_of unit)) before unit (gives-any (sps target)) (λ set. tt)
+    (λ slice. header-gives (sets_of (maps_of before)) (slice_unit unit)) tt) m.says
 
 -- a slice of an IDR picture has a marking that leaves its frame alone
 leaves-alone : (marking : Option (Found Marking)) → is_some marking ≡ true → is_own marking ≡ true → LeavesAlone marking

@@ -2,7 +2,7 @@
 use Rattle.std.proofs.Common.{◌≡◌, ℕ, ◌*◌, ◌||◌, ◌&&◌, not, Bool, true, false, List, [], ◌∷◌, ◌++◌, Option, Some, None, Ok, refl, sym, ◌∙◌, subst}
 use Rattle.std.proofs.Common.{if◌then◌else◌}
 use Rattle.std.specs.Option.{is_some}
-use Rattle.h264_verify.specs.Units.{extent_at}
+use Rattle.h264_verify.specs.Units.{extent_at, slice_unit, picture_demand}
 use Rattle.h264_base.specs.declared.mode.Target.{Target}
 use Rattle.h264_verify.specs.declared.state.Depth.TheVariants as depths
 use Rattle.h264_base.specs.Grammar.{Done, ◌>>=◌}
@@ -24,23 +24,19 @@ use Rattle.h264_verify.specs.Telling.{Told, Said}
 use Rattle.h264_verify.specs.Content.{Content}
 use Rattle.h264_verify.specs.Content as contents
 use Rattle.h264_verify.specs.Steps.{Step, needs, AreMet, Reads, Ends, Runs}
-use Rattle.h264_units.specs.UnitHeader.{header_of, nal_unit_type}
+use Rattle.h264_units.specs.UnitHeader.{header_of, nal_unit_type, ends_picture}
 use Rattle.h264_verify.specs.History.{History, ReadUnit, maps_of, maps_with}
 use Rattle.h264_verify.specs.Pictures.{CodedSlice, CodedPicture, last_in, last_slice, picture_size, with_sets, sets_at, goes_on, open_of}
-use Rattle.h264_units.specs.UnitHeader.{ends_picture}
 use Rattle.h264_verify.specs.Pictures.{begins_after, begins_at, joined_to, runs_of}
-use Rattle.h264_verify.specs.Order.{closing_at, closing_demands}
-use Rattle.h264_verify.specs.Order.{whole_at, whole_steps}
+use Rattle.h264_verify.specs.Order.{closing_at, closing_demands, whole_at, whole_steps, standing_demands, coded_before, slice_rules, rules_of, steps_by}
+use Rattle.h264_verify.specs.Order.{slice_steps, content_steps, data_course, frames_at, end_steps}
 use Rattle.h264_verify.specs.Lists.{list_in}
 use Rattle.h264_verify.specs.Slices.{is_idr_due, first_mb_demands, slice_call}
-use Rattle.h264_verify.specs.Order.{standing_demands, coded_before, slice_rules, rules_of, steps_by, slice_steps}
 use Rattle.h264_verify.specs.Steps as step
 use Rattle.h264_verify.specs.Data.{picture_set, coded_so_far, slice_syntax, data_by, slice_data_at}
 use Rattle.h264_verify.specs.Decoding.{EachSlice}
 use Rattle.h264_verify.specs.Buffering.{closing_frames, last_frames}
 use Rattle.h264_verify.specs.Sound.{IsMarked, AreSound, has_ended, HasActive}
-use Rattle.h264_verify.specs.Units.{slice_unit, picture_demand}
-use Rattle.h264_verify.specs.Order.{content_steps, data_course, frames_at, end_steps}
 use Rattle.h264_verify.specs.Verdict.{IsLegal, AreLegal}
 use Rattle.h264_verify.proofs.FamiliesInPicture.{last-of}
 use Rattle.h264_verify.proofs.KeepsEntered.{IsNoSlice, left-active}

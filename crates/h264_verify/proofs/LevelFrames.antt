@@ -1,20 +1,18 @@
 -- The level of a set has a place for a frame of its size at least: MaxDpbFrames is not 0 (A.3.1, Table A-1).
 use Rattle.std.proofs.Common.{◌≡◌, ℕ, ◌+◌, ◌*◌, ◌<◌, ◌≤◌, nat_le, ◌==◌, Bool, true, false, List, [], ◌∷◌, ◌++◌, find, Option, Some, None, Ok, refl, ap, sym}
 use Rattle.std.proofs.Common.{subst, arith}
-use Rattle.std.proofs.lemmas.Bool.{and_parts}
+use Rattle.std.proofs.lemmas.Bool.{and_parts, leb-true}
 use Rattle.std.specs.Prelude.{unwrap_or, IfSome}
 use Rattle.std.specs.List.{list_all}
 use Rattle.std.specs.Option.{is_some, option_map, option_map_or}
 use Rattle.std.proofs.lemmas.Nat.{le-div, mul-le}
-use Rattle.std.proofs.lemmas.Bool.{leb-true}
 use Rattle.h264_base.specs.declared.mode.Target.{Target}
 use Rattle.h264_verify.specs.declared.state.Depth.TheVariants as depths
-use Rattle.h264_base.specs.Grammar.{Done, ◌>>=◌}
+use Rattle.h264_base.specs.Grammar.{Done, ◌>>=◌, read_word, check, support}
 use Rattle.h264_base.proofs.Chains.{map-some, then-some}
 use Rattle.h264_bits.specs.Forms.{natural}
-use Rattle.h264_base.proofs.Gives.{Gives, gives-done, gives-any, gives-bind, gives-check, gives-if}
+use Rattle.h264_base.proofs.Gives.{Gives, gives-done, gives-any, gives-bind, gives-following}
 use Rattle.h264_rbsp.specs.Rbsp.{body_of}
-use Rattle.h264_units.specs.Stream.{NalUnit}
 use Rattle.h264_tables.specs.declared.level.Limits.{Limits}
 use Rattle.h264_tables.specs.Level.{LevelRow, level_rows, level_named, limits_of}
 use Rattle.h264_sps.specs.declared.sps.FrameSize.{FrameSize}
@@ -28,6 +26,7 @@ use Rattle.h264_sets.proofs.Each.{none-each, put-each, of-each}
 use Rattle.h264_sps.specs.Usable.{dpb_frames}
 use Rattle.h264_header.specs.declared.header.Header.{Header}
 use Rattle.h264_header.specs.Layout.{sets_of}
+use Rattle.h264_header.specs.Header.{header}
 use Rattle.h264_header.proofs.Named.{named-pair}
 use Rattle.h264_near.specs.Coded.{CodedMacroblock}
 use Rattle.h264_verify.specs.Telling.{Told}
@@ -39,10 +38,10 @@ use Rattle.h264_verify.specs.Pictures.{ended_pictures}
 use Rattle.h264_verify.specs.Pictures.{CodedSlice, CodedPicture, with_sets, slice_in, goes_on, joined_to, joined_by, begins_after, open_of, runs_of}
 use Rattle.h264_verify.specs.Steps.{Runs}
 use Rattle.h264_units.specs.UnitHeader.{header_of, nal_unit_type}
-use Rattle.h264_verify.specs.Units.{extent_at, other_content}
-use Rattle.h264_units.specs.UnitHeader.{is_slice}
+use Rattle.h264_verify.specs.Units.{extent_at, slice_unit}
 use Rattle.h264_verify.specs.Order.{content, data_course}
 use Rattle.h264_verify.specs.Verdict.{IsLegal, AreLegal}
+use Rattle.h264_verify.proofs.HeaderSets.{content-gives}
 use Rattle.h264_verify.proofs.LegalUnit.{given, has-met, rest-ends, rest-reads}
 
 abbrev pub HasRoom : Sps → Type 0
@@ -84,21 +83,16 @@ level-of None h b = cc
 level-of (Some l) h b = (refl, b)
 
 level-gives : (set3 : Bool) → Gives (level set3) (HasLevel set3)
-unfolding level
-level-gives set3 =
-    gives-bind _ (HasLevel set3) _ _ (gives-any _)
-    (λ e a. gives-bind _ (HasLevel set3) _ _ (gives-any _) (λ x b. gives-bind _ (HasLevel set3) _ _ (gives-check _ _ _) (λ y t.
-    let l = level-of (limits_of (natural e.value) set3) t (limits-hold (natural e.value) set3) in
-    gives-done (HasLevel set3) _ (record { is = l.0; holds = l.1 }))))
+unfolding level read_word support check ◌>>=◌ Gives
+level-gives set3 = λ e _ t. let l = level-of (limits_of (natural e.value) set3) t (limits-hold (natural e.value) set3) in record { is = l.0; holds = l.1 }
 
 abbrev HasFront : ProfileAndLevel → Type 0
 HasFront f = HasLevel f.flags.set3 f.named
 
 front-gives : (target : Target) → Gives (profile_and_level target) HasFront
 unfolding profile_and_level
-front-gives target =
-    gives-bind _ HasFront _ _ (gives-any _) (λ profile a. gives-bind _ HasFront _ _ (gives-any _)
-    (λ flags b. gives-bind _ HasFront _ _ (gives-any _) (λ x c. gives-bind _ HasFront _ _ (gives-any _) (λ reserved d.
+front-gives target = gives-following _ _ HasFront
+    (λ profile. gives-following _ _ _ (λ flags. gives-following _ _ _ (λ x. gives-following _ _ _ (λ reserved.
     gives-bind (HasLevel flags.set3) HasFront _ _ (level-gives flags.set3) (λ named h. gives-done HasFront _ h)))))
 
 -- the size is one of the level
@@ -107,21 +101,9 @@ record HasSize (limits : Limits) (size : FrameSize) : Type 0 where
   pub high : 0 < size.height
   pub macroblocks : size.width * size.height ≤ limits.max_fs
 
-fits-gives : (limits : Limits) (refs bit : ℕ) (size : FrameSize) → 0 < size.width → 0 < size.height → Gives (fits limits refs bit size) (HasSize limits)
-unfolding fits
-fits-gives limits refs bit size wide high =
-    gives-bind _ (HasSize limits) _ _ (gives-check _ _ _)
-    (λ a t. gives-bind _ (HasSize limits) _ _ (gives-any _)
-    (λ x b. gives-bind _ (HasSize limits) _ _ (gives-any _) (λ y c. gives-bind _ (HasSize limits) _ _ (gives-any _) (λ z d.
-    gives-done (HasSize limits) _ (record { wide = wide; high = high; macroblocks = leb-true _ _ t })))))
-
-next-above : (n : ℕ) → 0 < n + 1
-next-above n = omega arith
-
 size-gives : (limits : Limits) (refs : ℕ) → Gives (frame_size limits refs) (HasSize limits)
-unfolding frame_size
-size-gives limits refs = gives-bind _ (HasSize limits) _ _ (gives-any _)
-    (λ w a. gives-bind _ (HasSize limits) _ _ (gives-any _) (λ h b. fits-gives limits refs _ _ (next-above (natural w.value)) (next-above (natural h.value))))
+unfolding frame_size fits read_word check ◌>>=◌ Gives
+size-gives limits refs = λ w h a b c d. record { wide = omega arith; high = omega arith; macroblocks = leb-true _ _ a }
 
 room : (limits : Limits) (size : FrameSize) → HoldsFrame limits → HasSize limits size → 0 < max_dpb_frames limits size
 room limits size l h =
@@ -134,16 +116,12 @@ room limits size l h =
 
 sps-gives : (target : Target) → Gives (sps target) HasRoom
 unfolding sps
-sps-gives target =
-    gives-bind HasFront HasRoom _ _ (front-gives target)
-    (λ front named. gives-bind _ HasRoom _ _ (gives-any _)
-    (λ id a. gives-bind _ HasRoom _ _ (gives-any _) (λ log2 b. gives-bind _ HasRoom _ _ (gives-any _) (λ count c.
-    gives-bind _ HasRoom _ _ (gives-any _) (λ refs d. gives-bind _ HasRoom _ _ (gives-any _) (λ gaps e.
-    gives-bind (HasSize front.named.limits) HasRoom _ _ (size-gives front.named.limits refs)
-    (λ size h. gives-bind _ HasRoom _ _ (gives-any _) (λ only f. gives-bind _ HasRoom _ _ (gives-any _) (λ direct g.
-    gives-bind _ HasRoom _ _ (gives-any _) (λ crop i. gives-bind _ HasRoom _ _ (gives-any _) (λ usability j. gives-bind _ HasRoom _ _ (gives-any _) (λ end k.
-    gives-done HasRoom _ (subst (λ (o : Option Limits). 0 < option_map_or (λ (l : Limits). max_dpb_frames l size) o 0) (sym named.is)
-    (room front.named.limits size named.holds h))))))))))))))
+sps-gives target = gives-bind HasFront HasRoom _ _ (front-gives target)
+    (λ front named. gives-following _ _ _ (λ id. gives-following _ _ _ (λ log2. gives-following _ _ _ (λ count. gives-following _ _ _
+    (λ refs. gives-following _ _ _ (λ gaps. gives-bind (HasSize front.named.limits) HasRoom _ _ (size-gives front.named.limits refs)
+    (λ size h. gives-following _ _ _ (λ only. gives-following _ _ _ (λ direct. gives-following _ _ _ (λ crop. gives-following _ _ _
+    (λ usability. gives-following _ _ _ (λ end. gives-done HasRoom _ (subst (λ (o : Option Limits). 0 < option_map_or
+    (λ (l : Limits). max_dpb_frames l size) o 0) (sym named.is) (room front.named.limits size named.holds h))))))))))))))
 
 -- ---- a unit
 
@@ -153,21 +131,12 @@ IsRoomy (contents.OfPps set) = Unit {0}
 IsRoomy (contents.OfSlice h macroblocks) = Unit {0}
 IsRoomy contents.Passed = Unit {0}
 
-other-gives : (kind : ℕ) (before : History) (unit : NalUnit) → Gives (other_content depths.Full kind before unit) IsRoomy
-other-gives kind before unit = gives-if IsRoomy (is_slice kind) _ _ (gives-bind _ IsRoomy _ _ (gives-any _) (λ h i. gives-done IsRoomy _ tt))
-    (gives-done IsRoomy _ tt)
-
-content-gives : (target : Target) (kind : ℕ) (before : History) (unit : NalUnit) → Gives (content (extent_at depths.Full target) kind before unit) IsRoomy
-unfolding content
-content-gives target kind before unit =
-    gives-if IsRoomy (kind == 7) _ _ (gives-bind HasRoom IsRoomy _ _ (sps-gives target) (λ set h. gives-done IsRoomy _ h))
-    (gives-if IsRoomy (kind == 8) _ _ (gives-bind _ IsRoomy _ _ (gives-any (pps target)) (λ set a. gives-done IsRoomy _ tt)) (other-gives kind before unit))
-
 unit-room : (target : Target) (before : History) (r : ReadUnit) (calls : List Told) → IsLegal (extent_at depths.Full target) before r calls → IsRoomy r.content
 unit-room target before r calls l =
     let m = has-met target before r calls l in
     by m.found m.bit m.rest (given IsRoomy _ (body_of r.unit) 0 m.elements m.found m.bit
-    (content-gives target (nal_unit_type (header_of r.unit)) before r.unit) m.says) m.following
+    (content-gives IsRoomy (extent_at depths.Full target) (nal_unit_type (header_of r.unit)) before r.unit (sps-gives target) (λ set. tt)
+    (λ slice. gives-any (header (sets_of (maps_of before)) (slice_unit r.unit))) tt) m.says) m.following
   where
     by : (found : Content) (bit : ℕ) (rest : List Told) → IsRoomy found →
         Runs (body_of r.unit) (data_course depths.Full before r.unit found bit) rest (Ok r.content) → IsRoomy r.content

@@ -1,10 +1,10 @@
 -- The pictures that the list of a slice names have their places among those of the active sequence.
-use Rattle.std.proofs.Common.{◌≡◌, ℕ, zero, suc, ◌+◌, ◌-◌, ◌<◌, ◌≤◌, ◌==◌, ◌&&◌, ◌||◌, not, nat_lt, Bool, true, false, List, [], ◌∷◌, map, length, get_or}
+use Rattle.std.proofs.Common.{◌≡◌, ℕ, zero, suc, ◌+◌, ◌-◌, ◌<◌, ◌≤◌, ◌==◌, ◌&&◌, ◌||◌, not, Bool, true, false, List, [], ◌∷◌, map, length, get_or}
 use Rattle.std.proofs.Common.{Option, Some, None, Result, Ok, Err, IfOk, refl, ap, sym, ◌∙◌, subst, arith, if◌then◌else◌}
 use Rattle.std.proofs.lemmas.Bool.{not-true}
 use Rattle.std.proofs.lemmas.Bool.Decides.{nat_tests}
 use Rattle.std.specs.List.{list_any, slice_get, AllByRecursion}
-use Rattle.std.specs.Option.{option_and_then, option_map_or}
+use Rattle.std.specs.Option.{option_and_then}
 use Rattle.std.specs.Result.{result_unwrap_or}
 use Rattle.h264_plane.specs.declared.frame.Frame.{Frame}
 use Rattle.h264_header.specs.declared.header.SliceKind.{SliceKind}
@@ -25,7 +25,6 @@ use Rattle.h264_picture.specs.declared.frames.Frames.{Frames}
 use Rattle.h264_picture.specs.declared.frames.TheConstants.{PLACES}
 use Rattle.h264_recon.specs.Table.{table}
 use Rattle.h264_picture.specs.Context.{picture_in, slice_context}
-use Rattle.h264_picture.specs.declared.canvas.Canvas.{Canvas}
 use Rattle.h264_picture.specs.Lent.{lent_in, frames_in}
 use Rattle.h264_picture.specs.Places.{lent, first_place, places, MakesFrames, is_active_place, IsReleased}
 use Rattle.h264_dpb.specs.declared.entry.Entry.{Entry}
@@ -36,6 +35,7 @@ use Rattle.h264_dpb.specs.Numbered.{place_in}
 use Rattle.h264_dpb.specs.Turns.{Shown, Turn, names}
 use Rattle.h264_dpb.specs.Kept.{shown_at}
 use Rattle.h264_dpb.proofs.Finding.{lent-at}
+use Rattle.h264_picture.proofs.Canvases.{below-places}
 use Rattle.h264_verify.specs.declared.decoder.Decoder.{Decoder}
 use Rattle.h264_verify.specs.Held.{Stands}
 use Rattle.h264_verify.specs.Pictures.{CodedSlice, CodedPicture, joined_to, last_slice, held_in}
@@ -78,26 +78,12 @@ record IsActiveAt (work : Work) (p : ℕ) : Type 0 where
   to : p < first_place work + places work
   near : p < first_place work + PLACES
 
-below-by : (k n : ℕ) (o : Option Frame) (f : Frame) (b : Bool) → nat_lt k n ≡ b → (if b then o else None) ≡ Some f → k < n
-below-by k n o f true t e = grind (arith, nat_tests)
-below-by k n o f false t e = cc
-
-below-canvas : (s : Sequence) (o : Option Canvas) (k : ℕ) (f : Frame) → s.canvas ≡ o → lent_in (frames_in o) k ≡ Some f → k < s.places
-below-canvas s None k f is e = cc
-below-canvas s (Some c) k f is e =
-    let count = (s.drawn c is).count in let below = below-by k (length c.frames.pool) _ f _ refl e in omega (arith, count, below)
-
-below-pool : (o : Option Sequence) (k : ℕ) (f : Frame) → lent_in (option_and_then (λ (s : Sequence). frames_in s.canvas) o) k ≡ Some f →
-    k < option_map_or (λ (s : Sequence). s.places) o 0
-below-pool None k f e = cc
-below-pool (Some s) k f e = below-canvas s s.canvas k f refl e
-
 active-by : (work : Work) (p : ℕ) (f : Frame) (b : Bool) → is_active_place work.base p ≡ b → IsReleased work →
     (if b then lent_in (option_and_then (λ (s : Sequence). frames_in s.canvas) work.active) (p - work.base) else lent_in work.older
     (p - (PLACES - work.base))) ≡ Some f →
     IsActiveAt work p
 active-by work p f true t r e =
-    let k = below-pool work.active (p - work.base) f e in
+    let k = below-places work.active (p - work.base) f e in
     let a : (work.base ≤ p) × (p - work.base < 17) = grind (arith, nat_tests) in
     record { from = a.0; to = let l = a.0 in omega (arith, k, l); near = let l = a.0 in let m = a.1 in omega (arith, l, m) }
 active-by work p f false t r e = let g : None ≡ Some f = sym (ap (λ (o : Option Frames). lent_in o (p - (PLACES - work.base))) r) ∙ e in cc

@@ -31,8 +31,7 @@ use Rattle.h264_verify.specs.Pictures.{CodedSlice, CodedPicture, prev_ref_frame_
 use Rattle.h264_verify.specs.Lists.{list_of, list_in, named_in}
 use Rattle.h264_verify.specs.Slices.{is_i}
 use Rattle.h264_verify.specs.Decoding.{slices_of, EachSlice}
-use Rattle.h264_verify.specs.Sound.{HasSet}
-use Rattle.h264_verify.specs.Sound.{is_idr_marking}
+use Rattle.h264_verify.specs.Sound.{HasSet, is_idr_marking}
 use Rattle.h264_verify.proofs.FamiliesInSlice.{each-slice}
 use Rattle.h264_verify.proofs.FamiliesInPicture.{AreReadSlices}
 use Rattle.h264_verify.proofs.HeldInBuffer.{pictures_in, IsAmong, filled-holds, marked-holds}

@@ -8,9 +8,8 @@ use Rattle.h264_plane.specs.declared.frame.Frame.{Frame}
 use Rattle.h264_base.specs.declared.summary.Summary.{Summary}
 use Rattle.h264_verify.specs.Telling.{Told, AreDecoded}
 use Rattle.h264_verify.specs.History.{History}
-use Rattle.h264_verify.specs.Pictures.{CodedPicture, goes_on, runs_of}
+use Rattle.h264_verify.specs.Pictures.{CodedPicture, goes_on, runs_of, ended_pictures}
 use Rattle.h264_verify.specs.Decoding.{slices_of}
-use Rattle.h264_verify.specs.Pictures.{ended_pictures}
 use Rattle.h264_verify.specs.Verdict.{AreLegal, Holds}
 use Rattle.h264_verify.specs.Family.{HaveSameSamples, AreSameOn}
 use Rattle.h264_verify.proofs.FamiliesInSlice.{each-slice}

@@ -1,10 +1,10 @@
 -- What a sink is told of a stream, or of a front of it, is one list of calls.
-use Rattle.std.proofs.Common.{◌≡◌, ℕ, ◌+◌, ◌-◌, ◌*◌, ◌<◌, ◌≤◌, List, [], ◌∷◌, length, ℤ, refl, ap, sym, ◌∙◌, subst, arith, ⊎_elim, Some}
+use Rattle.std.proofs.Common.{◌≡◌, ℕ, ◌+◌, ◌-◌, ◌*◌, ◌<◌, ◌≤◌, List, [], ◌∷◌, length, ℤ, refl, ap, sym, ◌∙◌, subst, arith, ⊎_elim, Some, ◌≡◌, ℕ, ◌*◌, arith}
 use Rattle.std.proofs.lemmas.Bool.{cases_lt}
 use Rattle.h264_verify.specs.Units.{extent_at}
 use Rattle.h264_base.specs.declared.mode.Target.{Target}
 use Rattle.h264_verify.specs.declared.state.Depth.TheVariants as depths
-use Rattle.h264_base.specs.Call.{Call, OfFrame}
+use Rattle.h264_base.specs.Call.{Call, OfFrame, Call}
 use Rattle.h264_plane.specs.declared.frame.Component.{Component}
 use Rattle.h264_plane.specs.declared.frame.Component.TheVariants.{Y, Cb, Cr}
 use Rattle.h264_plane.specs.declared.frame.Frame.{Frame}
@@ -16,18 +16,13 @@ use Rattle.h264_plane.proofs.Rows.{bytes_same}
 use Rattle.h264_dpb.specs.Shown.{width_in, height_in, cropped, frame_call}
 use Rattle.h264_dpb.specs.Kept.{shown_call}
 use Rattle.h264_dpb.specs.declared.entry.Rectangle.{Rectangle}
-use Rattle.h264_verify.specs.Telling.{Told, Said, Decodes, Shows, calls_of, AreOf}
-use Rattle.h264_verify.specs.Pictures.{CodedPicture}
-use Rattle.h264_verify.specs.Family.{AreSameOn}
-use Rattle.std.proofs.Common.{◌≡◌, ℕ, ◌*◌, arith, append_assoc, ⊎_elim, List, [], ◌∷◌, ◌++◌, length, ◌⊎◌, inl, inr, Some}
-use Rattle.std.proofs.Common.{Result, refl, ap, sym, ◌∙◌, subst}
+use Rattle.h264_verify.specs.Telling.{Told, Said, Decodes, Shows, calls_of, AreOf, Told, Said, Decodes, Shows, calls_of, AreDecoded, AreOf}
+use Rattle.h264_verify.specs.Pictures.{CodedPicture, CodedPicture}
+use Rattle.h264_verify.specs.Family.{AreSameOn, IsFrontOf}
+use Rattle.std.proofs.Common.{append_assoc, ⊎_elim, List, [], ◌∷◌, ◌++◌, length, ◌⊎◌, inl, inr, Some, Result, refl, ap, sym, ◌∙◌, subst}
 use Rattle.h264_base.specs.declared.stop.Stop.{Stop}
-use Rattle.h264_base.specs.Call.{Call}
 use Rattle.h264_base.specs.declared.summary.Summary.{Summary}
-use Rattle.h264_verify.specs.Telling.{Told, Said, Decodes, Shows, calls_of, AreDecoded, AreOf}
 use Rattle.h264_verify.specs.Steps.{told}
-use Rattle.h264_verify.specs.Pictures.{CodedPicture}
-use Rattle.h264_verify.specs.Family.{IsFrontOf}
 use Rattle.h264_verify.specs.History.{History}
 use Rattle.h264_verify.specs.Verdict.{AreLegal, Verdict}
 use Rattle.h264_verify.proofs.FamiliesAgree.{decoded-first, calls-both}

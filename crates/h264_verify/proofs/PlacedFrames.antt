@@ -23,7 +23,7 @@ use Rattle.h264_dpb.specs.Shown.{fits, fits_in}
 use Rattle.h264_verify.specs.declared.decoder.Decoder.{Decoder}
 use Rattle.h264_verify.specs.declared.decoder.Format.{Format}
 use Rattle.h264_verify.specs.Pictures.{CodedPicture, held_after, last_slice, picture_size}
-use Rattle.h264_verify.specs.Buffering.{ended_picture, within_newest, after_all}
+use Rattle.h264_verify.specs.Buffering.{ended_picture, within_newest, after_all, told_frames}
 use Rattle.h264_verify.specs.Keeping.{HasFormat, IsRoomFor, IsSized, KeepsFrames}
 use Rattle.h264_verify.specs.Memory.{format_of}
 use Rattle.h264_verify.proofs.LentFrames.{each-lent, all-ready}
@@ -41,7 +41,6 @@ use Rattle.h264_verify.specs.Outcome.{Outcome, ◌>>=◌, tells, Plays}
 use Rattle.h264_verify.specs.Steps.{Step}
 use Rattle.h264_verify.specs.Steps as step
 use Rattle.h264_verify.specs.StepOutcome.{steps_outcome}
-use Rattle.h264_verify.specs.Buffering.{told_frames}
 use Rattle.h264_verify.proofs.OutcomesPlayed.{plays-on, plays-stops}
 use Rattle.h264_verify.proofs.ToldFrames.{IsLentFor, decodes-plays, end-outcome, writes-plays}
 use Rattle.h264_base.proofs.Plain.{first-false}

@@ -20,8 +20,7 @@ use Rattle.h264_verify.specs.Telling.{Told, Tells, Family, took_with, frame_span
 use Rattle.h264_verify.specs.Turning.{Turns, Pauses, EndsAll}
 use Rattle.h264_verify.specs.UnitOutcome.{unit_outcome, unit_to_data, end_outcome}
 use Rattle.h264_verify.specs.Units.{extent_by}
-use Rattle.h264_verify.specs.Verdict.{in_order, AreLegal, AtEnd, Verdict, Whole}
-use Rattle.h264_verify.specs.Verdict.{JudgedBy}
+use Rattle.h264_verify.specs.Verdict.{in_order, AreLegal, AtEnd, Verdict, Whole, JudgedBy}
 use Rattle.h264_verify.specs.Progress.{Progress, going, LastIsRead}
 use Rattle.h264_verify.specs.declared.state.Depth.{Depth}
 use Rattle.h264_units.specs.UnitHeader.{header_of, nal_unit_type, is_slice}

@@ -1,6 +1,5 @@
 -- What is left of the input where a session stands, and the answers that it leads to.
-use Rattle.std.proofs.Common.{◌≡◌, ℕ, ◌+◌, ◌*◌, ◌<◌, List, [], ◌∷◌, ◌++◌, length}
-use Rattle.std.proofs.Common.{Some, Result, Err, refl, ap, sym, ◌∙◌, subst, arith, append_assoc}
+use Rattle.std.proofs.Common.{◌≡◌, ℕ, ◌+◌, ◌*◌, ◌<◌, List, [], ◌∷◌, ◌++◌, length, Some, Result, Err, refl, ap, sym, ◌∙◌, subst, arith, append_assoc}
 use Rattle.std.proofs.lemmas.List.{append-nil}
 use Rattle.h264_base.specs.declared.stop.Stop.{Stop}
 use Rattle.h264_base.specs.declared.stop.Stop.TheVariants.{No, Outside, Memory, Read, Write}
@@ -21,8 +20,7 @@ use Rattle.h264_verify.specs.Telling.{Told, Tells, TellsFront, Family, took_with
 use Rattle.h264_verify.specs.Turning.{Turns, Pauses}
 use Rattle.h264_verify.specs.UnitOutcome.{unit_outcome, unit_to_data}
 use Rattle.h264_verify.specs.Units.{extent_by}
-use Rattle.h264_verify.specs.Verdict.{in_order, AtNext, AtTail, Verdict, Whole, Front, BeforeNext, ForPicture}
-use Rattle.h264_verify.specs.Verdict.{JudgedBy}
+use Rattle.h264_verify.specs.Verdict.{in_order, AtNext, AtTail, Verdict, Whole, Front, BeforeNext, ForPicture, JudgedBy}
 use Rattle.h264_verify.specs.Progress.{Progress}
 use Rattle.h264_verify.specs.Feeding.{WasFed, ComesTo}
 use Rattle.h264_verify.proofs.AfterLegal.{SomeAfter, stops-after, after-unit, some-after, stopped}

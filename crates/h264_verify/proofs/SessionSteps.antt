@@ -15,8 +15,7 @@ use Rattle.h264_verify.specs.Keeping.{ended_in}
 use Rattle.h264_verify.specs.KeepingUnits.{KeepsSome}
 use Rattle.h264_verify.specs.Telling.{Told, Tells, Family, IsFamilyFor, took_with, Agree, AreOf}
 use Rattle.h264_verify.specs.Units.{extent_by}
-use Rattle.h264_verify.specs.Verdict.{in_order, AreLegal, Verdict, Whole, Front}
-use Rattle.h264_verify.specs.Verdict.{WantsAt, Wanting, JudgedBy, Judged, SameTold}
+use Rattle.h264_verify.specs.Verdict.{in_order, AreLegal, Verdict, Whole, Front, WantsAt, Wanting, JudgedBy, Judged, SameTold}
 use Rattle.h264_verify.specs.Progress.{Progress, going, IsFresh}
 use Rattle.h264_verify.specs.Feeding.{ShowsUnits, WasFed, WasFedSome, IsReady, IsSession, IsFed, GoesOn, ComesTo}
 use Rattle.h264_verify.proofs.AfterLegal.{Joined}

@@ -1,5 +1,5 @@
 -- A slice is judged: what comes to pass, one part after another.
-use Rattle.std.proofs.Common.{◌≡◌, ℕ, ◌*◌, Bool, true, false, List, [], ◌++◌, Option, Some, Result, Ok, Err, refl, ap, sym, ◌∙◌, subst, append_assoc}
+use Rattle.std.proofs.Common.{◌≡◌, ℕ, ◌*◌, Bool, true, false, List, [], ◌++◌, Option, Some, Result, Ok, Err, refl, ap, sym, ◌∙◌, subst}
 use Rattle.std.proofs.Common.{if◌then◌else◌}
 use Rattle.h264_base.specs.Call.{span}
 use Rattle.h264_verify.specs.declared.state.Depth.{Depth}
@@ -18,16 +18,14 @@ use Rattle.h264_verify.specs.Telling.{Told, Family}
 use Rattle.h264_verify.specs.Outcome.{Outcome, Plays}
 use Rattle.h264_verify.specs.Demands.{judged}
 use Rattle.h264_verify.specs.History.{History, maps_of}
-use Rattle.h264_verify.specs.Order.{whole_steps}
+use Rattle.h264_verify.specs.Order.{whole_steps, slice_steps, closing_demands, standing_demands, coded_before}
 use Rattle.h264_verify.specs.Buffering.{closing_frames, ended_picture, frame_count}
 use Rattle.h264_verify.specs.StepOutcome.{steps_outcome}
 use Rattle.h264_verify.specs.Slices.{first_mb_demands, is_idr_due}
-use Rattle.h264_verify.specs.Order.{slice_steps}
 use Rattle.h264_verify.specs.Pictures.{CodedSlice, CodedPicture, with_sets, open_of, begins_after, begins_at, runs_of}
-use Rattle.h264_verify.specs.Order.{closing_demands}
-use Rattle.h264_verify.specs.Order.{standing_demands, coded_before}
 use Rattle.h264_verify.specs.Keeping.{KeepsFrames, WhereMade, HoldsNewest, Entered, told_rules, close_steps}
 use Rattle.h264_verify.specs.Steps.{Step, needs}
+use Rattle.h264_verify.proofs.CourseOutcome.{three-before}
 use Rattle.h264_verify.proofs.SliceSteps.{refused, err-named, own_steps, at-standing, at-place, after-place}
 use Rattle.h264_verify.proofs.StepsPlayed.{steps-stop, steps-on}
 use Rattle.h264_verify.proofs.KeepsOutput.{coded-by, holds-newest}
@@ -41,14 +39,11 @@ module _ {S : Type 0} (took : S → List Told → Type 0) (failures : S → ℕ)
   abbrev own : Outcome (Unit {0})
   own = steps_outcome (own_steps depth before unit h begins b)
 
-  three : (xs ys zs ts : List Step) → (xs ++ (ys ++ zs)) ++ ts ≡ xs ++ (ys ++ (zs ++ ts))
-  three xs ys zs ts = append_assoc xs (ys ++ zs) ts ∙ ap (λ (l : List Step). xs ++ l) (append_assoc ys zs ts)
-
   -- after the end of the picture before it
   closed-is : slice_steps depth before unit h ≡ close_steps depth begins before ++ own_steps depth before unit h begins b
   closed-is =
       let at = begins_at before h in
-      sym (three (if at then whole_steps depth before else []) (needs (if at then closing_demands before else []))
+      sym (three-before (if at then whole_steps depth before else []) (needs (if at then closing_demands before else []))
       (if at then closing_frames depth before else []) (own_steps depth before unit h begins b))
       ∙ ap (λ (x : Bool). close_steps depth x before ++ own_steps depth before unit h begins b) (sym b)
 

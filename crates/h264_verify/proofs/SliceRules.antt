@@ -14,11 +14,9 @@ use Rattle.h264_verify.specs.declared.slices.PicturesSoFar.{PicturesSoFar}
 use Rattle.h264_verify.specs.declared.picture.OpenPicture.{OpenPicture}
 use Rattle.h264_verify.specs.Buffering.{after_all, gaps_turn}
 use Rattle.h264_verify.specs.Demands.{judged}
-use Rattle.h264_verify.specs.Slices.{is_i, type_demand}
+use Rattle.h264_verify.specs.Slices.{is_i, type_demand, pictures_before, slices_before}
 use Rattle.h264_verify.specs.Order.{first_slice_rules}
-use Rattle.h264_verify.specs.Slices.{pictures_before, slices_before}
-use Rattle.h264_verify.specs.Pictures.{CodedSlice, CodedPicture, open_of, begins_after, goes_on, runs_of, counted, prev_ref_frame_num_of}
-use Rattle.h264_verify.specs.Pictures.{held_after, held_in}
+use Rattle.h264_verify.specs.Pictures.{CodedSlice, CodedPicture, open_of, begins_after, goes_on, runs_of, counted, prev_ref_frame_num_of, held_after, held_in}
 use Rattle.h264_verify.proofs.KeepsOutput.{gap-by, ended-gap}
 use Rattle.h264_verify.proofs.WhereMade.{made-then, made-with, made-some, made-same}
 use Rattle.h264_verify.proofs.FillsFrames.{sized}

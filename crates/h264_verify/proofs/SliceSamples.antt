@@ -26,13 +26,12 @@ use Rattle.h264_picture.specs.Context.{slice_context}
 use Rattle.h264_picture.specs.Filter.{slice_filter, filter_in}
 use Rattle.h264_picture.specs.Holds.{HoldsMacroblocks, IsActive}
 use Rattle.h264_picture.specs.Making.{Making, HoldsSamples, MakesSliceWith, IsSliceOf}
-use Rattle.h264_picture.specs.Places.{lent, first_place, places, is_active_place, HasBegun}
-use Rattle.h264_picture.specs.Places.{HasSize, IsReleased, KeepsFrames as KeepsLent, MakesFrames, purpose_of}
+use Rattle.h264_picture.specs.Places.{lent, first_place, places, is_active_place, HasBegun, HasSize, IsReleased, KeepsFrames as KeepsLent, MakesFrames}
+use Rattle.h264_picture.specs.Places.{purpose_of, HasBegunIn}
 use Rattle.h264_dpb.specs.Turns.{Turn}
 use Rattle.h264_dpb.specs.declared.output.Output.{Output}
 use Rattle.h264_dpb.specs.Kept.{is_occupied, HasFrames}
 use Rattle.h264_picture.proofs.Canvases.{another-place}
-use Rattle.h264_picture.specs.Places.{HasBegunIn}
 use Rattle.h264_verify.proofs.FamiliesByPurpose.{some-of, some-made, some-map, some-both}
 use Rattle.h264_verify.specs.Telling.{frame_span, Family}
 use Rattle.h264_verify.specs.declared.decoder.Decoder.{Decoder}

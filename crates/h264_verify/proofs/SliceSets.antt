@@ -25,8 +25,7 @@ use Rattle.h264_verify.specs.Slices.{is_active}
 use Rattle.h264_verify.specs.Pictures.{CodedSlice, CodedPicture, last_slice, goes_on, open_of, begins_after, joined_to, runs_of, held_after}
 use Rattle.h264_verify.specs.Order.{standing_demands}
 use Rattle.h264_verify.specs.Keeping.{KeepsSlices}
-use Rattle.h264_verify.specs.Sound.{IsMarked, HasSet, HasPps, AreSound, has_ended, HasActive, NamesSet}
-use Rattle.h264_verify.specs.Sound.{has_gap_filled}
+use Rattle.h264_verify.specs.Sound.{IsMarked, HasSet, HasPps, AreSound, has_ended, HasActive, NamesSet, has_gap_filled}
 use Rattle.h264_verify.proofs.SliceSteps.{content-active}
 use Rattle.h264_verify.proofs.SoundPictures.{met-by, ended-sound-of}
 use Rattle.h264_verify.proofs.SliceRules.{held-all}
@@ -184,14 +183,10 @@ module _ (maps : Maps) (slice : CodedSlice) (named : sets_of maps slice.header.p
   pub later-pps : (p : CodedPicture) → begins_picture (picture_elements (last_slice p).header) (picture_elements slice.header) ≡ false →
       pps_of maps (last_slice p).header.pic_parameter_set_id.value ≡ Some p.first.pps → p.first.pps ≡ slice.pps
   later-pps p b n =
-      let same = id-same _ _ (front _ _ (front _ _ (front _ _ (front _ _ (front _ _ b))))) in
+      let same = id-same _ _ (first-false _ _ (first-false _ _ (first-false _ _ (first-false _ _ (first-false _ _ b))))) in
       one-pps p.first.pps slice.pps _ (ap (λ (id : ℕ). pps_of maps id) (sym (eqb-true _ _ same)) ∙ n)
       (named-pps maps slice.header.pic_parameter_set_id.value slice.pps slice.sps named)
     where
-      front : (a b : Bool) → (a || b) ≡ false → a ≡ false
-      front true b h = cc
-      front false b h = refl
-
       id-same : (a b : Bool) → (a || not b) ≡ false → b ≡ true
       id-same true b h = cc
       id-same false true h = refl

@@ -1,7 +1,6 @@
 -- Rules one after another, and the sets of a slice.
-use Rattle.std.proofs.Common.{OnOk, IsTrue, IsFalse, ◌⊎◌, inl, inr, ◌≡◌, ℕ, ◌*◌, Bool, true, false, List, [], ◌∷◌, ◌++◌, Option, Some, None}
-use Rattle.std.proofs.Common.{Result, zero, suc}
-use Rattle.std.proofs.Common.{Ok, Err, refl, ap, sym, ◌∙◌, subst, append_assoc, ◌||◌, if◌then◌else◌}
+use Rattle.std.proofs.Common.{OnOk, IsTrue, IsFalse, ◌⊎◌, inl, inr, ◌≡◌, ℕ, ◌*◌, Bool, true, false, List, [], ◌∷◌, ◌++◌, Option, Some, None, Result, zero, suc}
+use Rattle.std.proofs.Common.{Ok, Err, refl, ap, sym, ◌∙◌, subst, ◌||◌, if◌then◌else◌}
 use Rattle.std.specs.Option.{is_some, option_map}
 use Rattle.h264_base.specs.Call.{span}
 use Rattle.h264_base.specs.declared.rule.Rule.TheVariants.{SetChanged}
@@ -29,7 +28,7 @@ use Rattle.h264_verify.specs.StepOutcome.{steps_outcome}
 use Rattle.h264_verify.specs.Pictures.{CodedSlice, with_sets, sets_at, begins_at, joined_to, runs_of}
 use Rattle.h264_verify.specs.Keeping.{told_rules}
 use Rattle.h264_verify.proofs.OutcomesPlayed.{answers-plays}
-use Rattle.h264_verify.proofs.CourseOutcome.{needs-first, needs-ok, needs-err, after_rules}
+use Rattle.h264_verify.proofs.CourseOutcome.{needs-first, needs-ok, needs-err, after_rules, three-before}
 use Rattle.h264_base.proofs.Plain.{some-same}
 
 -- one rule before others: met, or not
@@ -198,13 +197,10 @@ module _ (depth : Depth) (before : History) (unit : NalUnit) (h : Header) (begin
     abbrev pub rules_then : Pps × Sps → List Step
     rules_then sets = told_rules depth begins (runs_of before) (slice sets)
 
-    three : (xs ys zs ts : List Step) → (xs ++ (ys ++ zs)) ++ ts ≡ xs ++ (ys ++ (zs ++ ts))
-    three xs ys zs ts = append_assoc xs (ys ++ zs) ts ∙ ap (λ (l : List Step). xs ++ l) (append_assoc ys zs ts)
-
     standing-rest : (begins : Bool) (sets : Pps × Sps) (ts : List Step) → rules_of depth begins due maps (runs_of before) (slice sets) ++ ts ≡
         needs (standing_demands begins sets.1 due maps (8 * unit.from) h) ++
         (needs (first_mb_demands depth (coded_before begins (runs_of before)) h) ++ (slice_rules depth begins (runs_of before) (slice sets) ++ ts))
-    standing-rest begins sets ts = three (needs (standing_demands begins sets.1 due maps (8 * unit.from) h))
+    standing-rest begins sets ts = three-before (needs (standing_demands begins sets.1 due maps (8 * unit.from) h))
         (needs (first_mb_demands depth (coded_before begins (runs_of before)) h)) (slice_rules depth begins (runs_of before) (slice sets)) ts
 
     with-sets : (sets : Pps × Sps) → sets_of maps h.pic_parameter_set_id.value ≡ Some sets →

@@ -1,8 +1,7 @@
 -- What follows of pictures whose rules are met: no more frames are held than the buffer has places, and a reference picture that has ended is among them.
 use Rattle.std.proofs.Common.{◌≡◌, ℕ, ◌≤◌, ◌&&◌, nat_le, nat_lt, min, max, unwrap_or, Bool, true, false, List, [], ◌∷◌, ◌++◌, map, length, Option, Some, None}
 use Rattle.std.proofs.Common.{Result, Ok, Err, refl, ap, sym, ◌∙◌, subst, arith, if◌then◌else◌}
-use Rattle.std.proofs.lemmas.Bool.{and_parts}
-use Rattle.std.proofs.lemmas.Bool.{leb-true}
+use Rattle.std.proofs.lemmas.Bool.{and_parts, leb-true}
 use Rattle.std.specs.Option.{is_some, option_map_or}
 use Rattle.std.specs.Result.{result_unwrap_or}
 use Rattle.h264_base.proofs.Chains.{then-some}

@@ -12,12 +12,10 @@ use Rattle.h264_sets.specs.Sets.{Maps}
 use Rattle.h264_dpb.specs.Buffered.{Buffered}
 use Rattle.h264_dpb.specs.Turns.{Shown, missing_turn}
 use Rattle.h264_verify.specs.Steps.{Step, needs}
-use Rattle.h264_verify.specs.Pictures.{CodedSlice, CodedPicture, held_after, end_of_picture}
+use Rattle.h264_verify.specs.Pictures.{CodedSlice, CodedPicture, held_after, end_of_picture, ended_pictures}
 use Rattle.h264_verify.specs.Buffering.{told_frames, missing_steps, missing_on, missing_before, after_all}
 use Rattle.h264_verify.specs.Order.{rules_of}
-use Rattle.h264_verify.specs.Sound.{has_gap_filled}
-use Rattle.h264_verify.specs.Sound.{AreSound, has_ended}
-use Rattle.h264_verify.specs.Pictures.{ended_pictures}
+use Rattle.h264_verify.specs.Sound.{has_gap_filled, AreSound, has_ended}
 use Rattle.h264_verify.proofs.LegalUnit.{Met, met-first, met-last}
 use Rattle.h264_verify.proofs.SoundPictures.{sound-ended}
 

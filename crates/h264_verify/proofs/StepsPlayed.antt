@@ -7,14 +7,20 @@ use Rattle.h264_verify.specs.Outcome.{Outcome, answers, Plays}
 use Rattle.h264_verify.specs.Demands.{Demand, judged}
 use Rattle.h264_verify.specs.Steps.{Step, needs}
 use Rattle.h264_verify.specs.declared.state.Depth.{Depth}
-use Rattle.h264_header.specs.Picture.{is_idr}
+use Rattle.h264_header.specs.Picture.{is_idr, is_reference}
 use Rattle.h264_poc.specs.OfSlice.{picture_of}
 use Rattle.h264_marking.specs.Ended.{numbering_of}
-use Rattle.h264_marking.specs.Gaps.{entered}
+use Rattle.h264_marking.specs.declared.frame.Numbering.{Numbering}
+use Rattle.h264_marking.specs.Frames.{References}
+use Rattle.h264_marking.specs.Gaps.{entered, unused_short_term_frame_nums}
+use Rattle.h264_dpb.specs.Buffered.{Buffered}
+use Rattle.h264_dpb.specs.Turns.{Shown}
+use Rattle.h264_verify.specs.Buffering.{missing_steps}
 use Rattle.h264_verify.specs.Lists.{list_of}
 use Rattle.h264_verify.specs.Pictures.{CodedSlice}
 use Rattle.h264_verify.specs.Order.{gap_rules, first_slice_rules}
 use Rattle.h264_verify.specs.Slices.{PicturesBefore, type_demand, idr_num_demand, id_demand, count_demand, qp_demand, list_demand, first_bit}
+use Rattle.h264_verify.specs.Slices.{gap_demand, new_num_demand}
 use Rattle.h264_verify.specs.StepOutcome.{steps_outcome}
 use Rattle.h264_verify.proofs.OutcomesPlayed.{plays-on, plays-stops, gives-plays}
 use Rattle.h264_verify.proofs.CourseOutcome.{needs-judged, needs-ok, needs-err, steps-append}
@@ -51,6 +57,40 @@ module _ {S : Type 0} (took : S → List Told → Type 0) (failures : S → ℕ)
       Plays {X = X} (span took failures s0 s1) view (steps_outcome ss) (Ok x) → PlaySteps ts s1 s2 r → PlaySteps (ss ++ ts) s0 s2 r
   steps-on view ss ts s0 s1 s2 x r p q = subst (λ (o : Outcome (Unit {0})). Plays (span took failures s0 s2) (λ (x : Unit {0}). x) o r)
       (sym (steps-append ss ts)) (plays-on took failures view (λ (x : Unit {0}). x) (steps_outcome ss) (λ _. steps_outcome ts) s0 s1 s2 x r p q)
+
+-- The rules on frame_num of a picture that this slice begins, part by part.
+module _ {S : Type 0} (took : S → List Told → Type 0) (failures : S → ℕ) (depth : Depth) (slice : CodedSlice) (prev : ℕ) (refs : References)
+    (b : Buffered Shown) (s : S) where
+  abbrev numbering : Numbering
+  numbering = numbering_of slice.sps slice.header
+
+  abbrev bit : ℕ
+  bit = slice.header.frame_num.bit
+
+  abbrev gap_rule : List Demand
+  gap_rule = gap_demand (is_idr slice.header) slice.sps.gaps_in_frame_num_value_allowed_flag bit prev numbering ∷ []
+
+  abbrev missing : List Step
+  missing = missing_steps depth bit numbering (unused_short_term_frame_nums (is_idr slice.header) prev numbering) refs b
+
+  abbrev number_rule : List Demand
+  number_rule = new_num_demand (is_idr slice.header) (is_reference slice.header) bit prev numbering refs ∷ []
+
+  abbrev JudgesGap : S → Result (Unit {0}) Stop → Type 0
+  JudgesGap s' r = PlaySteps took failures (gap_rules depth slice prev refs b) s s' r
+
+  pub gap-broken : (e : Stop) → (let r : Result (Unit {0}) Stop = Err e in r ≡ judged gap_rule) → JudgesGap s (Err e)
+  gap-broken e h = rules-stop took failures gap_rule (missing ++ needs number_rule) s e h
+
+  module _ {X : Type 0} (view : X → Unit {0}) (y : Unit {0}) (met : Ok y ≡ judged gap_rule) (s' : S) where
+    pub gap-unfilled : (e : Stop) → Plays {X = X} (span took failures s s') view (steps_outcome missing) (Err e) → JudgesGap s' (Err e)
+    gap-unfilled e p = rules-on took failures gap_rule (missing ++ needs number_rule) s s' y (Err e) met
+        (steps-stop took failures view missing (needs number_rule) s s' e p)
+
+    pub gap-filled : (x : X) (r : Result (Unit {0}) Stop) → Plays {X = X} (span took failures s s') view (steps_outcome missing) (Ok x) →
+        r ≡ judged number_rule → JudgesGap s' r
+    gap-filled x r p h = rules-on took failures gap_rule (missing ++ needs number_rule) s s' y r met
+        (steps-on took failures view missing (needs number_rule) s s' s' x r p (rules-play took failures number_rule s' r h))
 
 -- The rules of a picture's first slice, part by part.
 

@@ -1,7 +1,6 @@
 -- What a sink is told as it is, as a part of what comes to pass.
 use Rattle.std.proofs.Common.{◌≡◌, List, [], ◌∷◌, ◌++◌, map, refl, ap, sym, ◌∙◌, subst, append_assoc}
-use Rattle.h264_base.specs.Call.{Call}
-use Rattle.h264_base.specs.Call.{Tells as CallsTell, TellsFront as CallsFront}
+use Rattle.h264_base.specs.Call.{Call, Tells as CallsTell, TellsFront as CallsFront}
 use Rattle.h264_base.specs.Body.{Body}
 use Rattle.h264_base.specs.Grammar.{Element}
 use Rattle.h264_base.specs.Run.{call_of}

@@ -1,8 +1,7 @@
 -- Frames that a sink is told, as a part of what comes to pass.
 use Rattle.std.specs.Prelude.{IfSome}
 use Rattle.std.proofs.Common.{IfErr, OnOk, ◌≡◌, ℕ, List, [], ◌∷◌, ◌++◌, map, Option, Some, None, Result, Ok, Err, refl, ap, sym, ◌∙◌, subst, append_assoc}
-use Rattle.h264_base.specs.Call.{Call, span}
-use Rattle.h264_base.specs.Call.{Tells as CallsTell, TellsFront as CallsFront}
+use Rattle.h264_base.specs.Call.{Call, span, Tells as CallsTell, TellsFront as CallsFront}
 use Rattle.h264_base.specs.declared.stop.Stop.{Stop}
 use Rattle.h264_base.specs.declared.stop.Stop.TheVariants.{No, Outside, Memory, Read, Write}
 use Rattle.h264_verify.specs.declared.state.Depth.TheVariants as depths

@@ -10,8 +10,7 @@ use Rattle.h264_base.specs.declared.stop.Stop.TheVariants.{No}
 use Rattle.h264_verify.specs.StepOutcome.{steps_outcome}
 use Rattle.h264_verify.proofs.FamiliesAgree.{of-more}
 use Rattle.h264_base.specs.Body.{Body}
-use Rattle.h264_base.specs.Grammar.{Grammar, Element, Done}
-use Rattle.h264_base.specs.Grammar.{◌>>=◌ as ◌bind◌}
+use Rattle.h264_base.specs.Grammar.{Grammar, Element, Done, ◌>>=◌ as ◌bind◌}
 use Rattle.h264_base.specs.declared.summary.Summary.{Summary}
 use Rattle.h264_units.specs.Stream.{NalUnit, Tail}
 use Rattle.h264_rbsp.specs.Rbsp.{body_of}
@@ -19,7 +18,6 @@ use Rattle.h264_near.specs.Coded.{CodedMacroblock}
 use Rattle.h264_sps.specs.declared.sps.Sps.{Sps}
 use Rattle.h264_sps.specs.Sps.{sps}
 use Rattle.h264_pps.specs.declared.Pps.{Pps}
-use Rattle.h264_pps.specs.Pps.{pps}
 use Rattle.h264_sets.specs.Sets.{Maps}
 use Rattle.h264_header.specs.declared.header.Header.{Header}
 use Rattle.h264_header.specs.Layout.{sets_of}
@@ -42,19 +40,18 @@ use Rattle.h264_units.specs.UnitHeader.{header_of, nal_unit_type, ends_picture, 
 use Rattle.h264_verify.specs.History.{History, ReadUnit, maps_of}
 use Rattle.h264_verify.specs.Pictures.{CodedSlice, CodedPicture, sets_at, with_sets, goes_on, open_of, begins_after, begins_at, joined_to}
 use Rattle.h264_verify.specs.Pictures.{joined_by, runs_of, coded_of, prev_ref_frame_num_of, held_after, ended_pictures}
-use Rattle.h264_verify.specs.Order.{content_course, header_demands, closing_demands, closing_at, whole_picture, whole_steps, whole_at, content}
-use Rattle.h264_verify.specs.Order.{content_steps, data_course}
-use Rattle.h264_verify.specs.Order.{gap_rules, first_slice_rules, rules_of, slice_rules, steps_by, slice_steps, frames_at, unit_course, end_steps}
+use Rattle.h264_verify.specs.Order.{content_course, header_demands, closing_demands, closing_at, whole_picture, whole_steps, whole_at, content, content_steps}
+use Rattle.h264_verify.specs.Order.{data_course, gap_rules, first_slice_rules, rules_of, slice_rules, steps_by, slice_steps, frames_at, unit_course, end_steps}
 use Rattle.h264_verify.specs.Slices.{pictures_before, is_idr_due, new_num_demand, first_mb_demands}
 use Rattle.h264_verify.specs.Data.{slice_data_at}
 use Rattle.h264_verify.specs.declared.state.Extent.{Extent}
-use Rattle.h264_verify.specs.Units.{unit_call, slice_unit, header_or_passed, other_content, picture_demand}
+use Rattle.h264_verify.specs.Units.{unit_call, slice_unit, picture_demand}
 use Rattle.h264_verify.specs.Buffering.{missing_on, missing_steps, told_frames, told_picture, end_frames, closing_frames, last_frames, after_all, within_newest}
 use Rattle.h264_verify.specs.Keeping.{ended_in}
 use Rattle.h264_verify.specs.Verdict.{IsLegal, AtBytes, InCourse, AreLegal, Holds, IsStopAfter, AtNext, AtTail, AtEnd, Verdict, remainder}
-use Rattle.h264_base.proofs.Gives.{Gives, gives-done, gives-any, gives-bind, gives-if, gives-derived}
+use Rattle.h264_base.proofs.Gives.{Gives, gives-done, gives-any, gives-bind, gives-weaker, gives-derived}
 use Rattle.h264_verify.proofs.LegalUnit.{Met}
-use Rattle.h264_verify.proofs.HeaderSets.{sets-given, gives-choice}
+use Rattle.h264_verify.proofs.HeaderSets.{sets-given, content-gives}
 use Rattle.h264_verify.proofs.ShownFirst.{IsFirst, ended-first, within-first, missing-first, after-first, last-first}
 
 -- ---- pictures that have ended
@@ -88,29 +85,9 @@ IsSound kind before (contents.OfPps set) = Unit {0}
 IsSound kind before (contents.OfSlice h macroblocks) = (is_slice kind ≡ true) × (is_some (sets_at before h) ≡ true)
 IsSound kind before contents.Passed = Unit {0}
 
-passed-gives : (kind : ℕ) (before : History) → Gives (Done contents.Passed) (IsSound kind before)
-passed-gives kind before = gives-done (IsSound kind before) contents.Passed tt
-
-header-or : (kind : ℕ) (before : History) (unit : NalUnit) → Gives (header_or_passed kind before unit) (IsSound kind before)
-header-or kind before unit =
-    gives-choice (IsSound kind before) (is_slice kind) _ _
-    (λ slice. gives-bind _ (IsSound kind before) _ _ (sets-given (sets_of (maps_of before)) (slice_unit unit))
-    (λ h has. gives-done (IsSound kind before) (contents.OfSlice h []) (slice, has)))
-    (λ _. passed-gives kind before)
-
-other-gives : (depth : Depth) (kind : ℕ) (before : History) (unit : NalUnit) → Gives (other_content depth kind before unit) (IsSound kind before)
-other-gives depths.Units kind before unit = passed-gives kind before
-other-gives depths.Headers kind before unit = header-or kind before unit
-other-gives depths.Full kind before unit = header-or kind before unit
-
-content-gives : (extent : Extent) (kind : ℕ) (before : History) (unit : NalUnit) → Gives (content extent kind before unit) (IsSound kind before)
-unfolding content
-content-gives extent kind before unit =
-    gives-if (IsSound kind before) (kind == 7) _ _
-    (gives-bind _ (IsSound kind before) _ _ (gives-any (sps extent.target)) (λ set _. gives-done (IsSound kind before) (contents.OfSps set) tt))
-    (gives-if (IsSound kind before) (kind == 8) _ _
-    (gives-bind _ (IsSound kind before) _ _ (gives-any (pps extent.target)) (λ set _. gives-done (IsSound kind before) (contents.OfPps set) tt))
-    (other-gives extent.depth kind before unit))
+sound-content : (extent : Extent) (kind : ℕ) (before : History) (unit : NalUnit) → Gives (content extent kind before unit) (IsSound kind before)
+sound-content extent kind before unit = content-gives (IsSound kind before) extent kind before unit (gives-any (sps extent.target)) (λ set. tt)
+    (λ slice. gives-weaker _ _ _ (sets-given (sets_of (maps_of before)) (slice_unit unit)) (λ h has. (slice, has))) tt
 
 pub slice-goes : (kind : ℕ) → is_slice kind ≡ true → ends_picture kind ≡ false
 slice-goes kind h = by (kind == 1) refl (kind == 5) refl h
@@ -121,7 +98,7 @@ slice-goes kind h = by (kind == 1) refl (kind == 5) refl h
     by false e false f t = absurd cc
 
 -- a later slice goes on with the picture that is open
-goes-later : (on : Bool) (pictures : List CodedPicture) (h : Header) → begins_after (open_of on pictures) h ≡ false → on ≡ true
+pub goes-later : (on : Bool) (pictures : List CodedPicture) (h : Header) → begins_after (open_of on pictures) h ≡ false → on ≡ true
 goes-later on [] h e = absurd cc
 goes-later true (p ∷ ps) h e = refl
 goes-later false (p ∷ ps) h e = absurd cc
@@ -567,7 +544,7 @@ module _ (P : List CodedPicture → Type 0) where
         (λ later run. takes-in body here said ends start start later answer refl
         (λ later run. takes-in body here closes rest start left later answer (picture-end-in k)
         (λ later run. reads-in body here (content extent type_of before unit) 0 following left (IsSound type_of before) later answer
-        (content-gives extent type_of before unit)
+        (sound-content extent type_of before unit)
         (λ found bit later sound run. content-in found bit later answer k sound run) run) run) run) r
 
   -- ---- legal units, and a verdict

@@ -14,9 +14,8 @@ use Rattle.h264_verify.specs.Outcome.{Outcome, ◌>>=◌, gives, Plays}
 use Rattle.h264_verify.specs.Content.{Content}
 use Rattle.h264_verify.specs.Content as contents
 use Rattle.h264_verify.specs.History.{History, ReadUnit, maps_of, maps_with}
-use Rattle.h264_units.specs.UnitHeader.{header_of, nal_unit_type}
-use Rattle.h264_verify.specs.Pictures.{CodedPicture, with_sets, open_of, goes_on, runs_of, begins_after, begins_at, joined_to, joined_by}
-use Rattle.h264_units.specs.UnitHeader.{ends_picture}
+use Rattle.h264_units.specs.UnitHeader.{header_of, nal_unit_type, ends_picture}
+use Rattle.h264_verify.specs.Pictures.{CodedPicture, with_sets, goes_on, runs_of, begins_at, joined_to, joined_by, ended_pictures}
 use Rattle.std.specs.Option.{option_map}
 use Rattle.h264_near.specs.Coded.{CodedMacroblock}
 use Rattle.h264_sets.specs.Sets.{Maps}
@@ -25,7 +24,6 @@ use Rattle.h264_pps.specs.declared.Pps.{Pps}
 use Rattle.h264_header.specs.Layout.{sets_of}
 use Rattle.h264_verify.specs.KeepingUnits.{Keeps, KeepsWithin, KeepsSome}
 use Rattle.h264_verify.specs.Keeping.{KeepsSomeSlice, KeepsFrames, WhereMade, IsLeft, KeepsSlices, ended_in}
-use Rattle.h264_verify.specs.Pictures.{ended_pictures}
 use Rattle.h264_header.specs.declared.header.Header.{Header}
 use Rattle.h264_base.specs.Grammar.{Grammar}
 use Rattle.h264_rbsp.specs.Rbsp.{body_of}
@@ -182,13 +180,6 @@ passed-joins depth frames before unit c kind old new n b k keeps units sets left
       (passed-decoder depth frames before unit old.decoder
       (subst (λ (x : ℕ). WhereMade depth (KeepsFrames frames (goes_on before) (ends_picture x) (runs_of before)) old.decoder) k keeps.decoder) c n);
 }
-
--- a slice that begins no picture goes on with the newest
-pub goes-newest : (on : Bool) (pictures : List CodedPicture) (h : Header) (begins : Bool) → begins ≡ begins_after (open_of on pictures) h → begins ≡ false →
-    on ≡ true
-goes-newest true pictures h begins e f = refl
-goes-newest false [] h begins e f = cc
-goes-newest false (p ∷ ps) h begins e f = cc
 
 -- there are units of which this is kept, before a slice
 pub some-slice : (depth : Depth) (ended : Bool) (state : State) → ended ≡ false → KeepsSome depth ended state →

@@ -23,20 +23,18 @@ use Rattle.h264_header.specs.Header.{header as header_syntax}
 use Rattle.h264_sets.specs.Sets.{Maps}
 use Rattle.h264_verify.specs.Content as contents
 use Rattle.h264_verify.specs.Outcome.{IsNamed}
-use Rattle.h264_units.specs.UnitHeader.{header_of, nal_unit_type}
+use Rattle.h264_units.specs.UnitHeader.{header_of, nal_unit_type, is_slice}
 use Rattle.h264_verify.specs.History.{History, maps_of}
 use Rattle.h264_verify.specs.Pictures.{CodedPicture, runs_of, begins_at}
 use Rattle.h264_verify.specs.declared.decoder.Decoder.{Decoder}
 use Rattle.h264_verify.specs.declared.decoder.Format.{Format}
 use Rattle.h264_verify.specs.Keeping.{KeepsFrames, WhereMade, format_in}
-use Rattle.h264_verify.specs.Memory.{format_of}
+use Rattle.h264_verify.specs.Memory.{format_of, reads_slices, is_kind_read, bytes_of, HasAnotherFormat, BeginsAnotherFormat}
 use Rattle.h264_verify.specs.declared.state.Extent.{Extent}
-use Rattle.h264_units.specs.UnitHeader.{is_slice}
 use Rattle.h264_sps.specs.Sps.{sps}
 use Rattle.h264_pps.specs.Pps.{pps}
 use Rattle.h264_verify.specs.Order.{content}
 use Rattle.h264_verify.specs.Units.{slice_unit, slice_unit_of, other_content, header_content}
-use Rattle.h264_verify.specs.Memory.{reads_slices, is_kind_read, bytes_of, HasAnotherFormat, BeginsAnotherFormat}
 use Rattle.h264_base.proofs.Plain.{choose-true}
 use Rattle.h264_verify.specs.Telling.{Family}
 

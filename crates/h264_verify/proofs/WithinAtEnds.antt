@@ -1,6 +1,5 @@
 -- Each picture of whose end is told has met its marking before: the buffer stays within its places.
-use Rattle.std.proofs.Common.{◌≡◌, ℕ, Bool, true, false, List, [], ◌∷◌, ◌++◌, Result, subst}
-use Rattle.std.proofs.Common.{if◌then◌else◌}
+use Rattle.std.proofs.Common.{◌≡◌, ℕ, Bool, true, false, List, [], ◌∷◌, ◌++◌, Result, subst, if◌then◌else◌}
 use Rattle.h264_verify.specs.Units.{extent_at}
 use Rattle.h264_base.specs.declared.mode.Target.{Target}
 use Rattle.h264_verify.specs.declared.state.Depth.TheVariants as depths
@@ -8,8 +7,7 @@ use Rattle.h264_base.specs.declared.stop.Stop.{Stop}
 use Rattle.h264_base.specs.declared.summary.Summary.{Summary}
 use Rattle.h264_verify.specs.Telling.{Told, Decodes}
 use Rattle.h264_verify.specs.Steps.{needs, told}
-use Rattle.h264_verify.specs.Pictures.{CodedPicture, goes_on, runs_of}
-use Rattle.h264_verify.specs.Pictures.{end_of_picture}
+use Rattle.h264_verify.specs.Pictures.{CodedPicture, goes_on, runs_of, end_of_picture}
 use Rattle.h264_verify.specs.Sound.{AreSound, has_ended}
 use Rattle.h264_verify.specs.Within.{EndsWithin}
 use Rattle.h264_verify.specs.Verdict.{Verdict}

@@ -2,8 +2,7 @@ use Rattle.std.proofs.Common.{true, ◌++◌, sym}
 use Rattle.std.proofs.lemmas.Result.{err_from_is_err_and}
 use Rattle.h264_verify.specs.Telling.{took_with}
 use Rattle.h264_verify.specs.Steps.{needs}
-use Rattle.h264_verify.specs.Order.{closing_demands}
-use Rattle.h264_verify.specs.Order.{whole_steps}
+use Rattle.h264_verify.specs.Order.{closing_demands, whole_steps}
 use Rattle.h264_verify.specs.Buffering.{closing_frames}
 use Rattle.h264_verify.specs.Keeping.{close_steps}
 use Rattle.h264_verify.proofs.FamiliesAgree.{agree-none}

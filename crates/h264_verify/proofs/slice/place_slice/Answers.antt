@@ -24,60 +24,46 @@ pub close_if-requires-clause-kept : goal.close_if-requires-clause-kept
 close_if-requires-clause-kept g c = let k = c.requires.kept in
     record { depth = k.depth; frames = k.frames; before = k.before; slices_are = k.slices_are; keeps = k.keeps }
 
-pub returns-in_err-close_if : goal.returns-in_err-close_if
-returns-in_err-close_if g c =
+-- ---- the picture before it does not end, or its sets do not stand
+
+pub returns-in_err-close_if-clause-refused : goal.returns-in_err-close_if-clause-refused
+returns-in_err-close_if-clause-refused g c =
     let h = c.args.state.now.slice.header in
     let p = err_from_is_err_and c.from_residual.result c.from_residual.ensures.1 in
-    rw (p.1, p.2) (record {
-      refused = λ depth frames before named k m w d.
-          let b = begins-as before h c.args.state.now.slices _ k c.requires.begins in
-          let e = c.in_err-close_if.ensures.closes depth frames before k d in
-          record {
-            made = e.made;
-            same = e.same;
-            plays =
-                closed-stop (took_with e.made g.S.Elements.took) g.S.Elements.failures depth before c.args.unit.now h c.args.begins b _ _ _ e.plays;
-            enters = tt;
-          };
-      placed = λ depth frames before k d. tt;
-      sets = tt;
-      named = tt;
-      format = c.in_err-close_if.ensures.format;
-      pictures = ap (λ (s : PicturesSoFar). s.pictures) c.in_err-close_if.ensures.others;
-      units = refl;
-      slice = refl;
-      no_memory = c.in_err-close_if.ensures.no_memory;
-      kept = tt;
+    rw (p.1, p.2) (λ depth frames before named k m w d.
+    let b = begins-as before h c.args.state.now.slices _ k c.requires.begins in
+    let e = c.in_err-close_if.ensures.closes depth frames before k d in
+    record {
+      made = e.made;
+      same = e.same;
+      plays = closed-stop (took_with e.made g.S.Elements.took) g.S.Elements.failures depth before c.args.unit.now h c.args.begins b _ _ _ e.plays;
+      enters = tt;
     })
 
-pub returns-in_err-check_standing : goal.returns-in_err-check_standing
-returns-in_err-check_standing g c =
+pub returns-in_err-close_if-clause-pictures : goal.returns-in_err-close_if-clause-pictures
+returns-in_err-close_if-clause-pictures g c = ap (λ (s : PicturesSoFar). s.pictures) c.in_err-close_if.ensures.others
+
+pub returns-in_err-check_standing-clause-refused : goal.returns-in_err-check_standing-clause-refused
+returns-in_err-check_standing-clause-refused g c =
     let h = c.args.state.now.slice.header in
     let p = err_from_is_err_and c.from_residual-in_err-check_standing.result c.from_residual-in_err-check_standing.ensures.1 in
-    rw (p.1, p.2) (record {
-      refused = λ depth frames before named k m w d.
-          let b = begins-as before h c.args.state.now.slices _ k c.requires.begins in
-          let kept = c.in_ok-close_if.ensures.ended before k in
-          let e = c.in_ok-close_if.ensures.closes depth frames before k d in
-          let broken = rw c.from-bit.ensures.value at (c.in_err-check_standing.ensures.judged named w) in
-          record {
-            made = e.made;
-            same = e.same;
-            plays = closed-on (took_with e.made g.S.Elements.took) g.S.Elements.failures depth before c.args.unit.now h c.args.begins b _ _ _ _ _ e.plays
-                (standing-stop (took_with e.made g.S.Elements.took) g.S.Elements.failures depth before c.args.unit.now h c.args.begins b _
-                c.args.state.now.sets kept.due m named w _ _ broken);
-            enters = tt;
-          };
-      placed = λ depth frames before k d. tt;
-      sets = tt;
-      named = tt;
-      format = c.in_ok-close_if.ensures.format;
-      pictures = ap (λ (s : PicturesSoFar). s.pictures) c.in_ok-close_if.ensures.others;
-      units = refl;
-      slice = refl;
-      no_memory = c.in_err-check_standing.ensures.no_memory;
-      kept = tt;
+    rw (p.1, p.2) (λ depth frames before named k m w d.
+    let b = begins-as before h c.args.state.now.slices _ k c.requires.begins in
+    let e = c.in_ok-close_if.ensures.closes depth frames before k d in
+    let broken = rw c.from-bit.ensures.value at (c.in_err-check_standing.ensures.judged named w) in
+    record {
+      made = e.made;
+      same = e.same;
+      plays = closed-on (took_with e.made g.S.Elements.took) g.S.Elements.failures depth before c.args.unit.now h c.args.begins b _ _ _ _ _ e.plays
+          (standing-stop (took_with e.made g.S.Elements.took) g.S.Elements.failures depth before c.args.unit.now h c.args.begins b _ c.args.state.now.sets
+          (c.in_ok-close_if.ensures.ended before k).due m named w _ _ broken);
+      enters = tt;
     })
+
+pub returns-in_err-check_standing-clause-pictures : goal.returns-in_err-check_standing-clause-pictures
+returns-in_err-check_standing-clause-pictures g c = ap (λ (s : PicturesSoFar). s.pictures) c.in_ok-close_if.ensures.others
+
+-- ---- they stand: it begins where it should, or not
 
 pub returns : goal.returns
 returns g c =

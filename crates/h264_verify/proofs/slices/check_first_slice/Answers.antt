@@ -1,86 +1,39 @@
-use Rattle.std.proofs.Common.{[], ◌≡◌, ℕ, ◌∙◌, Some, Ok, OnOk, refl, sym, ap, subst}
+use Rattle.std.proofs.Common.{[], ◌≡◌, ℕ, ◌∙◌, Some, Ok, OnOk, sym, ap, subst}
 use Rattle.std.proofs.lemmas.Result.{err_from_is_err_and}
 use Rattle.h264_marking.specs.Frames.{References}
 use Rattle.h264_verify.specs.Keeping.{pictures_by, slice_at}
 use Rattle.h264_verify.specs.declared.slices.PicturesSoFar.{PicturesSoFar}
 use Rattle.h264_verify.specs.Telling.{took_with}
 use Rattle.h264_verify.specs.Lists.{list_of}
-use Rattle.h264_verify.proofs.OutcomesPlayed.{no-memory}
 use Rattle.h264_verify.proofs.StepsPlayed.{front_rules, front-stops, gap-stops, back-answers}
 use Rattle.h264_verify.proofs.SliceSteps.{stops-at, answers-last}
 use Rattle.h264_verify.proofs.SliceRules.{type-met}
 use Rattle.h264_verify.proofs.slices.check_first_slice.Goals as goal
 use Rattle.h264_base.proofs.Plain.{on-ok}
 
-pub returns-in_err-check_type : goal.returns-in_err-check_type
-returns-in_err-check_type g c =
+pub returns-in_err-check_type-clause-plays : goal.returns-in_err-check_type-clause-plays
+returns-in_err-check_type-clause-plays g c =
+    let slice = slice_at c.args.head.now.place c.args.head.now.header.now [] in
     let p = err_from_is_err_and c.from_residual.result c.from_residual.ensures.1 in
-    rw (p.1, p.2) (record {
-      plays = λ depth frames t next pictures k kept.
-          front-stops (took_with frames g.S.Elements.took) g.S.Elements.failures depth (pictures_by c.args.slices.now pictures t.buffer)
-          (slice_at c.args.head.now.place c.args.head.now.header.now []) _ _
-          (stops-at 0 (front_rules (slice_at c.args.head.now.place c.args.head.now.header.now [])) _
-          c.in_err-check_type.ensures);
-      gap = λ depth frames t next k. tt;
-      no_memory = no-memory _ _ _ _ c.in_err-check_type.ensures;
-      format = refl;
-      counts = λ pictures k. tt;
-      count = λ pictures k. tt;
-      held = tt;
-      filled = tt;
-      typed = tt;
-      prev = tt;
-      others = refl;
-      list = tt;
-      kept = tt;
-    })
+    rw (p.1, p.2) (λ depth frames t next pictures k kept. front-stops (took_with frames g.S.Elements.took) g.S.Elements.failures depth
+    (pictures_by c.args.slices.now pictures t.buffer) slice _ _ (stops-at 0 (front_rules slice) _ c.in_err-check_type.ensures))
 
-pub returns-in_err-check_idr_num : goal.returns-in_err-check_idr_num
-returns-in_err-check_idr_num g c =
+pub returns-in_err-check_idr_num-clause-plays : goal.returns-in_err-check_idr_num-clause-plays
+returns-in_err-check_idr_num-clause-plays g c =
+    let slice = slice_at c.args.head.now.place c.args.head.now.header.now [] in
     let p = err_from_is_err_and c.from_residual-in_err-check_idr_num.result c.from_residual-in_err-check_idr_num.ensures.1 in
-    rw (p.1, p.2) (record {
-      plays = λ depth frames t next pictures k kept.
-          front-stops (took_with frames g.S.Elements.took) g.S.Elements.failures depth (pictures_by c.args.slices.now pictures t.buffer)
-          (slice_at c.args.head.now.place c.args.head.now.header.now []) _ _
-          (stops-at 1 (front_rules (slice_at c.args.head.now.place c.args.head.now.header.now [])) _
-          (_, c.in_ok-check_type.ensures, c.in_err-check_idr_num.ensures));
-      gap = λ depth frames t next k. tt;
-      no_memory = no-memory _ _ _ _ c.in_err-check_idr_num.ensures;
-      format = refl;
-      counts = λ pictures k. tt;
-      count = λ pictures k. tt;
-      held = tt;
-      filled = tt;
-      typed = tt;
-      prev = tt;
-      others = refl;
-      list = tt;
-      kept = tt;
-    })
+    rw (p.1, p.2) (λ depth frames t next pictures k kept. front-stops (took_with frames g.S.Elements.took) g.S.Elements.failures depth
+    (pictures_by c.args.slices.now pictures t.buffer) slice _ _
+    (stops-at 1 (front_rules slice) _ (_, c.in_ok-check_type.ensures, c.in_err-check_idr_num.ensures)))
 
-pub returns-in_err-check_gap : goal.returns-in_err-check_gap
-returns-in_err-check_gap g c =
+pub returns-in_err-check_gap-clause-plays : goal.returns-in_err-check_gap-clause-plays
+returns-in_err-check_gap-clause-plays g c =
+    let slice = slice_at c.args.head.now.place c.args.head.now.header.now [] in
     let p = err_from_is_err_and c.from_residual-in_err-check_gap.result c.from_residual-in_err-check_gap.ensures.1 in
-    rw (p.1, p.2) (record {
-      plays = λ depth frames t next pictures k kept.
-          gap-stops (took_with frames g.S.Elements.took) g.S.Elements.failures depth (pictures_by c.args.slices.now pictures t.buffer)
-          (slice_at c.args.head.now.place c.args.head.now.header.now []) _ _
-          (answers-last (front_rules (slice_at c.args.head.now.place c.args.head.now.header.now [])) _
-          (_, c.in_ok-check_type.ensures, c.in_ok-check_idr_num.ensures)) _ _
-          (c.in_err-check_gap.ensures.plays depth frames t next k);
-      gap = λ depth frames t next k. tt;
-      no_memory = c.in_err-check_gap.ensures.no_memory;
-      format = c.in_err-check_gap.ensures.format;
-      counts = λ pictures k. tt;
-      count = λ pictures k. tt;
-      held = tt;
-      filled = tt;
-      typed = tt;
-      prev = tt;
-      others = refl;
-      list = tt;
-      kept = tt;
-    })
+    rw (p.1, p.2) (λ depth frames t next pictures k kept. gap-stops (took_with frames g.S.Elements.took) g.S.Elements.failures depth
+    (pictures_by c.args.slices.now pictures t.buffer) slice _ _
+    (answers-last (front_rules slice) _ (_, c.in_ok-check_type.ensures, c.in_ok-check_idr_num.ensures)) _ _
+    (c.in_err-check_gap.ensures.plays depth frames t next k))
 
 -- what is kept of the slices, but for frame_num and the held frames
 others-of : (old new : PicturesSoFar) (prev : ℕ) (held : References) → new ≡

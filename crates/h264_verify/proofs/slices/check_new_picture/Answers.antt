@@ -1,4 +1,4 @@
-use Rattle.std.proofs.Common.{◌*◌, List, [], ◌∷◌, refl}
+use Rattle.std.proofs.Common.{◌*◌, List, [], ◌∷◌}
 use Rattle.std.proofs.lemmas.Result.{err_from_is_err_and}
 use Rattle.h264_poc.specs.OfSlice.{picture_of}
 use Rattle.h264_poc.specs.declared.picture.Picture.{Picture}
@@ -8,7 +8,6 @@ use Rattle.h264_verify.specs.declared.head.SliceHead.{SliceHead}
 use Rattle.h264_verify.specs.declared.slices.PicturesSoFar.{PicturesSoFar}
 use Rattle.h264_verify.specs.Slices.{id_demand, count_demand, qp_demand, list_demand}
 use Rattle.h264_verify.specs.Lists.{list_of}
-use Rattle.h264_verify.proofs.OutcomesPlayed.{no-memory}
 use Rattle.h264_verify.proofs.SliceSteps.{stops-at, answers-last}
 use Rattle.h264_verify.proofs.slices.check_new_picture.Goals as goal
 
@@ -20,44 +19,22 @@ new_rules slices head pictures =
     ∷ list_demand (list_of head.header.now.kind.value (numbering_of head.place.sps.now head.header.now) slices.held)
     ∷ []
 
-pub returns-in_err-check_id : goal.returns-in_err-check_id
-returns-in_err-check_id c =
+pub returns-in_err-check_id-clause-judged : goal.returns-in_err-check_id-clause-judged
+returns-in_err-check_id-clause-judged c =
     let p = err_from_is_err_and c.from_residual.result c.from_residual.ensures.1 in
-    rw (p.1, p.2) (record {
-      judged = λ pictures kept. stops-at 0 (new_rules c.args.slices.now c.args.head.now pictures) _
-          c.in_err-check_id.ensures;
-      no_memory = no-memory _ _ _ _ c.in_err-check_id.ensures;
-      counts = λ pictures k. tt;
-      count = λ pictures k. tt;
-      list = tt;
-      others = refl;
-    })
+    rw (p.1, p.2) (λ pictures kept. stops-at 0 (new_rules c.args.slices.now c.args.head.now pictures) _ c.in_err-check_id.ensures)
 
-pub returns-in_err-count_picture : goal.returns-in_err-count_picture
-returns-in_err-count_picture c =
+pub returns-in_err-count_picture-clause-judged : goal.returns-in_err-count_picture-clause-judged
+returns-in_err-count_picture-clause-judged c =
     let p = err_from_is_err_and c.from_residual-in_err-count_picture.result c.from_residual-in_err-count_picture.ensures.1 in
-    rw (p.1, p.2) (record {
-      judged = λ pictures kept. stops-at 1 (new_rules c.args.slices.now c.args.head.now pictures) _
-          (_, c.in_ok-check_id.ensures, (rw c.from-bit.ensures.value at (c.in_err-count_picture.ensures.judged pictures kept)));
-      no_memory = c.in_err-count_picture.ensures.no_memory;
-      counts = λ pictures k. tt;
-      count = λ pictures k. tt;
-      list = tt;
-      others = refl;
-    })
+    rw (p.1, p.2) (λ pictures kept. stops-at 1 (new_rules c.args.slices.now c.args.head.now pictures) _
+    (_, c.in_ok-check_id.ensures, (rw c.from-bit.ensures.value at (c.in_err-count_picture.ensures.judged pictures kept))))
 
-pub returns-in_err-check_qp : goal.returns-in_err-check_qp
-returns-in_err-check_qp c =
+pub returns-in_err-check_qp-clause-judged : goal.returns-in_err-check_qp-clause-judged
+returns-in_err-check_qp-clause-judged c =
     let p = err_from_is_err_and c.from_residual-in_err-check_qp.result c.from_residual-in_err-check_qp.ensures.1 in
-    rw (p.1, p.2) (record {
-      judged = λ pictures kept. stops-at 2 (new_rules c.args.slices.now c.args.head.now pictures) _
-          (_, c.in_ok-check_id.ensures, (_, (rw c.from-bit.ensures.value at (c.in_ok-count_picture.ensures.judged pictures kept)), c.in_err-check_qp.ensures));
-      no_memory = no-memory _ _ _ _ c.in_err-check_qp.ensures;
-      counts = λ pictures k. tt;
-      count = λ pictures k. tt;
-      list = tt;
-      others = refl;
-    })
+    rw (p.1, p.2) (λ pictures kept. stops-at 2 (new_rules c.args.slices.now c.args.head.now pictures) _
+    (_, c.in_ok-check_id.ensures, (_, (rw c.from-bit.ensures.value at (c.in_ok-count_picture.ensures.judged pictures kept)), c.in_err-check_qp.ensures)))
 
 pub returns-clause-judged : goal.returns-clause-judged
 returns-clause-judged c = λ pictures kept. answers-last (new_rules c.args.slices.now c.args.head.now pictures) _ (

@@ -15,6 +15,8 @@ use Rattle.h264_verify.proofs.UnitJoins.{joins-on, passed-joins, some-slice}
 use Rattle.h264_verify.proofs.WantOfMemory.{bytes-by, unread, read-bytes, read-slice}
 use Rattle.h264_verify.proofs.OutcomesPlayed.{gives-plays}
 use Rattle.h264_verify.proofs.ReadsStructures.{passed-read}
+use Rattle.h264_verify.proofs.unit.join.Given.{Over}
+use Rattle.h264_verify.proofs.unit.join.Goals.{In_default-kind}
 use Rattle.h264_verify.proofs.unit.join.Goals as goal
 
 -- ---- what is not read
@@ -65,30 +67,25 @@ slice-here depth unit byte o x e b s seven eight =
     let r = read-slice depth (nal_unit_type byte) (read-bytes _ _ _ _ s (bytes-by depth unit byte o e b)).0 (ne_eqb _ _ seven) (ne_eqb _ _ eight) in
     (subst (λ (y : ℕ). is_slice (nal_unit_type y) ≡ true) e r.0, r.1)
 
+here : (g : Over) (c : In_default-kind g) → (is_slice (nal_unit_type (header_of c.args.unit.now)) ≡ true) × (reads_slices c.args.extent.depth ≡ true)
+here g c = slice-here c.args.extent.depth c.args.unit.now c.of.result.byte c.args.rbsp.now _ c.of.ensures c.requires.bytes c.in-Some.is
+    (is-not _ types.SequenceSet _ c.nal_unit_type-kind.ensures c.in_default-kind.not-SequenceSet)
+    (is-not _ types.PictureSet _ c.nal_unit_type-kind.ensures c.in_default-kind.not-PictureSet)
+
 pub join_slice-requires-clause-first : goal.join_slice-requires-clause-first
 join_slice-requires-clause-first g c = rw (read-bytes _ _ _ _ c.in-Some.is c.requires.bytes).1 at c.new-bits.ensures
 
 pub join_slice-requires-clause-slice : goal.join_slice-requires-clause-slice
-join_slice-requires-clause-slice g c =
-    (slice-here c.args.extent.depth c.args.unit.now c.of.result.byte c.args.rbsp.now _ c.of.ensures c.requires.bytes
-    c.in-Some.is (is-not _ types.SequenceSet _ c.nal_unit_type-kind.ensures c.in_default-kind.not-SequenceSet)
-    (is-not _ types.PictureSet _ c.nal_unit_type-kind.ensures c.in_default-kind.not-PictureSet)).0
+join_slice-requires-clause-slice g c = (here g (goal.at.join_slice-requires-clause-slice g c).In_default-kind).0
 
 pub join_slice-requires-clause-kept : goal.join_slice-requires-clause-kept
-join_slice-requires-clause-kept g c =
-    some-slice c.args.extent.depth _ c.args.state.now (slice-goes (nal_unit_type (header_of c.args.unit.now))
-    (slice-here c.args.extent.depth c.args.unit.now c.of.result.byte c.args.rbsp.now _ c.of.ensures c.requires.bytes
-    c.in-Some.is (is-not _ types.SequenceSet _ c.nal_unit_type-kind.ensures c.in_default-kind.not-SequenceSet)
-    (is-not _ types.PictureSet _ c.nal_unit_type-kind.ensures c.in_default-kind.not-PictureSet)).0) c.requires.kept
+join_slice-requires-clause-kept g c = some-slice c.args.extent.depth _ c.args.state.now (slice-goes (nal_unit_type (header_of c.args.unit.now))
+    (here g (goal.at.join_slice-requires-clause-kept g c).In_default-kind).0) c.requires.kept
 
 pub returns-in_default-kind-clause-joins : goal.returns-in_default-kind-clause-joins
-returns-in_default-kind-clause-joins g c = λ frames before k. c.join_slice.ensures.joins c.args.extent frames before
-    (slice-here c.args.extent.depth c.args.unit.now c.of.result.byte c.args.rbsp.now _ c.of.ensures c.requires.bytes
-    c.in-Some.is (is-not _ types.SequenceSet _ c.nal_unit_type-kind.ensures c.in_default-kind.not-SequenceSet)
-    (is-not _ types.PictureSet _ c.nal_unit_type-kind.ensures c.in_default-kind.not-PictureSet)).1 k
+returns-in_default-kind-clause-joins g c = λ frames before k.
+    c.join_slice.ensures.joins c.args.extent frames before (here g (goal.at.returns-in_default-kind-clause-joins g c).In_default-kind).1 k
 
 pub returns-in_default-kind-clause-pauses : goal.returns-in_default-kind-clause-pauses
-returns-in_default-kind-clause-pauses g c = λ frames before k. c.join_slice.ensures.pauses c.args.extent frames before
-    (slice-here c.args.extent.depth c.args.unit.now c.of.result.byte c.args.rbsp.now _ c.of.ensures c.requires.bytes
-    c.in-Some.is (is-not _ types.SequenceSet _ c.nal_unit_type-kind.ensures c.in_default-kind.not-SequenceSet)
-    (is-not _ types.PictureSet _ c.nal_unit_type-kind.ensures c.in_default-kind.not-PictureSet)).1 k
+returns-in_default-kind-clause-pauses g c = λ frames before k.
+    c.join_slice.ensures.pauses c.args.extent frames before (here g (goal.at.returns-in_default-kind-clause-pauses g c).In_default-kind).1 k

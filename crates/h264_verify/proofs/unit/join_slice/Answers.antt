@@ -16,14 +16,14 @@ use Rattle.h264_verify.specs.Keeping.{KeepsFrames, KeepsPictures, EntersBy, form
 use Rattle.h264_header.proofs.Entries.{where-ok}
 use Rattle.h264_verify.specs.declared.slices.Slice.{Slice}
 use Rattle.h264_verify.proofs.FamiliesAgree.{agree-none}
-use Rattle.h264_verify.proofs.ToldInOrder.{slice-goes}
+use Rattle.h264_verify.proofs.ToldInOrder.{slice-goes, goes-later}
 use Rattle.h264_verify.proofs.SliceSteps.{some-of, sets-after}
 use Rattle.h264_verify.proofs.SlicePlaced.{some-rules, goes-on-with, slice-plays, keeps-with, sound-slice}
 use Rattle.h264_marking.specs.Ended.{numbering_of}
 use Rattle.h264_verify.specs.Lists.{list_of}
 use Rattle.h264_verify.proofs.ReadsData.{listed}
 use Rattle.h264_verify.proofs.KeepsEntered.{begins-as}
-use Rattle.h264_verify.proofs.UnitJoins.{headers-end, joins-stops, joins-broken, joins-on, joins-after, slice-pauses, none-ends, goes-newest}
+use Rattle.h264_verify.proofs.UnitJoins.{headers-end, joins-stops, joins-broken, joins-on, joins-after, slice-pauses, none-ends}
 use Rattle.h264_verify.proofs.WhereMade.{full-made, some-made, none-made, quiet-made}
 use Rattle.h264_verify.proofs.ReadsStructures.{header-read, data-joins, placed as placed-first, data-there}
 use Rattle.h264_sets.specs.Sets.{Maps}
@@ -78,7 +78,7 @@ read_data-requires-clause-kept g c =
         list = listed (joined_to c.begins-begins.result s (runs_of k.before)) s _ _ entered.held (rw same at c.in_ok-judge_rules.ensures.list);
       };
       next = placed-first c.begins-begins.result (runs_of k.before) h (rw (some-made _ k.depth _ _ c.in-Some.is enters).0 at placed.first);
-      live = goes-newest (goes_on k.before) (runs_of k.before) h c.begins-begins.result b;
+      live = λ goes. goes-later (goes_on k.before) (runs_of k.before) h (sym b ∙ goes);
       sound = sound-slice k.depth _ _ k.frames k.before c.args.unit.now h c.begins-begins.result _ _ _ _ placed _ _ k.sets_are named b []
           c.judge_rules.new.slices marked c.sets_named.ensures.usable (rw same at c.in_ok-judge_rules.ensures.filled);
       typed = rw same at c.in_ok-judge_rules.ensures.typed;
@@ -215,7 +215,7 @@ returns-in-Some-clause-joins g c = λ extent frames before reads k.
       header = read-header;
       list = listed (joined_to c.begins-begins.result s (runs_of before)) s _ _ (entered []).held built;
     }) (placed-first c.begins-begins.result (runs_of before) h (rw full.0 at placed.first)) refl
-    (goes-newest (goes_on before) (runs_of before) h c.begins-begins.result b) set full.1 in
+    (λ goes. goes-later (goes_on before) (runs_of before) h (sym b ∙ goes)) set full.1 in
     let there = data-there _ _ (λ (x : Unit {0}). (d.macroblocks, d.end)) (runs_of before) s _ _ _ (body_of unit) _ _ _ _ b
     (c.in_ok-read_header.ensures.meets.same ∙ ap (λ (r : Reader). r.body) c.requires.first) d.plays in
     let pictures : List CodedPicture = joined_to c.begins-begins.result (with_sets unit h d.macroblocks sets) (runs_of before) in

@@ -6,11 +6,9 @@ use Rattle.std.proofs.lemmas.Result.{err_from_is_err_and}
 use Rattle.h264_verify.specs.Pictures.{goes_on, runs_of}
 use Rattle.h264_verify.specs.Buffering.{after_all, last_frames}
 use Rattle.h264_verify.specs.Units.{picture_demand}
-use Rattle.h264_verify.proofs.OutcomesPlayed.{named-by}
-use Rattle.h264_verify.proofs.OutcomesPlayed.{answers-plays}
+use Rattle.h264_verify.proofs.OutcomesPlayed.{named-by, answers-plays, plays-as}
 use Rattle.h264_verify.proofs.CourseOutcome.{needs-ok, needs-err}
 use Rattle.h264_verify.proofs.KeepsOutput.{ended-gap}
-use Rattle.h264_verify.proofs.OutcomesPlayed.{plays-as}
 use Rattle.h264_verify.proofs.CourseParts.{end-stops, end-broken, end-gives}
 use Rattle.h264_verify.proofs.WantOfMemory.{error-as, named-memory, write-alone}
 use Rattle.h264_verify.proofs.unit.judge_end.Goals as goal

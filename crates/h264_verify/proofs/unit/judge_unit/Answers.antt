@@ -42,34 +42,63 @@ join-requires-clause-kept g c =
           (rw c.is_ending.ensures at e.keeps);
     }
 
-pub returns-in_err-check_emulation-clause-turns : goal.returns-in_err-check_emulation-clause-turns
-returns-in_err-check_emulation-clause-turns g c =
-    let p = err_from_is_err_and c.from_residual.result c.from_residual.ensures.1 in
-    rw (p.1, p.2) (λ frames before k. is-unsound c.args.extent _ _ before c.args.unit.now frames _ _ _ c.in_err-check_emulation.ensures.value
-    (named-by _ _ _ c.in_err-check_emulation.ensures.err.1))
+-- ---- it stops
 
-pub returns-in_err-check_header-clause-turns : goal.returns-in_err-check_header-clause-turns
-returns-in_err-check_header-clause-turns g c =
+pub returns-in_err-check_emulation : goal.returns-in_err-check_emulation
+returns-in_err-check_emulation g c =
+    let p = err_from_is_err_and c.from_residual.result c.from_residual.ensures.1 in
+    let named = named-by _ _ _ c.in_err-check_emulation.ensures.err.1 in
+    rw (p.1, p.2) (record {
+      turns = λ frames before k. is-unsound c.args.extent _ _ before c.args.unit.now frames _ _ _ c.in_err-check_emulation.ensures.value named;
+      counts = tt;
+      pictures = tt;
+      no_memory = λ frames before k m. absurd (named-memory _ named m);
+      pauses = λ frames before k m. absurd (named-memory _ named m);
+      kept = tt;
+    })
+
+pub returns-in_err-check_header : goal.returns-in_err-check_header
+returns-in_err-check_header g c =
     let p = err_from_is_err_and c.from_residual-in_err-check_header.result c.from_residual-in_err-check_header.ensures.1 in
     let header = c.in_err-check_header.ensures in
-    rw (p.1, p.2) (λ frames before k. stops-header c.args.extent _ _ before c.args.unit.now frames _ _ _ c.in_ok-check_emulation.ensures.value _ header)
+    let named = err-named (header_demands (8 * c.args.unit.now.from) (header_of c.args.unit.now)) _ (sym header) in
+    rw (p.1, p.2) (record {
+      turns = λ frames before k. stops-header c.args.extent _ _ before c.args.unit.now frames _ _ _ c.in_ok-check_emulation.ensures.value _ header;
+      counts = tt;
+      pictures = tt;
+      no_memory = λ frames before k m. absurd (named-memory _ named m);
+      pauses = λ frames before k m. absurd (named-memory _ named m);
+      kept = tt;
+    })
 
-pub returns-in_err-tell_unit-clause-turns : goal.returns-in_err-tell_unit-clause-turns
-returns-in_err-tell_unit-clause-turns g c =
+pub returns-in_err-tell_unit : goal.returns-in_err-tell_unit
+returns-in_err-tell_unit g c =
     let p = err_from_is_err_and c.from_residual-in_err-tell_unit.result c.from_residual-in_err-tell_unit.ensures.1 in
-    let header = c.in_ok-check_header.ensures in
-    let says = c.in_err-tell_unit.ensures.plays in
-    rw (p.1, p.2) (λ frames before k. stops-told c.args.extent _ _ before c.args.unit.now frames _ _ _ c.in_ok-check_emulation.ensures.value _ header _ _
-    (says frames))
+    rw (p.1, p.2) (record {
+      turns = λ frames before k. stops-told c.args.extent _ _ before c.args.unit.now frames _ _ _ c.in_ok-check_emulation.ensures.value _
+          c.in_ok-check_header.ensures _ _ (c.in_err-tell_unit.ensures.plays frames);
+      counts = tt;
+      pictures = tt;
+      no_memory = λ frames before k m. absurd (c.in_err-tell_unit.ensures.no_memory m);
+      pauses = λ frames before k m. absurd (c.in_err-tell_unit.ensures.no_memory m);
+      kept = tt;
+    })
 
-pub returns-in_err-close_if-clause-turns : goal.returns-in_err-close_if-clause-turns
-returns-in_err-close_if-clause-turns g c =
+pub returns-in_err-close_if : goal.returns-in_err-close_if
+returns-in_err-close_if g c =
     let p = err_from_is_err_and c.from_residual-in_err-close_if.result c.from_residual-in_err-close_if.ensures.1 in
-    let header = c.in_ok-check_header.ensures in
-    let says = c.in_ok-tell_unit.ensures.plays in
     let closes = rw c.is_ending.ensures at c.in_err-close_if.ensures.closes in
-    rw (p.1, p.2) (λ frames before k. stops-closing c.args.extent _ _ before c.args.unit.now frames _ _ _ c.in_ok-check_emulation.ensures.value _ header _ _
-    says _ _ _ (closes c.args.extent.depth frames before k.slices k.decoder))
+    rw (p.1, p.2) (record {
+      turns = λ frames before k. stops-closing c.args.extent _ _ before c.args.unit.now frames _ _ _ c.in_ok-check_emulation.ensures.value _
+          c.in_ok-check_header.ensures _ _ c.in_ok-tell_unit.ensures.plays _ _ _ (closes c.args.extent.depth frames before k.slices k.decoder);
+      counts = tt;
+      pictures = tt;
+      no_memory = λ frames before k m. absurd (c.in_err-close_if.ensures.no_memory m);
+      pauses = λ frames before k m. absurd (c.in_err-close_if.ensures.no_memory m);
+      kept = tt;
+    })
+
+-- ---- the picture before it has ended, and what is in it is judged
 
 pub returns-clause-turns : goal.returns-clause-turns
 returns-clause-turns g c =
@@ -83,29 +112,6 @@ returns-clause-turns g c =
     (c.join.ensures.joins e.made before (within {depth = c.args.extent.depth} {frames = frames} {made = e.made} {before = before} c.args.state.now
     c.close_if.new.slices c.close_if.new.decoder k slices e.keeps))
 
-pub returns-in_err-check_emulation-clause-no_memory : goal.returns-in_err-check_emulation-clause-no_memory
-returns-in_err-check_emulation-clause-no_memory g c =
-    let p = err_from_is_err_and c.from_residual.result c.from_residual.ensures.1 in
-    let n = c.in_err-check_emulation.ensures.err in
-    rw (p.1, p.2) (λ frames before k m. absurd (named-memory _ (named-by _ _ _ n.1) m))
-
-pub returns-in_err-check_header-clause-no_memory : goal.returns-in_err-check_header-clause-no_memory
-returns-in_err-check_header-clause-no_memory g c =
-    let p = err_from_is_err_and c.from_residual-in_err-check_header.result c.from_residual-in_err-check_header.ensures.1 in
-    let header = c.in_err-check_header.ensures in
-    rw (p.1, p.2) (λ frames before k m. absurd
-    (named-memory _ (err-named (header_demands (8 * c.args.unit.now.from) (header_of c.args.unit.now)) _ (sym header)) m))
-
-pub returns-in_err-tell_unit-clause-no_memory : goal.returns-in_err-tell_unit-clause-no_memory
-returns-in_err-tell_unit-clause-no_memory g c =
-    let p = err_from_is_err_and c.from_residual-in_err-tell_unit.result c.from_residual-in_err-tell_unit.ensures.1 in
-    rw (p.1, p.2) (λ frames before k m. absurd (c.in_err-tell_unit.ensures.no_memory m))
-
-pub returns-in_err-close_if-clause-no_memory : goal.returns-in_err-close_if-clause-no_memory
-returns-in_err-close_if-clause-no_memory g c =
-    let p = err_from_is_err_and c.from_residual-in_err-close_if.result c.from_residual-in_err-close_if.ensures.1 in
-    rw (p.1, p.2) (λ frames before k m. absurd (c.in_err-close_if.ensures.no_memory m))
-
 pub returns-clause-no_memory : goal.returns-clause-no_memory
 returns-clause-no_memory g c =
     let closes = rw c.is_ending.ensures at c.in_ok-close_if.ensures.closes in
@@ -114,29 +120,6 @@ returns-clause-no_memory g c =
     let e = closes c.args.extent.depth frames before k.slices k.decoder in
     c.join.ensures.no_memory e.made before (within {depth = c.args.extent.depth} {frames = frames} {made = e.made} {before = before} c.args.state.now
     c.close_if.new.slices c.close_if.new.decoder k slices e.keeps) m
-
-pub returns-in_err-check_emulation-clause-pauses : goal.returns-in_err-check_emulation-clause-pauses
-returns-in_err-check_emulation-clause-pauses g c =
-    let p = err_from_is_err_and c.from_residual.result c.from_residual.ensures.1 in
-    let n = c.in_err-check_emulation.ensures.err in
-    rw (p.1, p.2) (λ frames before k m. absurd (named-memory _ (named-by _ _ _ n.1) m))
-
-pub returns-in_err-check_header-clause-pauses : goal.returns-in_err-check_header-clause-pauses
-returns-in_err-check_header-clause-pauses g c =
-    let p = err_from_is_err_and c.from_residual-in_err-check_header.result c.from_residual-in_err-check_header.ensures.1 in
-    let header = c.in_err-check_header.ensures in
-    rw (p.1, p.2) (λ frames before k m. absurd
-    (named-memory _ (err-named (header_demands (8 * c.args.unit.now.from) (header_of c.args.unit.now)) _ (sym header)) m))
-
-pub returns-in_err-tell_unit-clause-pauses : goal.returns-in_err-tell_unit-clause-pauses
-returns-in_err-tell_unit-clause-pauses g c =
-    let p = err_from_is_err_and c.from_residual-in_err-tell_unit.result c.from_residual-in_err-tell_unit.ensures.1 in
-    rw (p.1, p.2) (λ frames before k m. absurd (c.in_err-tell_unit.ensures.no_memory m))
-
-pub returns-in_err-close_if-clause-pauses : goal.returns-in_err-close_if-clause-pauses
-returns-in_err-close_if-clause-pauses g c =
-    let p = err_from_is_err_and c.from_residual-in_err-close_if.result c.from_residual-in_err-close_if.ensures.1 in
-    rw (p.1, p.2) (λ frames before k m. absurd (c.in_err-close_if.ensures.no_memory m))
 
 pub returns-clause-pauses : goal.returns-clause-pauses
 returns-clause-pauses g c =
