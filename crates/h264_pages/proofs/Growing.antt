@@ -22,9 +22,18 @@ adds-both a b c x y first second whole =
     let d = first e.0 in
     (d.0, e.1 ∙ ap (λ l. l ++ y) d.1 ∙ append_assoc (text_on a) x y)
 
+-- three texts, one after another
+pub three-added : (a b c d : Page) (w x y : List ℕ) → Adds a b w → Adds b c x → Adds c d y → Adds a d (w ++ (x ++ y))
+three-added a b c d w x y first second third = adds-both a b d w _ first (adds-both b c d x y second third)
+
 -- four texts, one after another
 pub four-added : (a b c d e : Page) (w x y z : List ℕ) → Adds a b w → Adds b c x → Adds c d y → Adds d e z → Adds a e (w ++ (x ++ (y ++ z)))
 four-added a b c d e w x y z first second third fourth = adds-both a b e w _ first (adds-both b c e x _ second (adds-both c d e y z third fourth))
+
+-- five texts, one after another
+pub five-added : (a b c d e f : Page) (v w x y z : List ℕ) → Adds a b v → Adds b c w → Adds c d x → Adds d e y → Adds e f z →
+    Adds a f (v ++ (w ++ (x ++ (y ++ z))))
+five-added a b c d e f v w x y z first second third fourth fifth = adds-both a b f v _ first (four-added b c d e f w x y z second third fourth fifth)
 
 -- the text of one more item
 pub each-added : {X : Type 0} (f : X → List ℕ) (a b c : Page) (xs : List X) (i : ℕ) (d : X) → i < length xs → Adds a b (flat_map f (take i xs)) →

@@ -1,6 +1,6 @@
 -- The lines that explain a no or an outside. To be read beside docs/OUTPUT.md.
 use Rattle.std.specs.Prelude.{ℕ, ◌/◌, Bool, Option, None, Some, List, [], ◌++◌, codes, Result, if◌then◌else◌}
-use Rattle.std.specs.Fmt.{decimal, signed_decimal}
+use Rattle.std.specs.Fmt.{signed_decimal}
 use Rattle.h264_base.specs.ElementName.{text_of}
 use Rattle.h264_base.specs.declared.rule.Rule.{Rule}
 use Rattle.h264_base.specs.declared.stop.Stop.{Stop}
@@ -8,7 +8,7 @@ use Rattle.h264_base.specs.declared.summary.Summary.{Summary}
 use Rattle.h264_lines.specs.declared.trail.Element.{Element}
 use Rattle.h264_units.specs.UnitTypes.{type_number}
 use Rattle.h264_pages.specs.Findings.{rule_in}
-use Rattle.h264_pages.specs.Pages.{number_after}
+use Rattle.h264_pages.specs.Pages.{numbered, number_after}
 use Rattle.h264_pages.specs.Places.{allowed_as, file_named}
 use Rattle.h264_pages.specs.Reasons.{container_name, profile_declared, cause_text, has_remedy, remedy}
 use Rattle.h264_pages.specs.declared.pages.finding.Finding.{Finding}
@@ -23,21 +23,21 @@ use Rattle.h264_pages.specs.declared.survey.slice.Unit.{Unit}
 -- the unit that was told last, by its byte and its type
 abbrev pub unit_text : Option Unit → List ℕ
 unit_text None = []
-unit_text (Some unit) = codes " unit " ++ (decimal unit.byte ++ (codes " type " ++ decimal (type_number unit.nal_unit_type)))
+unit_text (Some unit) = numbered (codes " unit ") unit.byte ++ numbered (codes " type ") (type_number unit.nal_unit_type)
 
 abbrev pub bit_line : (bit : ℕ) → Option Unit → List ℕ
-bit_line bit unit = codes "explain bit " ++ (decimal bit ++ (codes " byte " ++ (decimal (bit / 8) ++ (unit_text unit ++ codes "\n"))))
+bit_line bit unit = numbered (codes "explain bit ") bit ++ (numbered (codes " byte ") (bit / 8) ++ (unit_text unit ++ codes "\n"))
 
 -- where the number of the picture is known
 abbrev pub picture_line : (picture frame_num slice : Option ℕ) → List ℕ
 picture_line None frame_num slice = []
-picture_line (Some picture) frame_num slice = codes "explain picture " ++ (decimal picture ++ (number_after (codes " frame ") frame_num
-    ++ (number_after (codes " slice ") slice ++ codes "\n")))
+picture_line (Some picture) frame_num slice = numbered (codes "explain picture ") picture ++ (number_after (codes " frame ") frame_num
+    ++ (number_after (codes " slice ") slice ++ codes "\n"))
 
 abbrev pub macroblock_line : Option Macroblock → List ℕ
 macroblock_line None = []
-macroblock_line (Some m) = codes "explain macroblock " ++ (decimal m.address ++ (codes " column " ++ (decimal m.column ++ (codes " row " ++ (decimal m.row
-    ++ codes "\n")))))
+macroblock_line (Some m) = numbered (codes "explain macroblock ") m.address ++ (numbered (codes " column ") m.column
+    ++ (numbered (codes " row ") m.row ++ codes "\n"))
 
 abbrev pub place_lines : Option Unit → Finding → List ℕ
 place_lines unit f = bit_line f.bit unit ++ (picture_line f.picture f.frame_num f.slice ++ macroblock_line f.macroblock)
@@ -46,7 +46,7 @@ place_lines unit f = bit_line f.bit unit ++ (picture_line f.picture f.frame_num 
 
 -- an element with its bit and its value, after a word
 abbrev pub element_line : List ℕ → Element → List ℕ
-element_line word e = word ++ (text_of e.name ++ (codes " bit " ++ (decimal e.bit ++ (codes " value " ++ (signed_decimal e.value ++ codes "\n")))))
+element_line word e = word ++ (text_of e.name ++ (numbered (codes " bit ") e.bit ++ (codes " value " ++ (signed_decimal e.value ++ codes "\n"))))
 
 -- the element at the bit; else the one that was read last
 abbrev pub found_line : (at_bit last : Option Element) → List ℕ

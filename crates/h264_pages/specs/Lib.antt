@@ -9,6 +9,7 @@ pub mod SurveyedCalls
 pub mod Places
 pub mod Profiles
 pub mod Reasons
+pub mod Starts
 pub mod Findings
 pub mod Rates
 pub mod Summed

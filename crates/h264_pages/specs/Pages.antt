@@ -39,10 +39,14 @@ three_digits n = (48 + n / 100) ∷ (48 + n / 10 % 10) ∷ (48 + n % 10) ∷ []
 abbrev pub thousandths : ℕ → List ℕ
 thousandths n = decimal (n / 1000) ++ (codes "." ++ three_digits (n % 1000))
 
--- a number after a text, where there is one
+-- a number after a text
+abbrev pub numbered : List ℕ → ℕ → List ℕ
+numbered before value = before ++ decimal value
+
+-- that, where there is one
 abbrev pub number_after : List ℕ → Option ℕ → List ℕ
 number_after before None = []
-number_after before (Some value) = before ++ decimal value
+number_after before (Some value) = numbered before value
 
 -- characters that follow one: before each that follows a line end stands a prefix
 abbrev pub prefixed_after : List ℕ → ℕ → List ℕ → List ℕ

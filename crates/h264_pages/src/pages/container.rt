@@ -1,8 +1,9 @@
 //! What is kept of an input: its first bytes, which may be those of a container, and its first parameter sets.
 #![tactic(auto)]
 
-ghost use Rattle.std.specs.Prelude.{◌≡◌};
+ghost use Rattle.std.specs.Prelude.{◌≡◌, ◌≤◌, Some, IfSome};
 ghost use Rattle.h264_pages.specs.Reasons.{container_name, container_title};
+ghost use Rattle.h264_pages.specs.Starts.{stands_at, byte_at, container_of, first_unit, is_hevc_type, is_hevc_at, begins_hevc};
 
 use crate::pages::first_sets::FirstSets;
 
@@ -36,9 +37,6 @@ pub struct Start {
 
 /// The byte with which each packet of a transport stream begins.
 const SYNC: u8 = 0x47;
-
-/// nal_unit_type of parameter sets and delimiters of HEVC (H.265, table 7-1).
-const HEVC_TYPES: [u8; 4] = [32, 33, 34, 35];
 
 /// The second byte of a unit's header in HEVC, of the lowest layer (H.265, 7.3.1.2).
 const HEVC_LAYER: u8 = 1;
@@ -103,22 +101,25 @@ impl Start {
     }
 
     /// The byte at a place; 0 where it is not known.
-    fn at(&self, place: usize) -> u8 {
+    fn at(&self, place: usize) -> u8
+        ensures { result ≡ byte_at place self.now.bytes }
+    {
         self.bytes.get(place).copied().unwrap_or(0)
     }
 
     /// Whether these bytes stand from a place on.
-    fn has(&self, place: usize, text: &[u8]) -> bool {
-        for (k, byte) in text.iter().enumerate() {
-            if self.at(place.saturating_add(k)) != *byte {
-                return false;
-            }
-        }
-        true
+    fn has(&self, place: usize, text: &[u8]) -> bool
+        requires { place ≤ 189 }
+        ensures { result ≡ stands_at place text.now self.now.bytes }
+    {
+        self.bytes[place..].starts_with(text)
     }
 
     /// The container that they begin.
-    pub fn container(&self) -> Option<Container> {
+    #[tactic(auto, unfolding(crate::specs::Starts::container_of))]
+    pub fn container(&self) -> Option<Container>
+        ensures { result ≡ container_of self.now.bytes }
+    {
         if self.has(4, b"ftyp") || self.has(4, b"moov") {
             return Some(Container::Mp4);
         }
@@ -138,7 +139,10 @@ impl Start {
     }
 
     /// The place after the first start code, where one begins the input.
-    fn first_unit(&self) -> Option<usize> {
+    fn first_unit(&self) -> Option<usize>
+        ensures place { result ≡ first_unit self.now.bytes }
+        ensures small { IfSome result (λ place. place ≤ 4) }
+    {
         if self.has(0, &[0, 0, 0, 1]) {
             return Some(4);
         }
@@ -148,14 +152,29 @@ impl Start {
         None
     }
 
+    /// Whether a parameter set or a delimiter of HEVC stands at a place.
+    fn is_hevc_at(&self, place: usize) -> bool
+        requires { place ≤ 4 }
+        ensures { result ≡ is_hevc_at (Some place) self.now.bytes }
+    {
+        is_hevc_type(self.at(place) / 2) && self.at(place + 1) == HEVC_LAYER
+    }
+
     /// Whether they begin a byte stream of HEVC, with a parameter set or a delimiter.
-    pub fn is_hevc(&self) -> bool {
+    #[tactic(auto, unfolding(crate::specs::Starts::begins_hevc))]
+    pub fn is_hevc(&self) -> bool
+        ensures { result ≡ begins_hevc self.now.bytes }
+    {
         match self.first_unit() {
-            Some(place) => {
-                HEVC_TYPES.contains(&(self.at(place) >> 1))
-                    && self.at(place.saturating_add(1)) == HEVC_LAYER
-            }
+            Some(place) => self.is_hevc_at(place),
             None => false,
         }
     }
+}
+
+/// Whether a unit of this nal_unit_type is a parameter set or a delimiter of HEVC (H.265, table 7-1).
+fn is_hevc_type(kind: u8) -> bool
+    ensures { result ≡ is_hevc_type kind }
+{
+    matches!(kind, 32 | 33 | 34 | 35)
 }

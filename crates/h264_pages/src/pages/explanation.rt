@@ -23,10 +23,8 @@ fn put_unit(page: &mut Page, unit: Option<Unit>)
     ensures { Adds page.old page.new (unit_text unit) }
 {
     if let Some(unit) = unit {
-        page.put(" unit ");
-        page.number(unit.byte);
-        page.put(" type ");
-        page.number(u64::from(unit.nal_unit_type.number()));
+        page.numbered(" unit ", unit.byte);
+        page.numbered(" type ", u64::from(unit.nal_unit_type.number()));
     }
 }
 
@@ -34,10 +32,8 @@ fn put_unit(page: &mut Page, unit: Option<Unit>)
 fn put_bit(page: &mut Page, survey: &Survey, finding: &Finding)
     ensures { Adds page.old page.new (bit_line finding.now.bit survey.now.unit) }
 {
-    page.put("explain bit ");
-    page.number(finding.bit);
-    page.put(" byte ");
-    page.number(finding.byte());
+    page.numbered("explain bit ", finding.bit);
+    page.numbered(" byte ", finding.byte());
     put_unit(page, survey.unit);
     page.put("\n");
 }
@@ -47,8 +43,7 @@ fn put_picture(page: &mut Page, finding: &Finding)
     ensures { Adds page.old page.new (picture_line finding.now.picture finding.now.frame_num finding.now.slice) }
 {
     if let Some(picture) = finding.picture {
-        page.put("explain picture ");
-        page.number(picture);
+        page.numbered("explain picture ", picture);
         page.number_after(" frame ", finding.frame_num);
         page.number_after(" slice ", finding.slice);
         page.put("\n");
@@ -60,12 +55,9 @@ fn put_macroblock(page: &mut Page, macroblock: Option<Macroblock>)
     ensures { Adds page.old page.new (macroblock_line macroblock) }
 {
     if let Some(macroblock) = macroblock {
-        page.put("explain macroblock ");
-        page.number(macroblock.address);
-        page.put(" column ");
-        page.number(macroblock.column);
-        page.put(" row ");
-        page.number(macroblock.row);
+        page.numbered("explain macroblock ", macroblock.address);
+        page.numbered(" column ", macroblock.column);
+        page.numbered(" row ", macroblock.row);
         page.put("\n");
     }
 }
@@ -85,8 +77,7 @@ fn put_element(page: &mut Page, word: &str, element: Element)
 {
     page.put(word);
     page.put(element.name.text());
-    page.put(" bit ");
-    page.number(element.bit);
+    page.numbered(" bit ", element.bit);
     page.put(" value ");
     page.signed(element.value);
     page.put("\n");

@@ -1,13 +1,15 @@
 //! Where a verdict stands, and what was found there.
 #![tactic(auto)]
 
-ghost use Rattle.std.specs.Prelude.{◌≡◌, ◌/◌, ◌&&◌, None, Some, IfSome, is_some, option_map, option_and_then, find, reverse, length};
+ghost use Rattle.std.specs.Prelude.{◌≡◌, ◌/◌, ◌&&◌, Option, None, Some, IfSome, is_some, option_map, option_and_then, find, reverse, length};
 ghost use Rattle.circular_buffer.specs.Buffer.{last_item};
 ghost use Rattle.h264_pages.specs.declared.pages.finding.Finding.{Finding};
 ghost use Rattle.h264_pages.specs.declared.pages.finding.Guide.{Guide};
 ghost use Rattle.h264_lines.specs.declared.trail.Element.{Element};
 ghost use Rattle.h264_pages.specs.Findings.{rule_in, macroblock_at, macroblock_in, frame_num_in, number_before, picture_of_slice, picture_in, slice_in};
 ghost use Rattle.h264_pages.specs.Places.{bit_in};
+ghost use Rattle.h264_pages.specs.Starts.{IsOfSetRead, reason_of};
+ghost use Rattle.h264_pages.specs.declared.pages.glance.Declared.{Declared};
 ghost use Rattle.h264_pages.specs.Surveyed.{begins_at};
 
 use crate::pages::container::Start;
@@ -228,13 +230,12 @@ impl Finding {
         ensures macroblock { IfSome result (λ f. f.macroblock ≡ macroblock_in survey.now) }
         ensures ends_in_unit { IfSome result (λ f. f.ends_in_unit ≡ (ended && is_some survey.now.unit)) }
         ensures reason { rule_in answer ≡ None → IfSome result (λ f. f.reason ≡ None) }
+        ensures why { IfSome result (λ f. (declared : Option Declared) × IsOfSetRead declared survey.now × (f.reason ≡
+            reason_of start.now.bytes (rule_in answer) declared (last_item survey.now.elements.items))) }
     {
         let bit = bit_of(answer)?;
         let rule = rule_of(answer);
-        let reason = match rule {
-            Some(rule) => Reason::of(rule, survey, start),
-            None => None,
-        };
+        let reason = Reason::of(answer, survey, start);
         Some(Finding {
             bit,
             picture: picture_read(survey, rule),

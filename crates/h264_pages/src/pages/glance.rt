@@ -5,6 +5,7 @@ ghost use Rattle.std.specs.Prelude.{◌≡◌, false};
 ghost use Rattle.h264_pages.specs.Pages.{Adds};
 ghost use Rattle.h264_pages.specs.Reasons.{size_text, size_after, profile_declared, profile_text, level_after, coding_text, declared_text};
 ghost use Rattle.h264_pages.specs.Reasons.{is_known, is_main, may_suit_main};
+ghost use Rattle.h264_pages.specs.Starts.{sequence_in, IsOfSetRead};
 
 use crate::pages::container::Start;
 use crate::pages::info::{shown_height, shown_width};
@@ -290,7 +291,9 @@ fn cabac_of(start: &Start) -> Option<bool> {
 }
 
 /// What was read of the sequence parameter set that was read last, where no unit came after it: one that broke a rule, or the input's last unit.
-fn last_set(survey: &Survey) -> Option<Sequence> {
+fn last_set(survey: &Survey) -> Option<Sequence>
+    ensures { result ≡ sequence_in survey.now.sets.read }
+{
     match survey.sets.read {
         Some(ParameterSet::Sequence(set)) => Some(set),
         _ => None,
@@ -333,7 +336,9 @@ fn put_coding(page: &mut Page, cabac: Option<bool>)
 
 impl Declared {
     /// What was read of a set.
-    fn of_read(survey: &Survey, set: &Sequence) -> Declared {
+    fn of_read(survey: &Survey, set: &Sequence) -> Declared
+        ensures { result.profile_idc ≡ set.now.profile_idc }
+    {
         Declared {
             profile_idc: set.profile_idc,
             constraint_set1: set.constraint_set1,
@@ -351,7 +356,9 @@ impl Declared {
 
     /// What the sequence parameter set says that was read last, where no unit came after it. The first one of the input is read anew,
     /// whatever its profile is.
-    pub fn of_last(survey: &Survey, start: &Start) -> Option<Declared> {
+    pub fn of_last(survey: &Survey, start: &Start) -> Option<Declared>
+        ensures { IsOfSetRead result survey.now }
+    {
         let set = last_set(survey)?;
         match Declared::of(start) {
             Some(declared)

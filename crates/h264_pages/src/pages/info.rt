@@ -1,16 +1,18 @@
 //! What a stream has: its sets, pictures and macroblocks.
 #![tactic(auto)]
 
-ghost use Rattle.std.specs.Prelude.{◌≡◌, ◌+◌, ◌-◌, ◌*◌, ◌^◌, ◌<◌, Option, flat_map};
-ghost use Rattle.h264_pages.specs.Info.{set_line, sides, shown_sides, coded_sides, size_line, is_uncropped, offsets_line, cropping_line, rate_line};
-ghost use Rattle.h264_pages.specs.Info.{buffer_line, set_lines};
+ghost use Rattle.std.specs.Prelude.{◌≡◌, ◌+◌, ◌-◌, ◌*◌, ◌^◌, ◌<◌, ◌/◌, max, codes, Option, flat_map};
+ghost use Rattle.h264_pages.specs.Info.{profile_part, set_line, sides, shown_sides, coded_sides, size_line, is_uncropped, offsets_line, cropping_line};
+ghost use Rattle.h264_pages.specs.Info.{rate_line, buffer_line, set_lines};
 ghost use Rattle.h264_pages.specs.Info.{kinds_line, bytes_line, intra_text, inter_text, macroblocks_line, count_lines, declared_line, last_set_line};
-ghost use Rattle.h264_pages.specs.Info.{why_none, no_pictures_line, picture_lines, info_lines, profile_fields, side_fields, buffer_fields, timing_fields};
-ghost use Rattle.h264_pages.specs.Info.{rate_field, set_object, declared_field, last_set_field, kind_fields, intra_fields, inter_fields};
+ghost use Rattle.h264_pages.specs.Info.{why_none, no_pictures_line, picture_lines, info_lines, profile_fields, shown_fields, side_fields, buffer_fields};
+ghost use Rattle.h264_pages.specs.Info.{timing_fields};
+ghost use Rattle.h264_pages.specs.Info.{rate_field, time_fields, set_object, declared_field, last_set_field, kind_fields, intra_fields, inter_fields};
 ghost use Rattle.h264_pages.specs.Info.{macroblocks_field, sum_fields, count_fields, after_comma, set_objects, sets_field, info_object};
-ghost use Rattle.h264_pages.specs.Pages.{Adds};
+ghost use Rattle.h264_pages.specs.Pages.{Adds, numbered};
+ghost use Rattle.h264_pages.specs.Starts.{IsOfProfileRead};
 ghost use Rattle.h264_pages.specs.declared.pages.glance.Declared.{Declared};
-ghost use Rattle.h264_pages.specs.Rates.{rate_in, shown_side};
+ghost use Rattle.h264_pages.specs.Rates.{product, rate_in, shown_side};
 ghost use Rattle.h264_pages.specs.Summed.{and_picture, summed};
 
 use crate::pages::container::Start;
@@ -98,43 +100,49 @@ pub fn rate_of(set: &Sequence) -> Option<u64>
     Some(timing.time_scale.saturating_mul(1000) / ticks)
 }
 
+/// Adds a profile by its number, with its name.
+fn put_profile(page: &mut Page, profile_idc: u64, name: &str)
+    ensures { Adds page.old page.new (profile_part profile_idc name.now) }
+{
+    page.numbered(" profile ", profile_idc);
+    page.put(" (");
+    page.put(name);
+    page.put(")");
+}
+
 /// Adds the line of a sequence parameter set with its profile and level.
 fn put_set_line(page: &mut Page, set: &Sequence)
     ensures { Adds page.old page.new (set_line set.now) }
 {
-    page.put("info set ");
-    page.number(set.seq_parameter_set_id);
-    page.put(" profile ");
-    page.number(set.profile_idc);
-    page.put(" (");
-    page.put(profile_of(set));
-    page.put(") level ");
+    page.numbered("info set ", set.seq_parameter_set_id);
+    put_profile(page, set.profile_idc, profile_of(set));
+    page.put(" level ");
     put_level(page, set);
     page.put("\n");
 }
 
-/// Adds two numbers, as of a width and a height.
-fn put_sides(page: &mut Page, width: u64, height: u64)
-    ensures { Adds page.old page.new (sides width height) }
+/// Adds two numbers after a text, as of a width and a height.
+fn put_sides(page: &mut Page, before: &str, width: u64, height: u64)
+    ensures { Adds page.old page.new (sides before.now width height) }
 {
-    page.number(width);
-    page.put("x");
-    page.number(height);
+    page.numbered(before, width);
+    page.numbered("x", height);
 }
 
-/// Adds the size that is shown.
-fn put_shown(page: &mut Page, set: &Sequence)
-    ensures { Adds page.old page.new (shown_sides set.now) }
+/// Adds the size that is shown, after a text.
+fn put_shown(page: &mut Page, before: &str, set: &Sequence)
+    ensures { Adds page.old page.new (shown_sides before.now set.now) }
 {
-    put_sides(page, shown_width(set), shown_height(set));
+    put_sides(page, before, shown_width(set), shown_height(set));
 }
 
-/// Adds the size that is coded.
-fn put_coded(page: &mut Page, set: &Sequence)
-    ensures { Adds page.old page.new (coded_sides set.now) }
+/// Adds the size that is coded, after a text.
+fn put_coded(page: &mut Page, before: &str, set: &Sequence)
+    ensures { Adds page.old page.new (coded_sides before.now set.now) }
 {
     put_sides(
         page,
+        before,
         set.width.saturating_mul(SIDE),
         set.height.saturating_mul(SIDE),
     );
@@ -144,12 +152,9 @@ fn put_coded(page: &mut Page, set: &Sequence)
 fn put_size_line(page: &mut Page, set: &Sequence)
     ensures { Adds page.old page.new (size_line set.now) }
 {
-    page.put("info size ");
-    put_shown(page, set);
-    page.put(" coded ");
-    put_coded(page, set);
-    page.put(" macroblocks ");
-    put_sides(page, set.width, set.height);
+    put_shown(page, "info size ", set);
+    put_coded(page, " coded ", set);
+    put_sides(page, " macroblocks ", set.width, set.height);
     page.put("\n");
 }
 
@@ -160,18 +165,21 @@ fn is_uncropped(cropping: Cropping) -> bool
     cropping.left == 0 && cropping.right == 0 && cropping.top == 0 && cropping.bottom == 0
 }
 
+/// Adds after a text what an offset cuts off.
+fn put_cut(page: &mut Page, before: &str, offset: u64)
+    ensures { Adds page.old page.new (numbered before.now (product offset 2)) }
+{
+    page.numbered(before, offset.saturating_mul(2));
+}
+
 /// Adds the line of what is cut off.
 fn put_offsets(page: &mut Page, cropping: Cropping)
     ensures { Adds page.old page.new (offsets_line cropping) }
 {
-    page.put("info cropping left ");
-    page.number(cropping.left.saturating_mul(2));
-    page.put(" right ");
-    page.number(cropping.right.saturating_mul(2));
-    page.put(" top ");
-    page.number(cropping.top.saturating_mul(2));
-    page.put(" bottom ");
-    page.number(cropping.bottom.saturating_mul(2));
+    put_cut(page, "info cropping left ", cropping.left);
+    put_cut(page, " right ", cropping.right);
+    put_cut(page, " top ", cropping.top);
+    put_cut(page, " bottom ", cropping.bottom);
     page.put("\n");
 }
 
@@ -185,10 +193,10 @@ fn put_cropping(page: &mut Page, cropping: Cropping)
 }
 
 /// Adds the line of the frame rate, where it is given.
-fn put_rate(page: &mut Page, rate: Option<u64>)
-    ensures { Adds page.old page.new (rate_line rate) }
+fn put_rate(page: &mut Page, set: &Sequence)
+    ensures { Adds page.old page.new (rate_line (rate_in set.now.timing)) }
 {
-    if let Some(rate) = rate {
+    if let Some(rate) = rate_of(set) {
         page.put("info rate ");
         page.thousandths(rate);
         page.put("\n");
@@ -199,8 +207,7 @@ fn put_rate(page: &mut Page, rate: Option<u64>)
 fn put_buffer(page: &mut Page, set: &Sequence)
     ensures { Adds page.old page.new (buffer_line set.now) }
 {
-    page.put("info reference frames ");
-    page.number(set.max_num_ref_frames);
+    page.numbered("info reference frames ", set.max_num_ref_frames);
     page.number_after(" buffer ", set.max_dec_frame_buffering);
     page.number_after(" reorder ", set.max_num_reorder_frames);
     page.put("\n");
@@ -213,7 +220,7 @@ fn put_set(page: &mut Page, set: &Sequence)
     put_set_line(page, set);
     put_size_line(page, set);
     put_cropping(page, set.cropping);
-    put_rate(page, rate_of(set));
+    put_rate(page, set);
     put_buffer(page, set);
 }
 
@@ -230,27 +237,27 @@ fn put_sets(page: &mut Page, sets: &[Sequence])
 fn put_kinds(page: &mut Page, pictures: u64, counts: PictureCounts)
     ensures { Adds page.old page.new (kinds_line pictures counts) }
 {
-    page.put("info pictures ");
-    page.number(pictures);
-    page.put(" idr ");
-    page.number(counts.idr);
-    page.put(" i ");
-    page.number(counts.intra);
-    page.put(" p ");
-    page.number(counts.predicted);
+    page.numbered("info pictures ", pictures);
+    page.numbered(" idr ", counts.idr);
+    page.numbered(" i ", counts.intra);
+    page.numbered(" p ", counts.predicted);
     page.put("\n");
+}
+
+/// Adds how many of so many bytes a picture has, of so many pictures.
+fn put_mean(page: &mut Page, bytes: u64, pictures: u64)
+    ensures { Adds page.old page.new (numbered (codes " a picture ") (bytes / max pictures 1)) }
+{
+    page.numbered(" a picture ", bytes / pictures.max(1));
 }
 
 /// Adds the line of their bytes.
 fn put_bytes(page: &mut Page, pictures: u64, counts: PictureCounts)
     ensures { Adds page.old page.new (bytes_line pictures counts) }
 {
-    page.put("info bytes ");
-    page.number(counts.bytes);
-    page.put(" a picture ");
-    page.number(counts.bytes / pictures.max(1));
-    page.put(" largest ");
-    page.number(counts.largest);
+    page.numbered("info bytes ", counts.bytes);
+    put_mean(page, counts.bytes, pictures);
+    page.numbered(" largest ", counts.largest);
     page.put("\n");
 }
 
@@ -258,26 +265,19 @@ fn put_bytes(page: &mut Page, pictures: u64, counts: PictureCounts)
 fn put_intra(page: &mut Page, counts: MacroblockCounts)
     ensures { Adds page.old page.new (intra_text counts) }
 {
-    page.put("info macroblocks i4x4 ");
-    page.number(counts.intra_4x4);
-    page.put(" i16x16 ");
-    page.number(counts.intra_16x16);
-    page.put(" pcm ");
-    page.number(counts.pcm);
+    page.numbered("info macroblocks i4x4 ", counts.intra_4x4);
+    page.numbered(" i16x16 ", counts.intra_16x16);
+    page.numbered(" pcm ", counts.pcm);
 }
 
 /// Adds the macroblocks of inter prediction, by type.
 fn put_inter(page: &mut Page, counts: MacroblockCounts)
     ensures { Adds page.old page.new (inter_text counts) }
 {
-    page.put(" p16x16 ");
-    page.number(counts.inter_16x16);
-    page.put(" p16x8 ");
-    page.number(counts.inter_16x8);
-    page.put(" p8x16 ");
-    page.number(counts.inter_8x16);
-    page.put(" p8x8 ");
-    page.number(counts.inter_8x8);
+    page.numbered(" p16x16 ", counts.inter_16x16);
+    page.numbered(" p16x8 ", counts.inter_16x8);
+    page.numbered(" p8x16 ", counts.inter_8x16);
+    page.numbered(" p8x8 ", counts.inter_8x8);
 }
 
 /// Adds the line of macroblocks by type.
@@ -286,36 +286,36 @@ fn put_macroblocks(page: &mut Page, counts: MacroblockCounts)
 {
     put_intra(page, counts);
     put_inter(page, counts);
-    page.put(" skip ");
-    page.number(counts.skipped);
+    page.numbered(" skip ", counts.skipped);
     page.put("\n");
 }
 
-/// Adds the lines of pictures and macroblocks.
-fn put_counts(page: &mut Page, pictures: &[Picture], macroblocks: MacroblockCounts)
-    ensures { Adds page.old page.new (count_lines pictures.now macroblocks) }
+/// Adds the lines of so many pictures and of their macroblocks.
+fn put_counts(page: &mut Page, pictures: u64, counts: PictureCounts, macroblocks: MacroblockCounts)
+    ensures { Adds page.old page.new (count_lines pictures counts macroblocks) }
 {
-    let count = pictures.len() as u64;
-    let counts = count_pictures(pictures);
-    put_kinds(page, count, counts);
-    put_bytes(page, count, counts);
+    put_kinds(page, pictures, counts);
+    put_bytes(page, pictures, counts);
     put_macroblocks(page, macroblocks);
 }
 
 /// What the sequence parameter set says that was read last, where no unit came after it. None: its profile was not read.
-fn last_set(survey: &Survey, start: &Start) -> Option<Declared> {
-    Declared::of_last(survey, start).filter(|set| set.profile_idc != 0)
+fn last_set(survey: &Survey, start: &Start) -> Option<Declared>
+    ensures { IsOfProfileRead result survey.now }
+{
+    let set = Declared::of_last(survey, start)?;
+    if set.profile_idc == 0 {
+        return None;
+    }
+    Some(set)
 }
 
 /// Adds the line of the set that was read last: its profile, and its level and size where they are known.
 fn put_declared(page: &mut Page, set: &Declared)
     ensures { Adds page.old page.new (declared_line set.now) }
 {
-    page.put("info last set profile ");
-    page.number(set.profile_idc);
-    page.put(" (");
-    page.put(set.profile());
-    page.put(")");
+    page.put("info last set");
+    put_profile(page, set.profile_idc, set.profile());
     set.put_level(page, " level ");
     put_size_after(page, " size ", set.size);
     page.put("\n");
@@ -361,14 +361,15 @@ fn put_picture_lines(
     if pictures.is_empty() {
         put_no_pictures(page, finding);
     } else {
-        put_counts(page, pictures, macroblocks);
+        let counts = count_pictures(pictures);
+        put_counts(page, pictures.len() as u64, counts, macroblocks);
     }
 }
 
 /// Adds the lines of what a stream has. Where it has no picture one line says so in the place of those on pictures and macroblocks.
 pub fn put_info(page: &mut Page, survey: &Survey, start: &Start, finding: Option<Finding>)
-    ensures { (last : Option Declared) × Adds page.old page.new (info_lines survey.now.sets.sequences.items last survey.now.pictures.list.items
-        survey.now.macroblocks finding) }
+    ensures { (last : Option Declared) × IsOfProfileRead last survey.now × Adds page.old page.new (info_lines survey.now.sets.sequences.items last
+        survey.now.pictures.list.items survey.now.macroblocks finding) }
 {
     put_sets(page, survey.sets.sequences.as_slice());
     put_last_set(page, last_set(survey, start));
@@ -389,12 +390,19 @@ fn put_profile_fields(page: &mut Page, set: &Sequence)
     page.number_field("level_idc", set.level_idc);
 }
 
+/// Adds the fields of the size that is shown.
+fn put_shown_fields(page: &mut Page, set: &Sequence)
+    ensures { Adds page.old page.new (shown_fields set.now) }
+{
+    page.number_field("width", shown_width(set));
+    page.number_field("height", shown_height(set));
+}
+
 /// Adds the fields of a set's size.
 fn put_side_fields(page: &mut Page, set: &Sequence)
     ensures { Adds page.old page.new (side_fields set.now) }
 {
-    page.number_field("width", shown_width(set));
-    page.number_field("height", shown_height(set));
+    put_shown_fields(page, set);
     page.number_field("width_in_macroblocks", set.width);
     page.number_field("height_in_macroblocks", set.height);
 }
@@ -419,26 +427,32 @@ fn put_timing_fields(page: &mut Page, timing: Option<Timing>)
 }
 
 /// Adds the field of the frame rate, where it is given.
-fn put_rate_field(page: &mut Page, rate: Option<u64>)
-    ensures { Adds page.old page.new (rate_field rate) }
+fn put_rate_field(page: &mut Page, set: &Sequence)
+    ensures { Adds page.old page.new (rate_field (rate_in set.now.timing)) }
 {
-    if let Some(rate) = rate {
+    if let Some(rate) = rate_of(set) {
         page.name("frame_rate");
         page.thousandths(rate);
     }
+}
+
+/// Adds the fields of the timing and of the frame rate, where they are given.
+fn put_time_fields(page: &mut Page, set: &Sequence)
+    ensures { Adds page.old page.new (time_fields set.now.timing) }
+{
+    put_timing_fields(page, set.timing);
+    put_rate_field(page, set);
 }
 
 /// Adds the object of a sequence parameter set.
 fn put_set_object(page: &mut Page, set: &Sequence)
     ensures { Adds page.old page.new (set_object set.now) }
 {
-    page.put("{\"seq_parameter_set_id\":");
-    page.number(set.seq_parameter_set_id);
+    page.numbered("{\"seq_parameter_set_id\":", set.seq_parameter_set_id);
     put_profile_fields(page, set);
     put_side_fields(page, set);
     put_buffer_fields(page, set);
-    put_timing_fields(page, set.timing);
-    put_rate_field(page, rate_of(set));
+    put_time_fields(page, set);
     page.put("}");
 }
 
@@ -447,8 +461,7 @@ fn put_declared_field(page: &mut Page, set: &Declared)
     ensures { Adds page.old page.new (declared_field set.now) }
 {
     page.name("last_set");
-    page.put("{\"profile_idc\":");
-    page.number(set.profile_idc);
+    page.numbered("{\"profile_idc\":", set.profile_idc);
     page.text_field("profile", set.profile());
     page.maybe_field("level_idc", set.level_idc);
     put_size(page, set.size);
@@ -478,8 +491,7 @@ fn put_kind_fields(page: &mut Page, pictures: u64, counts: PictureCounts)
 fn put_intra_fields(page: &mut Page, counts: MacroblockCounts)
     ensures { Adds page.old page.new (intra_fields counts) }
 {
-    page.put("{\"i4x4\":");
-    page.number(counts.intra_4x4);
+    page.numbered("{\"i4x4\":", counts.intra_4x4);
     page.number_field("i16x16", counts.intra_16x16);
     page.number_field("pcm", counts.pcm);
 }
@@ -505,12 +517,16 @@ fn put_macroblocks_field(page: &mut Page, counts: MacroblockCounts)
     page.put("}");
 }
 
-/// Adds the fields of pictures and macroblocks, where there are pictures.
-fn put_sum_fields(page: &mut Page, pictures: &[Picture], macroblocks: MacroblockCounts)
-    ensures { Adds page.old page.new (sum_fields pictures.now macroblocks) }
+/// Adds the fields of so many pictures and of their macroblocks.
+fn put_sum_fields(
+    page: &mut Page,
+    pictures: u64,
+    counts: PictureCounts,
+    macroblocks: MacroblockCounts,
+)
+    ensures { Adds page.old page.new (sum_fields pictures counts macroblocks) }
 {
-    let counts = count_pictures(pictures);
-    put_kind_fields(page, pictures.len() as u64, counts);
+    put_kind_fields(page, pictures, counts);
     page.number_field("bytes", counts.bytes);
     page.number_field("largest", counts.largest);
     put_macroblocks_field(page, macroblocks);
@@ -523,7 +539,8 @@ fn put_count_fields(page: &mut Page, pictures: &[Picture], macroblocks: Macroblo
     if pictures.is_empty() {
         page.number_field("pictures", 0);
     } else {
-        put_sum_fields(page, pictures, macroblocks);
+        let counts = count_pictures(pictures);
+        put_sum_fields(page, pictures.len() as u64, counts, macroblocks);
     }
 }
 
@@ -566,8 +583,8 @@ fn put_sets_field(page: &mut Page, sets: &[Sequence])
 
 /// Adds the object of what a stream has, on a line of its own.
 pub fn put_info_object(page: &mut Page, file: &str, survey: &Survey, start: &Start)
-    ensures { (last : Option Declared) × Adds page.old page.new (info_object file.now survey.now.sets.sequences.items last survey.now.pictures.list.items
-        survey.now.macroblocks) }
+    ensures { (last : Option Declared) × IsOfProfileRead last survey.now × Adds page.old page.new (info_object file.now survey.now.sets.sequences.items last
+        survey.now.pictures.list.items survey.now.macroblocks) }
 {
     page.open_object(file, "info");
     put_sets_field(page, survey.sets.sequences.as_slice());

@@ -92,13 +92,20 @@ impl Page {
         }
     }
 
+    /// Adds a number after a text.
+    pub fn numbered(&mut self, before: &str, number: u64)
+        ensures { Adds self.old self.new (pages.numbered before.now number) }
+    {
+        self.put(before);
+        self.number(number);
+    }
+
     /// Adds a number after a text, where there is one.
     pub fn number_after(&mut self, before: &str, value: Option<u64>)
         ensures { Adds self.old self.new (pages.number_after before.now value) }
     {
         if let Some(number) = value {
-            self.put(before);
-            self.number(number);
+            self.numbered(before, number);
         }
     }
 

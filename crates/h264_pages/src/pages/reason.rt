@@ -1,19 +1,26 @@
 //! Why an input is no stream for this program: a container, HEVC, or H.264 that is not judged; and what to do about it.
 #![tactic(auto)]
 
-ghost use Rattle.std.specs.Prelude.{◌≡◌};
+ghost use Rattle.std.specs.Prelude.{◌≡◌, Option, None};
+ghost use Rattle.circular_buffer.specs.Buffer.{last_item};
 ghost use Rattle.std.specs.List.{list_all, list_any};
 ghost use Rattle.std.specs.Option.{option_copied};
 ghost use Rattle.std.specs.Str.{chars};
 ghost use Rattle.h264_pages.specs.Pages.{Adds};
 ghost use Rattle.h264_pages.specs.Reasons.{is_plain, is_shown_as_it_is, is_colon, reason_name, refusal, sentence, remedy, has_remedy};
 ghost use Rattle.h264_pages.specs.Reasons.{file_word, file_name, shell_word, shell_quoted, cause_text};
+ghost use Rattle.h264_pages.specs.Starts.{asks_for_cabac, is_cabac_asked, IsOfSetRead, reason_in_stream, reason_given, reason_of};
+ghost use Rattle.h264_pages.specs.Findings.{rule_in};
+ghost use Rattle.h264_pages.specs.declared.pages.glance.Declared.{Declared};
 
 use crate::pages::container::{Container, Start};
+use crate::pages::finding::{Answer, rule_of};
 use crate::pages::glance::Declared;
 use crate::pages::page::Page;
 use crate::survey::Survey;
 use h264_base::{ElementName, Rule};
+use h264_bits::count_of;
+use h264_lines::trail::Element;
 
 /// Why an input is no stream for this program, beside the rule that it breaks.
 #[derive(Clone, Copy)]
@@ -41,27 +48,72 @@ impl Reason {
         }
     }
 
-    /// Why an input with these first bytes and this survey is no stream for this program, if it broke this rule.
-    pub fn of(rule: Rule, survey: &Survey, start: &Start) -> Option<Reason> {
-        if let Some(container) = start.container() {
+    /// Why an input with these first bytes and this survey is no stream for this program, if this answer names a rule.
+    pub fn of(answer: Answer, survey: &Survey, start: &Start) -> Option<Reason>
+        ensures none { rule_in answer ≡ None → result ≡ None }
+        ensures why { (declared : Option Declared) × IsOfSetRead declared survey.now × (result ≡
+            reason_of start.now.bytes (rule_in answer) declared (last_item survey.now.elements.items)) }
+    {
+        Reason::given(
+            rule_of(answer),
+            start.container(),
+            start.is_hevc(),
+            Declared::of_last(survey, start),
+            survey.last_element(),
+        )
+    }
+
+    /// Why an input that broke this rule is no stream for this program: a container, HEVC, or a byte stream of H.264 that is not judged.
+    fn given(
+        rule: Option<Rule>,
+        container: Option<Container>,
+        is_hevc: bool,
+        declared: Option<Declared>,
+        last: Option<Element>,
+    ) -> Option<Reason>
+        ensures { result ≡ reason_given rule container is_hevc declared last }
+    {
+        let rule = rule?;
+        if let Some(container) = container {
             return Some(Reason::Container(container));
         }
-        if start.is_hevc() {
+        if is_hevc {
             return Some(Reason::Hevc);
         }
+        Reason::in_stream(rule, declared, last)
+    }
+
+    /// Why a byte stream of H.264 that broke this rule is not judged, by what its last set says and the element that was read last.
+    #[tactic(auto, unfolding(crate::specs::Starts::reason_in_stream))]
+    fn in_stream(rule: Rule, declared: Option<Declared>, last: Option<Element>) -> Option<Reason>
+        ensures { result ≡ reason_in_stream rule declared last }
+    {
         match rule {
-            Rule::Profile => Some(Reason::OtherProfile(Declared::of_last(survey, start)?)),
-            Rule::Tool if asks_for_cabac(survey) => Some(Reason::Cabac),
+            Rule::Profile => Some(Reason::OtherProfile(declared?)),
+            Rule::Tool if is_cabac_asked(last) => Some(Reason::Cabac),
             _ => None,
         }
     }
 }
 
-/// Whether the element that was read last is an entropy_coding_mode_flag of 1.
-fn asks_for_cabac(survey: &Survey) -> bool {
-    match survey.last_element() {
-        Some(element) => element.name == ElementName::EntropyCodingModeFlag && element.value == 1,
+/// Whether this element, read last, is an entropy_coding_mode_flag of 1.
+fn is_cabac_asked(last: Option<Element>) -> bool
+    ensures { result ≡ is_cabac_asked last }
+{
+    match last {
+        Some(element) => asks_for_cabac(element.name, element.value),
         None => false,
+    }
+}
+
+/// Whether an element is an entropy_coding_mode_flag of 1.
+#[tactic(auto, unfolding(crate::specs::Starts::asks_for_cabac))]
+fn asks_for_cabac(name: ElementName, value: i64) -> bool
+    ensures { result ≡ asks_for_cabac name value }
+{
+    match name {
+        ElementName::EntropyCodingModeFlag => count_of(value) == 1,
+        _ => false,
     }
 }
 

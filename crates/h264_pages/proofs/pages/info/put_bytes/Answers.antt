@@ -1,20 +1,6 @@
-use Rattle.std.proofs.Common.{subst, ◌/◌}
-use Rattle.std.specs.Fmt.{decimal}
-use Rattle.h264_pages.specs.Pages.{Adds}
-use Rattle.h264_pages.proofs.Growing.{adds-both, four-added}
+use Rattle.h264_pages.proofs.Growing.{four-added}
 use Rattle.h264_pages.proofs.pages.info.put_bytes.Goals as goal
 
 pub returns : goal.returns
-returns c =
-    let a = c.args.page.now in
-    let p1 = c.put.new.self in
-    let p2 = c.number.new.self in
-    let p3 = c.put-2.new.self in
-    let p4 = c.number-2.new.self in
-    let p5 = c.put-3.new.self in
-    let p6 = c.number-3.new.self in
-    let p7 = c.put-4.new.self in
-    adds-both a p1 p7 _ _ c.put.ensures (adds-both p1 p2 p7 _ _ c.number.ensures
-    (adds-both p2 p3 p7 _ _ c.put-2.ensures (four-added p3 p4 p5 p6 p7 _ _ _ _
-    (subst (λ v. Adds p3 p4 (decimal (c.args.counts.bytes / v))) c.max.ensures c.number-2.ensures) c.put-3.ensures c.number-3.ensures
-    c.put-4.ensures)))
+returns c = four-added c.args.page.now c.numbered.new.self c.put_mean.new.page c.numbered-2.new.self c.put.new.self
+    _ _ _ _ c.numbered.ensures c.put_mean.ensures c.numbered-2.ensures c.put.ensures

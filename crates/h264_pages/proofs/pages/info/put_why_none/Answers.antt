@@ -5,8 +5,5 @@ use Rattle.h264_pages.proofs.Growing.{adds-both}
 use Rattle.h264_pages.proofs.pages.info.put_why_none.Goals as goal
 
 pub returns-in-Some : goal.returns-in-Some
-returns-in-Some c =
-    let a = c.args.page.now in
-    let p1 = c.put.new.self in
-    let p2 = c.put_cause_text.new.page in
-    subst (λ f. Adds a p2 (why_none f)) (sym c.in-Some.is) (adds-both a p1 p2 _ _ c.put.ensures c.put_cause_text.ensures)
+returns-in-Some c = subst (λ f. Adds c.args.page.now c.put_cause_text.new.page (why_none f)) (sym c.in-Some.is)
+    (adds-both c.args.page.now c.put.new.self c.put_cause_text.new.page _ _ c.put.ensures c.put_cause_text.ensures)
