@@ -28,6 +28,17 @@ compare() {
   same=$((same + 1))
 }
 
+# Makes a folder with what a folder may have.
+make_tree() {
+  mkdir -p "$work/tree/inner" "$work/tree/.hidden"
+  for it in one.264 inner/two.264 .hidden/three.h264 "$(printf 'no\377name.264')"; do cp "$1" "$work/tree/$it"; done
+  ln -s inner "$work/tree/link"
+  ln -s one.264 "$work/tree/other"
+  ln -s nothing "$work/tree/dangling"
+  mkfifo "$work/tree/fifo"
+  find "$work/tree" -name '*.264' -print0 | sort -z >"$work/list"
+}
+
 # What is asked of each file.
 asked() {
   for command in check units headers frames decode elements info report; do
@@ -43,14 +54,18 @@ asked() {
 alone() {
   printf '%s\n' '' --help -h --version help 'help check' 'help none' none chek -x --jsn --json=1 check 'check --jsn x' 'check -o' 'check --json --json x' 'check -- -x' \
     'explain --all' 'explain --all --json' 'explain Range' 'explain range Level6 VectorCount --json' 'explain Rnge' 'check --target none x' 'elements -p x y' \
-    'decode a b' 'report a b' 'check - -' 'check --glob x' 'check --name a b' "check -r $work/files" 'check -r none' 'check --files0-from none' 'check -'
+    'decode a b' 'report a b' 'check - -' 'check --glob x' 'check --name a b' "check -r $work/files" 'check -r none' "check -r $work/tree" "info --json -r $work/tree --glob *.264" "units --files0-from $work/list" 'check --files0-from none' 'check -'
   for command in check units headers frames decode elements info report explain; do printf '%s\n' "$command --help" "help $command"; done
 }
 
+make_tree "$1"
 asked >"$work/asked"
 alone >"$work/alone"
+set -f
+# shellcheck disable=SC2086 # a line is split into words
 while read -r words; do compare $words; done <"$work/alone"
 for file; do
+  # shellcheck disable=SC2086
   while read -r words; do compare $words "$file"; done <"$work/asked"
   input=$file
   compare check -

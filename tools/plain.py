@@ -13,14 +13,17 @@ import sys
 PROGRAM = "h264v"
 OPEN, CLOSE = "([{", ")]}"
 OURS = os.path.join(os.path.dirname(os.path.abspath(__file__)), "plain")
-# What the sources use of the kit's libraries, and of std's modules in the kit's form: a file of tools/plain for each.
-KIT = sorted(name.removesuffix(".rs") for name in os.listdir(OURS) if name not in ("main.rs", "mod.rs"))
+# Modules of std that the kit has in another form, as tools/plain has them.
+STD = "alloc|cell|env|fs|io|marker|process|time"
+# A library of the kit of which nothing is left.
+LEFT_OUT = "thiserror"
 # Functions whose sink is known to the decoder, so that nothing is spent on what it passes over. The others share one copy.
-DIRECT = ("judge_unnoted", "run_frames")
+DIRECT = ("judge_unnoted", "judge_plainly", "check", "run_frames")
 CARGO = """[package]
 name = "h264v-quick"
 version = "@VERSION@"
 edition = "2024"
+rust-version = "1.85"
 [profile.release]
 opt-level = 3
 lto = "fat"
@@ -156,20 +159,19 @@ def with_shared_decoder(text):
     return call.sub(shared, text)
 
 
-def converted(crate, text, crates):
+def converted(crate, text, crates, libraries):
     """The plain text of a source file of this crate."""
     text = without_proof_text(text)
-    kit = "|".join(KIT)
     for pattern, new in (
         (r"#\[derive\(([^)]*)\)\]", derives),
         (r"use (thiserror::Error|std::marker::Model);\n", ""),
-        (r"use std::(%s)\b" % kit, r"use crate::rt::\1"),
-        (r"use std::(?=\{(?:(?:%s)(?:, )?)+\};)" % kit, "use crate::rt::"),
-        (r"(?<![\w:])(%s)::" % kit, r"crate::rt::\1::"),
-        (r"<S: Drop>", "<S>"),
+        (r"use std::(%s)\b" % STD, r"use crate::rt::\1"),
+        (r"use std::(?=\{(?:(?:%s)(?:, )?)+\};)" % STD, "use crate::rt::"),
+        (r"(?<![\w:])(%s)::" % "|".join(libraries), r"crate::rt::\1::"),
+        (r"<(\w+): Drop>", r"<\1>"),
         (r"\s*\+ Drop\b", ""),
         (r"vec!\[in \w+(?:\.\w+)*; ([^;\]]*); ([^\]]*)\]", r"crate::rt::alloc::filled(\1, \2)"),
-        (r"(?<![\w:])crate::(?!rt\b)", "crate::%s::" % crate),
+        (r"(?<![\w:])crate::(?!rt\b)", f"crate::{crate}::"),
         (r"(?<![\w:])(%s)::" % "|".join(crates), r"crate::\1::"),
         (r"(?<![\w:])str::from_utf8", "std::str::from_utf8"),
         (r"(?m)^fn main\(", "pub fn main("),
@@ -180,18 +182,17 @@ def converted(crate, text, crates):
     return "#[allow(unused_imports)]\nuse crate::rt::prelude::*;\n" + with_shared_decoder(with_swizzles(text)).lstrip()
 
 
-def needed_crates(top):
-    """The program's crate and those that it needs, as crates.txt has them."""
-    with open(f"{top}/crates.txt", encoding="utf-8") as file:
-        lines = [line.partition(":") for line in file if ":" in line]
+def needed(top):
+    """The crates that the program needs, its own among them, and the libraries of the kit that they need, as crates.txt has them."""
+    lines = [line.partition(":") for line in read(f"{top}/crates.txt").split("\n") if ":" in line and not line.startswith("#")]
     needs = {name.split()[0]: rest.split() for name, _, rest in lines}
-    found, left = [], [PROGRAM]
+    found, left = set(), [PROGRAM]
     while left:
-        crate = left.pop()
-        if crate in needs and crate not in found:
-            found.append(crate)
-            left += needs[crate]
-    return sorted(found)
+        name = left.pop()
+        if name not in found:
+            found.add(name)
+            left += needs.get(name, [])
+    return sorted(found & set(needs)), sorted(found - set(needs) - {LEFT_OUT})
 
 
 def write(path, text):
@@ -205,28 +206,30 @@ def read(path):
         return file.read()
 
 
-def convert(top, out, crate, crates):
+def convert(top, out, crate, crates, libraries):
     """Writes the plain modules of a crate."""
     sources = f"{top}/crates/{crate}/src"
     for folder, _, files in os.walk(sources):
         for file in files:
-            if not file.endswith(".rt"):
-                continue
-            module = os.path.relpath(os.path.join(folder, file), sources).removesuffix(".rt")
-            module = "mod" if module in ("lib", "main") else module
-            write(f"{out}/src/{crate}/{module}.rs", converted(crate, read(os.path.join(folder, file)), crates))
+            if file.endswith(".rt"):
+                module = os.path.relpath(os.path.join(folder, file), sources).removesuffix(".rt")
+                module = "mod" if module in ("lib", "main") else module
+                write(f"{out}/src/{crate}/{module}.rs", converted(crate, read(os.path.join(folder, file)), crates, libraries))
 
 
 def main():
     if len(sys.argv) != 3:
         sys.exit(__doc__)
     top, out = sys.argv[1:]
-    crates = needed_crates(top)
+    crates, libraries = needed(top)
+    lacking = [name for name in libraries if not os.path.exists(f"{OURS}/{name}.rs") and not os.path.exists(f"{OURS}/{name}")]
+    if lacking:
+        sys.exit(f"plain.py: {OURS} has nothing for {', '.join(lacking)}")
     for crate in crates:
-        convert(top, out, crate, crates)
+        convert(top, out, crate, crates, libraries)
     shutil.copytree(OURS, f"{out}/src/rt", ignore=shutil.ignore_patterns("main.rs"))
     modules = "".join(f"mod {crate};\n" for crate in crates)
-    write(f"{out}/src/main.rs", read(f"{OURS}/main.rs").replace("use std::ffi", f"#[macro_use]\nmod rt;\n{modules}use std::ffi", 1))
+    write(f"{out}/src/main.rs", read(f"{OURS}/main.rs").replace("use std::", f"#[macro_use]\nmod rt;\n{modules}use std::", 1))
     write(f"{out}/Cargo.toml", CARGO.replace("@VERSION@", read(f"{top}/VERSION").split()[0]))
 
 

@@ -1,3 +1,4 @@
+//! The program of the plain build: the C function `main`, round the crates and what stands for the kit's libraries, which plain.py puts in as modules.
 #![feature(portable_simd, alloc_error_hook)]
 #![allow(warnings)]
 #![no_main]
