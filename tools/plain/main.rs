@@ -1,5 +1,5 @@
 //! The program of the plain build: the C function `main`, round the crates and what stands for the kit's libraries, which plain.py puts in as modules.
-#![feature(portable_simd, alloc_error_hook)]
+#![feature(portable_simd, alloc_error_hook, io_error_more)]
 #![allow(warnings)]
 #![no_main]
 use std::ffi::{CStr, c_char};
@@ -28,6 +28,6 @@ extern "C" fn main(count: i32, words: *const *const c_char) -> i32 {
     let answers_aside = matches!(system.word(1), Some(b"decode" | b"report"));
     std::alloc::set_alloc_error_hook(if answers_aside { memory::<true> } else { memory::<false> });
     unsafe { signal(SIGPIPE, IGNORE) };
-    let _ = write!(system.stderr(), "h264v-quick: {}\n", rt::NOT_PROVED);
+    let _ = writeln!(system.stderr(), "h264v-quick: {}", rt::NOT_PROVED);
     h264v::main(system).0.into()
 }
