@@ -45,17 +45,66 @@ asked() {
     printf '%s\n' "$command" "$command --json" "$command --quiet" "$command --target main-ip"
   done
   for command in check units headers frames decode elements; do echo "$command --explain"; done
-  for command in check report; do printf '%s\n' "$command --strict" "$command --strict --json"; done
-  printf '%s\n' 'check --brief' 'check --explain --json --strict' 'decode --y4m' "decode -o $work/files/out" "decode --y4m -o $work/files/out" \
-    "report -o $work/files/out" 'elements --picture 1' 'elements --mb 3 --json' 'elements -p 0 -m 0' 'elements --picture 99999' 'units --y4m' 'info --strict'
+  cat <<END
+check --strict
+check --strict --json
+check --explain --json --strict
+check --brief
+report --strict
+report -o $work/files/out
+decode --y4m
+decode -o $work/files/out
+decode --y4m -o $work/files/out
+elements --picture 1
+elements --picture 99999
+elements --mb 3 --json
+elements -p 0 -m 0
+units --y4m
+info --strict
+END
 }
 
-# What is asked without a file.
+# What is asked without a file, and of folders and lists.
 alone() {
-  printf '%s\n' '' --help -h --version help 'help check' 'help none' none chek -x --jsn --json=1 check 'check --jsn x' 'check -o' 'check --json --json x' 'check -- -x' \
-    'explain --all' 'explain --all --json' 'explain Range' 'explain range Level6 VectorCount --json' 'explain Rnge' 'check --target none x' 'elements -p x y' \
-    'decode a b' 'report a b' 'check - -' 'check --glob x' 'check --name a b' "check -r $work/files" 'check -r none' "check -r $work/tree" "info --json -r $work/tree --glob *.264" "units --files0-from $work/list" 'check --files0-from none' 'check -'
-  for command in check units headers frames decode elements info report explain; do printf '%s\n' "$command --help" "help $command"; done
+  for command in check units headers frames decode elements info report explain; do printf '%s\n' "$command" "$command --help" "help $command"; done
+  cat <<END
+
+--help
+-h
+--version
+help
+help none
+none
+chek
+-x
+--jsn
+--json=1
+check --jsn x
+check --json=1 x
+check --json --json x
+check -o
+check -- -x
+check --target none x
+check --glob x
+check --name a b
+check -
+check - -
+check -r none
+check -r $work/files
+check -r $work/tree
+info --json -r $work/tree --glob *.264
+check --files0-from none
+units --files0-from $work/list
+elements -p x y
+decode a b
+decode a -o a
+report a b
+explain Range
+explain range Level6 VectorCount --json
+explain Rnge
+explain --all
+explain --all --json
+END
 }
 
 make_tree "$1"
