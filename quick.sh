@@ -1,5 +1,5 @@
 #!/bin/sh
-# Builds h264v-quick in about a minute: a plain copy of the sources, without contracts. Nothing is proved of it, and it says so.
+# Builds h264v-quick in about a minute: the same program, from a plain copy of the sources without contracts. Nothing is proved of it, and it says so.
 #
 #   ./quick.sh [FOLDER]      leaves FOLDER/h264v-quick; FOLDER is this one where it is left out
 #

@@ -36,6 +36,7 @@ CHANGED_OF_EACH = 6
 # How many streams one process goes through.
 BATCH = 64
 OTHERS = ["ffmpeg", "openh264"]
+CHECK = ["check", "--strict"]
 VERDICTS = {0: "yes", 1: "no", 2: "outside"}
 LAST_LINE = re.compile(r"yes: units \d+ pictures \d+ frames \d+|no: bit \d+: (\w+) \(clause [A-E\d.]+\)|outside: bit \d+: (\w+)")
 LABELS = set(re.findall(r"^### (\w+)$", (HERE.parent / "docs" / "RULES.md").read_text().partition("\n## Further rules")[0], re.M))
@@ -84,13 +85,10 @@ class Other:
 
 
 class Judge:
-    """What PROGRAM says of streams. One process of `check` and of `frames` goes through many of them, where PROGRAM takes several files."""
+    """What PROGRAM says of streams. One process of `check` and of `frames` goes through many of them."""
 
-    def __init__(self, program, main_ip, path):
+    def __init__(self, program, main_ip):
         self.program, self.more = program, ["--target", "main-ip"] if main_ip else []
-        usage = subprocess.run([program, "check", "--strict", path, path], capture_output=True)
-        self.takes_several = usage.stdout.startswith(path.encode())
-        self.check = ["check", "--strict"] if self.takes_several else ["check"]
 
     def ran(self, command, paths):
         return subprocess.run([self.program, *command, *self.more, *paths], capture_output=True)
@@ -98,9 +96,7 @@ class Judge:
     def judged(self, paths):
         """Of each stream the status and the last line; each frame's size and digest, and its count; the further rules that it breaks; and what is wrong
         with the answers."""
-        if not self.takes_several:
-            return [self.judged_alone(it) for it in paths]
-        check, frames = self.ran(self.check, paths), self.ran(["frames"], paths)
+        check, frames = self.ran(CHECK, paths), self.ran(["frames"], paths)
         lines, found = [by_file(it.stdout) for it in (check, frames)], []
         for path in paths:
             decode = self.ran(["decode"], [path])
@@ -120,7 +116,7 @@ class Judge:
 
     def judged_alone(self, path):
         """What `judged` gives, of one stream, each command with its own status."""
-        check, frames, decode = (self.ran(it, [path]) for it in (self.check, ["frames"], ["decode"]))
+        check, frames, decode = (self.ran(it, [path]) for it in (CHECK, ["frames"], ["decode"]))
         lines = [it.decode().splitlines() for it in (check.stdout, frames.stdout, decode.stderr)]
         ends = [[it for it in some if not it.endswith("nothing is proved")][-1:] for some in lines]
         told = [it.split() for it in lines[1] if it.startswith("frame ")]
@@ -266,7 +262,7 @@ class Worker:
     def __init__(self, ways, number, folder, report):
         self.ways, self.number, self.report = ways, number, report
         self.paths = [f"{folder}/stream-{number}-{i}.264" for i in range(BATCH)]
-        self.judge = Judge(ways.program, ways.main_ip, self.paths[0])
+        self.judge = Judge(ways.program, ways.main_ip)
         self.others = {name: Other(ways.judges, name) for name in ways.others}
         self.waiting = []
         self.counts = collections.Counter()

@@ -1,5 +1,5 @@
 #!/usr/bin/env python3
-"""faults.py PROGRAM [--plain] [STREAM..]: runs each command of PROGRAM on small streams while one thing after another goes wrong, by a library that stands in
+"""faults.py PROGRAM [STREAM..]: runs each command of PROGRAM on small streams while one thing after another goes wrong, by a library that stands in
 front of the C library (faults.c).
 
 The Nth allocation is refused, for each N: `memory` and status 3, or nothing changes, where the program could do without it. The Nth read fails: `read failed` and status 4. The Nth write fails: status 4, or nothing
@@ -8,8 +8,7 @@ written before is the front of what the stream gives without the fault, whole li
 read gives one byte, each write takes one, each is interrupted first: nothing changes. With no STREAM some are made. It prints a line for each command and
 stream, and ends with 1 at the first answer that is otherwise.
 
-With --plain PROGRAM is h264v-quick: what Rust allocates before its main cannot be answered, and its notice need not be written; both are passed over.
-Needs a C compiler."""
+PROGRAM is h264v or h264v-quick, whose notice is passed over. Needs a C compiler."""
 import os
 import pathlib
 import subprocess
@@ -67,8 +66,8 @@ class Answer:
 class Trial:
     """One command on one stream."""
 
-    def __init__(self, program, library, command, path, plain):
-        self.program, self.library, self.command, self.path, self.plain = program, library, command, path, plain
+    def __init__(self, program, library, command, path):
+        self.program, self.library, self.command, self.path = program, library, command, path
         self.whole, self.early, self.made_good = Answer(program, command, path), 0, 0
 
     def answer(self, **fault):
@@ -104,7 +103,7 @@ class Trial:
             answer = self.answer(**{name: number, "FIRED": fired})
             if not fired.exists():
                 return number - 1
-            if not is_right(answer) and not (self.plain and answer.is_same(self.whole)):
+            if not is_right(answer):
                 raise ValueError(f"{name}={number}: status {answer.status}\n{answer.out!r}\n{answer.err!r}")
 
     def is_memory(self, answer):
@@ -115,8 +114,7 @@ class Trial:
             return True
         if self.is_made_good(answer):
             return True
-        before_main = self.plain and answer.status < 0 and not answer.out and not answer.last()[0]
-        return before_main or self.is_told(answer, MEMORY, b"memory")
+        return self.is_told(answer, MEMORY, b"memory")
 
     def is_made_good(self, answer):
         """Whether nothing changed: what went wrong was not needed, or was done again later."""
@@ -151,8 +149,7 @@ def made(folder):
         yield f"legal {seed}", stream[:MOST_BYTES]
 
 
-def main(program, *words):
-    plain, paths = "--plain" in words, [it for it in words if it != "--plain"]
+def main(program, *paths):
     with tempfile.TemporaryDirectory() as folder:
         library = f"{folder}/faults.so"
         subprocess.run(["cc", "-O2", "-shared", "-fPIC", str(HERE / "faults.c"), "-o", library, "-ldl"], check=True)
@@ -162,7 +159,7 @@ def main(program, *words):
             pathlib.Path(path).write_bytes(stream)
             for command in COMMANDS:
                 try:
-                    print(f"{command} {name}: {Trial(program, library, command, path, plain).run()}", flush=True)
+                    print(f"{command} {name}: {Trial(program, library, command, path).run()}", flush=True)
                 except (ValueError, subprocess.TimeoutExpired) as wrong:
                     print(f"{command} {name}: {wrong}")
                     return 1

@@ -1,5 +1,5 @@
 #!/usr/bin/env python3
-"""files.py PROGRAM [--plain] [--whole]: files and streams as systems have them. It prints a line for each, and ends with 1 where one is not answered as
+"""files.py PROGRAM [--whole]: files and streams as systems have them. It prints a line for each, and ends with 1 where one is not answered as
 docs/OUTPUT.md says.
 
 Input above 4 GiB, in a sparse file; with --whole also input above 2^40 bytes, whose last ones are zeros that a library in front of the C library gives
@@ -7,7 +7,7 @@ Input above 4 GiB, in a sparse file; with --whole also input above 2^40 bytes, w
 folder in its place. Output to a full disk and to a pipe that nobody reads: status 4, and no text but a cause. Signals: what was written by then ends in a
 whole line.
 
-With --plain PROGRAM is h264v-quick. Needs a C compiler, and 4 GiB of room for names of blocks in a sparse file, but no room on the disk."""
+PROGRAM is h264v or h264v-quick. Needs a C compiler, and 4 GiB of room for names of blocks in a sparse file, but no room on the disk."""
 import os
 import pathlib
 import signal
@@ -26,13 +26,15 @@ SECONDS = 600
 PICTURE = bytes.fromhex("00000001 6742C00ADA71 00000001 68CE3880 000001 65888493C0")
 SKIPPED = bytes.fromhex("000001 619A22A0")
 LINE_END = 10
+# How many bytes the program reads at a time.
+FIRST_PIECE = 4096
 
 
 class Trials:
     """The program, and what has failed so far."""
 
-    def __init__(self, program, folder, plain):
-        self.program, self.folder, self.plain, self.failed = program, folder, plain, 0
+    def __init__(self, program, folder):
+        self.program, self.folder, self.failed = program, folder, 0
         self.library = f"{folder}/faults.so"
         subprocess.run(["cc", "-O2", "-shared", "-fPIC", str(HERE / "faults.c"), "-o", self.library, "-ldl"], check=True)
         self.stream = f"{folder}/stream"
@@ -108,8 +110,7 @@ class Trials:
             path, cut = f"{self.folder}/shrinking", f"{self.folder}/cut"
             pathlib.Path(path).write_bytes(whole)
             got = self.answer(command, path, {"SHRINK_FILE": path, "SHRINK_AT": 2, "SHRINK_TO": 2000})
-            first = 65536 if self.plain else 4096
-            pathlib.Path(cut).write_bytes(whole[:first])
+            pathlib.Path(cut).write_bytes(whole[:FIRST_PIECE])
             right = right and got == self.answer(command, cut)
         self.told("a file that shrinks", right)
 
@@ -180,7 +181,7 @@ def heed_signals():
 
 def main(program, *words):
     with tempfile.TemporaryDirectory() as folder:
-        trials = Trials(program, folder, "--plain" in words)
+        trials = Trials(program, folder)
         all_of_them = [trials.pipes, trials.shrinking, trials.unreadable, trials.full_disk, trials.closed_pipe, trials.whole_writes, trials.signals]
         all_of_them += [trials.above_4_gib] + [trials.above_2_to_40] * ("--whole" in words)
         for trial in all_of_them:

@@ -1,22 +1,29 @@
 #!/usr/bin/env python3
 """Makes a plain Rust program of the sources, without contracts, ghosts and tactics. Nothing of it is proved.
 
-    plain.py TOP OUT      writes the Cargo package OUT from the crates in TOP/crates, up to h264_verify
+    plain.py TOP OUT      writes the Cargo package OUT from the crates in TOP/crates that h264v needs, and from tools/plain
 
 Build it with RUSTC_BOOTSTRAP=1 cargo build --release, in OUT. quick.sh does both.
 """
 import os
 import re
+import shutil
 import sys
 
-CRATES = """base units plane tables scale rbsp bits sps pps sets verify intra header cavlc poc inter deblock
-marking lists near vectors mbsyntax picture recon dpb""".split()
+PROGRAM = "h264v"
 OPEN, CLOSE = "([{", ")]}"
-HERE = os.path.dirname(os.path.abspath(__file__))
+OURS = os.path.join(os.path.dirname(os.path.abspath(__file__)), "plain")
+# Modules of std that the kit has in another form, as tools/plain has them.
+STD = "alloc|cell|env|fs|io|marker|process|time"
+# A library of the kit of which nothing is left.
+LEFT_OUT = "thiserror"
+# Functions whose sink is known to the decoder, so that nothing is spent on what it passes over. The others share one copy.
+DIRECT = ("judge_unnoted", "judge_plainly", "check", "run_frames")
 CARGO = """[package]
 name = "h264v-quick"
 version = "@VERSION@"
 edition = "2024"
+rust-version = "1.85"
 [profile.release]
 opt-level = 3
 lto = "fat"
@@ -141,49 +148,89 @@ def derives(match):
     return "#[derive(%s)]" % ", ".join(kept) if kept else ""
 
 
-def converted(name, text):
-    """The plain text of a source file of the crate h264_NAME."""
+def with_shared_decoder(text):
+    """Calls of `run` with a sink of any type, but in the functions `DIRECT`."""
+    call = re.compile(r"(?<![\w.])run\(([\w.]+, (?:&mut )?[\w.]+), ((?:&mut )?\w+),")
+
+    def shared(found):
+        function = re.findall(r"fn (\w+)", text[:found.start()])[-1]
+        return found.group() if function in DIRECT else "run(%s, &mut crate::rt::aside::Aside(%s)," % found.groups()
+
+    return call.sub(shared, text)
+
+
+def converted(crate, text, crates, libraries):
+    """The plain text of a source file of this crate."""
     text = without_proof_text(text)
-    crates = "|".join(CRATES)
     for pattern, new in (
         (r"#\[derive\(([^)]*)\)\]", derives),
         (r"use (thiserror::Error|std::marker::Model);\n", ""),
-        (r"use std::alloc::", "use crate::rt::"),
-        (r"use (arrayvec|smallvec)::", "use crate::rt::"),
+        (r"use std::(%s)\b" % STD, r"use crate::rt::\1"),
+        (r"use std::(?=\{(?:(?:%s)(?:, )?)+\};)" % STD, "use crate::rt::"),
+        (r"(?<![\w:])(%s)::" % "|".join(libraries), r"crate::rt::\1::"),
+        (r"<(\w+): Drop>", r"<\1>"),
         (r"\s*\+ Drop\b", ""),
-        (r"vec!\[in \w+(?:\.\w+)*; ([^;\]]*); ([^\]]*)\]", r"crate::rt::filled(\1, \2)"),
-        (r"(?<![\w:])crate::(?!rt\b)", "crate::h264_%s::" % name),
-        (r"(?<![\w:])(h264_(?:%s))::" % crates, r"crate::\1::"),
+        (r"vec!\[in \w+(?:\.\w+)*; ([^;\]]*); ([^\]]*)\]", r"crate::rt::alloc::filled(\1, \2)"),
+        (r"(?<![\w:])crate::(?!rt\b)", f"crate::{crate}::"),
+        (r"(?<![\w:])(%s)::" % "|".join(crates), r"crate::\1::"),
+        (r"(?<![\w:])str::from_utf8", "std::str::from_utf8"),
+        (r"(?m)^fn main\(", "pub fn main("),
         (r"fn fmt<W: fmt::Write>\(&self, f: &mut fmt::Formatter<W>\)", "fn fmt(&self, f: &mut fmt::Formatter)"),
         (r"\n\s*\n+", "\n\n"),
     ):
         text = re.sub(pattern, new, text)
-    return "#[allow(unused_imports)]\nuse crate::rt::prelude::*;\n" + with_swizzles(text).lstrip()
+    return "#[allow(unused_imports)]\nuse crate::rt::prelude::*;\n" + with_shared_decoder(with_swizzles(text)).lstrip()
+
+
+def needed(top):
+    """The crates that the program needs, its own among them, and the libraries of the kit that they need, as crates.txt has them."""
+    lines = [line.partition(":") for line in read(f"{top}/crates.txt").split("\n") if ":" in line and not line.startswith("#")]
+    needs = {name.split()[0]: rest.split() for name, _, rest in lines}
+    found, left = set(), [PROGRAM]
+    while left:
+        name = left.pop()
+        if name not in found:
+            found.add(name)
+            left += needs.get(name, [])
+    return sorted(found & set(needs)), sorted(found - set(needs) - {LEFT_OUT})
 
 
 def write(path, text):
     os.makedirs(os.path.dirname(path), exist_ok=True)
-    with open(path, "w") as file:
+    with open(path, "w", encoding="utf-8") as file:
         file.write(text)
+
+
+def read(path):
+    with open(path, encoding="utf-8") as file:
+        return file.read()
+
+
+def convert(top, out, crate, crates, libraries):
+    """Writes the plain modules of a crate."""
+    sources = f"{top}/crates/{crate}/src"
+    for folder, _, files in os.walk(sources):
+        for file in files:
+            if file.endswith(".rt"):
+                module = os.path.relpath(os.path.join(folder, file), sources).removesuffix(".rt")
+                module = "mod" if module in ("lib", "main") else module
+                write(f"{out}/src/{crate}/{module}.rs", converted(crate, read(os.path.join(folder, file)), crates, libraries))
 
 
 def main():
     if len(sys.argv) != 3:
         sys.exit(__doc__)
     top, out = sys.argv[1:]
-    for name in CRATES:
-        sources = f"{top}/crates/h264_{name}/src"
-        for file in sorted(os.listdir(sources)):
-            if file.endswith(".rt"):
-                module = "mod" if file == "lib.rt" else file[:-len(".rt")]
-                write(f"{out}/src/h264_{name}/{module}.rs", converted(name, open(f"{sources}/{file}").read()))
-    write(f"{out}/src/rt.rs", open(f"{HERE}/plain_rt.rs").read())
-    modules = "\n".join(f"mod h264_{name};" for name in CRATES)
-    head = f"#![feature(portable_simd, alloc_error_hook)]\n#![allow(warnings)]\nmod rt;\n{modules}\n"
-    write(f"{out}/src/main.rs", head + "\n".join(line for line in open(f"{HERE}/plain_main.rs") .read().split("\n") if not line.startswith("//!")))
-    with open(f"{top}/VERSION", encoding="utf-8") as file:
-        version = file.read().split()[0]
-    write(f"{out}/Cargo.toml", CARGO.replace("@VERSION@", version))
+    crates, libraries = needed(top)
+    lacking = [name for name in libraries if not os.path.exists(f"{OURS}/{name}.rs") and not os.path.exists(f"{OURS}/{name}")]
+    if lacking:
+        sys.exit(f"plain.py: {OURS} has nothing for {', '.join(lacking)}")
+    for crate in crates:
+        convert(top, out, crate, crates, libraries)
+    shutil.copytree(OURS, f"{out}/src/rt", ignore=shutil.ignore_patterns("main.rs"))
+    modules = "".join(f"mod {crate};\n" for crate in crates)
+    write(f"{out}/src/main.rs", read(f"{OURS}/main.rs").replace("use std::", f"#[macro_use]\nmod rt;\n{modules}use std::", 1))
+    write(f"{out}/Cargo.toml", CARGO.replace("@VERSION@", read(f"{top}/VERSION").split()[0]))
 
 
 main()
