@@ -6,10 +6,9 @@ use Rattle.std.specs.Option.{is_some}
 use Rattle.h264_base.specs.Body.{Body}
 use Rattle.h264_base.specs.Call.{Call, span}
 use Rattle.h264_base.specs.declared.stop.Stop.{Stop}
-use Rattle.h264_base.specs.Grammar.{Grammar, Says}
+use Rattle.h264_base.specs.Grammar.{Grammar}
 use Rattle.h264_base.specs.Run.{run}
 use Rattle.h264_base.specs.Meets.{Reader, Meets, Is}
-use Rattle.h264_base.proofs.OneAnswer.{run-says}
 use Rattle.h264_bits.specs.Forms.{optional}
 use Rattle.h264_sps.specs.declared.sps.Sps.{Sps}
 use Rattle.h264_pps.specs.declared.Pps.{Pps}

@@ -1,5 +1,5 @@
 -- What a unit that is legal has met, and what it tells of decoded pictures.
-use Rattle.std.proofs.Common.{◌≡◌, ℕ, ◌*◌, ◌==◌, Bool, true, false, IsTrue, List, [], ◌∷◌, ◌++◌, length, inl, inr, Option, Some, None, Result, Ok, Err, refl}
+use Rattle.std.proofs.Common.{◌≡◌, ℕ, ◌*◌, Bool, true, false, IsTrue, List, [], ◌∷◌, ◌++◌, length, inl, inr, Option, Some, None, Result, Ok, Err, refl}
 use Rattle.std.proofs.Common.{sym, subst, if◌then◌else◌}
 use Rattle.std.specs.Option.{is_some}
 use Rattle.h264_verify.specs.Units.{extent_at, unit_call, slice_unit}

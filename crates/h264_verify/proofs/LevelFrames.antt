@@ -1,5 +1,5 @@
 -- The level of a set has a place for a frame of its size at least: MaxDpbFrames is not 0 (A.3.1, Table A-1).
-use Rattle.std.proofs.Common.{◌≡◌, ℕ, ◌+◌, ◌*◌, ◌<◌, ◌≤◌, nat_le, ◌==◌, Bool, true, false, List, [], ◌∷◌, ◌++◌, find, Option, Some, None, Ok, refl, ap, sym}
+use Rattle.std.proofs.Common.{◌≡◌, ℕ, ◌*◌, ◌<◌, ◌≤◌, nat_le, ◌==◌, Bool, true, false, List, [], ◌∷◌, ◌++◌, find, Option, Some, None, Ok, refl, ap, sym}
 use Rattle.std.proofs.Common.{subst, arith}
 use Rattle.std.proofs.lemmas.Bool.{and_parts, leb-true}
 use Rattle.std.specs.Prelude.{unwrap_or, IfSome}
@@ -19,7 +19,6 @@ use Rattle.h264_sps.specs.declared.sps.FrameSize.{FrameSize}
 use Rattle.h264_sps.specs.declared.sps.Sps.{Sps}
 use Rattle.h264_sps.specs.Sps.{LevelNamed, ProfileAndLevel, no_limits, max_dpb_frames, level, profile_and_level, fits, frame_size, sps}
 use Rattle.h264_pps.specs.declared.Pps.{Pps}
-use Rattle.h264_pps.specs.Pps.{pps}
 use Rattle.h264_sets.specs.declared.SetPair.{SetPair}
 use Rattle.h264_sets.specs.Sets.{Maps, EachSet, sps_of, pps_of, with_sps_of, pair_of}
 use Rattle.h264_sets.proofs.Each.{none-each, put-each, of-each}
@@ -39,7 +38,7 @@ use Rattle.h264_verify.specs.Pictures.{CodedSlice, CodedPicture, with_sets, slic
 use Rattle.h264_verify.specs.Steps.{Runs}
 use Rattle.h264_units.specs.UnitHeader.{header_of, nal_unit_type}
 use Rattle.h264_verify.specs.Units.{extent_at, slice_unit}
-use Rattle.h264_verify.specs.Order.{content, data_course}
+use Rattle.h264_verify.specs.Order.{data_course}
 use Rattle.h264_verify.specs.Verdict.{IsLegal, AreLegal}
 use Rattle.h264_verify.proofs.HeaderSets.{content-gives}
 use Rattle.h264_verify.proofs.LegalUnit.{given, has-met, rest-ends, rest-reads}

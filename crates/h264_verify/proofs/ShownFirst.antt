@@ -1,6 +1,5 @@
 -- The frames that the buffer holds and writes are of the pictures so far.
 use Rattle.std.proofs.Common.{◌≡◌, ℕ, ◌<◌, ◌≤◌, Bool, true, false, not, List, [], ◌∷◌, length, Option, Some, None, refl, arith, if◌then◌else◌}
-use Rattle.h264_verify.specs.declared.state.Depth.TheVariants as depths
 use Rattle.h264_marking.specs.Frames.{References}
 use Rattle.h264_marking.specs.declared.frame.Numbering.{Numbering}
 use Rattle.h264_marking.specs.Window.{filled}
@@ -14,7 +13,6 @@ use Rattle.h264_dpb.specs.Kept.{Each}
 use Rattle.h264_dpb.specs.Turns.{Shown, Turn, turn_then, stays, still, entry_of, empties, flush_turn, reference_turn, other_turn, missing_turn, way_turn}
 use Rattle.h264_dpb.specs.Turns.{store_turn, end_turn, last_turn}
 use Rattle.h264_dpb.proofs.Every.{each-append, each-marked, both-flushed, both-made_room, both-reference, both-other}
-use Rattle.h264_verify.specs.Content as contents
 use Rattle.h264_verify.specs.Pictures.{CodedPicture, held_after}
 use Rattle.h264_verify.specs.Buffering.{gap_on, gaps_turn, missing_before, gaps_before, ended_picture, ended_turn, after_all, within_newest}
 

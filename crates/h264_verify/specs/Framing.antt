@@ -12,9 +12,10 @@ use Rattle.h264_verify.specs.History.{History}
 use Rattle.h264_pps.specs.declared.Pps.{Pps}
 use Rattle.h264_sps.specs.declared.sps.Sps.{Sps}
 use Rattle.h264_header.specs.declared.header.Header.{Header}
-use Rattle.h264_verify.specs.Pictures.{CodedPicture, with_sets, goes_on, runs_of, ended_pictures}
+use Rattle.h264_verify.specs.Pictures.{CodedPicture, with_sets, goes_on, runs_of}
 use Rattle.h264_verify.specs.Order.{slice_steps, standing_demands, coded_before}
 use Rattle.h264_verify.specs.Keeping.{KeepsSlices, KeepsFrames, WhereMade, EntersBy, ended_in, close_steps}
+use Rattle.h264_verify.specs.Pictures.{ended_pictures}
 use Rattle.h264_verify.specs.Demands.{judged}
 use Rattle.h264_verify.specs.Slices.{first_mb_demands}
 use Rattle.h264_header.specs.Layout.{sets_of}

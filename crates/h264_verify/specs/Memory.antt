@@ -12,11 +12,12 @@ use Rattle.h264_pps.specs.declared.Pps.{Pps}
 use Rattle.h264_header.specs.declared.header.Header.{Header}
 use Rattle.h264_header.specs.Layout.{sets_of}
 use Rattle.h264_header.specs.Header.{header as header_syntax}
-use Rattle.h264_units.specs.UnitHeader.{header_of, nal_unit_type, is_slice}
+use Rattle.h264_units.specs.UnitHeader.{header_of, nal_unit_type}
 use Rattle.h264_verify.specs.History.{History, maps_of}
 use Rattle.h264_verify.specs.Pictures.{CodedPicture, sets_at, begins_at, runs_of}
 use Rattle.h264_picture.specs.Buffer.{buffer_size}
 use Rattle.h264_verify.specs.declared.decoder.Format.{Format}
+use Rattle.h264_units.specs.UnitHeader.{is_slice}
 use Rattle.h264_verify.specs.Units.{slice_unit}
 use Rattle.h264_rbsp.specs.Emulation.{IsFault}
 use Rattle.h264_verify.specs.declared.state.Extent.{Extent}

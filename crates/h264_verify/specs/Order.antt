@@ -26,13 +26,14 @@ use Rattle.h264_verify.specs.Demands.{Demand}
 use Rattle.h264_verify.specs.History.{History, maps_of}
 use Rattle.h264_verify.specs.Lists.{list_of}
 use Rattle.h264_verify.specs.Pictures.{CodedPicture, last_slice, bit_after, picture_size, goes_on, runs_of, CodedSlice, sets_at}
-use Rattle.h264_units.specs.UnitHeader.{ends_picture, header_of, nal_unit_type, nal_ref_idc, forbidden_zero_bit, is_partition, fits_kind}
+use Rattle.h264_units.specs.UnitHeader.{ends_picture}
 use Rattle.h264_verify.specs.Pictures.{with_sets, joined_to, begins_at, coded_of, end_of_picture}
 use Rattle.h264_verify.specs.Slices.{PicturesBefore, pictures_before, SlicesBefore, slices_before, is_idr_due, idr_demand, set_demand, first_mb_demands}
 use Rattle.h264_verify.specs.Slices.{type_demand, same_type_demand, idr_num_demand, gap_demand, new_num_demand, id_demand, count_demand, qp_demand}
 use Rattle.h264_verify.specs.Slices.{list_demand, marking_demand, first_bit, slice_call}
 use Rattle.h264_verify.specs.Steps.{Step, Needs, needs, Course, Takes, Reads, Ends}
 use Rattle.h264_verify.specs.Telling.{Said}
+use Rattle.h264_units.specs.UnitHeader.{header_of, nal_unit_type, nal_ref_idc, forbidden_zero_bit, is_partition, fits_kind}
 use Rattle.h264_verify.specs.Units.{unit_call, other_content, picture_demand}
 use Rattle.h264_verify.specs.declared.state.Extent.{Extent}
 use Rattle.h264_verify.specs.declared.state.Depth.TheVariants as depths

@@ -16,12 +16,13 @@ use Rattle.h264_marking.specs.Gaps.{last_or, unused_short_term_frame_nums, enter
 use Rattle.h264_marking.specs.Held.{no_references}
 use Rattle.h264_marking.specs.Ended.{numbering_of, resets, ended}
 use Rattle.h264_units.specs.Stream.{NalUnit, past}
-use Rattle.h264_units.specs.UnitHeader.{ends_picture, header_of, nal_unit_type}
+use Rattle.h264_units.specs.UnitHeader.{ends_picture}
 use Rattle.h264_sets.specs.Sets.{Maps}
 use Rattle.h264_near.specs.Coded.{CodedMacroblock}
 use Rattle.h264_verify.specs.Content.{Content}
 use Rattle.h264_verify.specs.Content as contents
 use Rattle.h264_verify.specs.Demands.{Demand}
+use Rattle.h264_units.specs.UnitHeader.{header_of, nal_unit_type}
 use Rattle.h264_verify.specs.History.{History, maps_of}
 
 -- A slice: the unit in which it stands, its header, the macroblocks of its picture up to its end, and the parameter sets that it

@@ -31,7 +31,8 @@ use Rattle.h264_dpb.specs.Turns.{Shown}
 use Rattle.h264_verify.specs.Buffering.{newest_count, frame_count, after_all}
 use Rattle.h264_units.specs.UnitHeader.{header_of, nal_unit_type}
 use Rattle.h264_verify.specs.History.{History}
-use Rattle.h264_verify.specs.Pictures.{CodedSlice, CodedPicture, bit_of, is_met, counted, prev_ref_frame_num_of, held_after, held_in}
+use Rattle.h264_verify.specs.Pictures.{CodedSlice, CodedPicture}
+use Rattle.h264_verify.specs.Pictures.{bit_of, is_met, counted, prev_ref_frame_num_of, held_after, held_in}
 use Rattle.h264_header.specs.Picture.{is_idr}
 use Rattle.h264_header.specs.Header.{slice_type_of}
 

@@ -13,7 +13,8 @@ use Rattle.h264_verify.specs.History.{History}
 use Rattle.h264_verify.specs.KeepingUnits.{Keeps}
 use Rattle.h264_units.specs.UnitHeader.{header_of, nal_unit_type, ends_picture}
 use Rattle.h264_verify.specs.Keeping.{ended_in}
-use Rattle.h264_verify.specs.Pictures.{ended_pictures, goes_on, runs_of}
+use Rattle.h264_verify.specs.Pictures.{ended_pictures}
+use Rattle.h264_verify.specs.Pictures.{goes_on, runs_of}
 use Rattle.h264_verify.specs.UnitOutcome.{content_outcome, unit_outcome, end_outcome}
 
 -- After these units a unit was judged, and the sink was told what comes of it.
