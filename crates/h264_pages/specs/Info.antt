@@ -1,6 +1,5 @@
 -- The lines of `info`, and its object. To be read beside docs/OUTPUT.md.
 use Rattle.std.specs.Prelude.{ℕ, ◌/◌, ◌==◌, ◌&&◌, max, Bool, Option, None, Some, List, [], ◌∷◌, ◌++◌, codes, flat_map, length, if◌then◌else◌}
-use Rattle.std.specs.Fmt.{decimal}
 use Rattle.h264_pages.specs.Pages.{numbered, number_after, thousandths, quoted, named, number_field, maybe_field, text_field}
 use Rattle.h264_pages.specs.Profiles.{profile_name, level_name}
 use Rattle.h264_pages.specs.Rates.{product, rate_in, shown_side}
