@@ -227,7 +227,7 @@ def main():
         sys.exit(f"plain.py: {OURS} has nothing for {', '.join(lacking)}")
     for crate in crates:
         convert(top, out, crate, crates, libraries)
-    shutil.copytree(OURS, f"{out}/src/rt", ignore=shutil.ignore_patterns("main.rs"))
+    shutil.copytree(OURS, f"{out}/src/rt", ignore=shutil.ignore_patterns("main.rs"), dirs_exist_ok=True)
     modules = "".join(f"mod {crate};\n" for crate in crates)
     write(f"{out}/src/main.rs", read(f"{OURS}/main.rs").replace("use std::", f"#[macro_use]\nmod rt;\n{modules}use std::", 1))
     write(f"{out}/Cargo.toml", CARGO.replace("@VERSION@", read(f"{top}/VERSION").split()[0]))
