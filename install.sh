@@ -75,6 +75,7 @@ install_library() {
 
 say "builds in $build for $cpu, on $jobs processors"
 rm -f "$build/installed"
+# shellcheck disable=SC2086 # each crate is a word
 python3 "$top/tools/build.py" --jobs "$jobs" --cpu "$cpu" "$build" $crates | while read -r crate file; do
   case $crate in
     h264v) install_program "$file" ;;

@@ -1,9 +1,9 @@
 #!/usr/bin/env python3
 """Times the program beside libavcodec, OpenH264 and md5sum, one thread each, within one run.
 
-    bench/compare.py PROGRAM [--turns N] [--instructions] FILE|FOLDER..
+    bench/compare.py [--turns N] [--instructions] PROGRAM FILE|FOLDER..
 
-FOLDER is one that bench/corpus.sh made, or any with .264 files. `decode` stands beside small programs over libavcodec, with its assembly and without, and over
+FOLDER is one that corpus.sh made, or any with .264 files. `decode` stands beside small programs over libavcodec, with its assembly and without, and over
 OpenH264 (decoders/), so that no start of a command line tool is in a time. All write planar YUV to nothing. They take turns; the least of N counts, 5 where N
 is left out, as user and system time of the process. Compare figures of one line only.
 A second table has `check`, which makes no frames, beside the same programs and `decode`. A third has `units`, `headers` and `check` beside md5sum. A file of

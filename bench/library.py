@@ -1,7 +1,7 @@
 #!/usr/bin/env python3
 """Times the library beside the program and libavcodec, one thread each, within one run.
 
-    bench/library.py PROGRAM LIBRARY FOLDER|FILE.. [--turns N]
+    bench/library.py [--turns N] PROGRAM LIBRARY FILE|FOLDER..
 
 PROGRAM is h264v, LIBRARY the shared object (libh264v.so.0) built for the same processor. The library (decoders/receive.c) gets one unit a piece, pieces of
 4 KiB and of 64 KiB. Each frame is received; it is read too, or left unread. The program runs `decode` with its output to nothing, and into a pipe that this script reads. libavcodec
@@ -9,6 +9,7 @@ PROGRAM is h264v, LIBRARY the shared object (libh264v.so.0) built for the same p
 Compare figures of one line only.
 Prints a table for docs/SPEED.md. Needs cc; libavcodec is left out where its headers are missing.
 """
+import argparse
 import os
 import resource
 import subprocess
@@ -83,30 +84,27 @@ def row(name, best):
 
 
 def main():
-    words = sys.argv[1:]
-    turns = TURNS
-    if "--turns" in words:
-        at = words.index("--turns")
-        turns = int(words[at + 1])
-        del words[at : at + 2]
-    if len(words) < 3:
-        sys.exit(__doc__)
-    program, library, *streams = words
-    sums = {}
+    words = argparse.ArgumentParser(description=__doc__, formatter_class=argparse.RawDescriptionHelpFormatter)
+    words.add_argument("--turns", type=int, default=TURNS)
+    words.add_argument("program")
+    words.add_argument("library")
+    words.add_argument("streams", nargs="+", metavar="FILE|FOLDER")
+    asked, sums = words.parse_args(), {}
+    program = asked.program
     with tempfile.TemporaryDirectory(prefix="h264v-bench.") as folder:
-        os.symlink(os.path.abspath(library), os.path.join(folder, "libh264v.so.0"))
+        os.symlink(os.path.abspath(asked.library), os.path.join(folder, "libh264v.so.0"))
         include = os.path.join(HERE, "..", "include")
         receive = built("receive", folder, "-I", include, os.path.join(folder, "libh264v.so.0"), f"-Wl,-rpath,{folder}")
         avcodec = built("avcodec", folder, "-lavcodec", "-lavutil")
         if not receive:
             sys.exit("library.py: decoders/receive.c can't be built")
         print(HEAD + "\n" + "|---" * HEAD.count(" |") + "|")
-        for name in names_in(streams):
+        for name in names_in(asked.streams):
             decode = [program, "decode", name]
             commands = {"program": decode, PIPE: decode, **{way: [receive, name, *more] for way, more in WAYS.items()}}
             if avcodec:
                 commands.update({way: [avcodec, name, way, "read"] for way in ("assembly", "c")})
-            best = least(commands, turns)
+            best = least(commands, asked.turns)
             print(row(name, best), flush=True)
             for way, took in best.items():
                 sums[way] = tuple(map(sum, zip(sums.get(way, (0, 0)), took)))

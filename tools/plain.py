@@ -1,8 +1,9 @@
 #!/usr/bin/env python3
 """Makes a plain Rust program of the sources, without contracts, ghosts and tactics. Nothing of it is proved.
 
-    plain.py TOP OUT      writes the Cargo package OUT from the crates in TOP/crates that h264v needs, and from tools/plain
+    plain.py [--library] TOP OUT      writes the Cargo package OUT from the crates in TOP/crates that h264v needs, and from tools/plain
 
+With --library it writes the library for C of the crates that h264_c needs, for tests of the interfaces.
 Build it with RUSTC_BOOTSTRAP=1 cargo build --release, in OUT. quick.sh does both.
 """
 import os
@@ -10,11 +11,11 @@ import re
 import shutil
 import sys
 
-PROGRAM = "h264v"
+PROGRAM, LIBRARY = "h264v", "h264_c"
 OPEN, CLOSE = "([{", ")]}"
 OURS = os.path.join(os.path.dirname(os.path.abspath(__file__)), "plain")
 # Modules of std that the kit has in another form, as tools/plain has them.
-STD = "alloc|cell|env|fs|io|marker|process|time"
+STD = "alloc|cell|collections|env|fs|io|marker|process|time"
 # A library of the kit of which nothing is left.
 LEFT_OUT = "thiserror"
 # Functions whose sink is known to the decoder, so that nothing is spent on what it passes over. The others share one copy.
@@ -24,11 +25,17 @@ name = "h264v-quick"
 version = "@VERSION@"
 edition = "2024"
 rust-version = "1.85"
-[profile.release]
+@KIND@[profile.release]
 opt-level = 3
 lto = "fat"
 codegen-units = 1
 panic = "abort"
+"""
+# How Cargo is told of the library.
+STATIC = """[lib]
+name = "h264_c"
+path = "src/library.rs"
+crate-type = ["staticlib"]
 """
 
 
@@ -76,6 +83,8 @@ def after_proof_text(text, i):
     """The place after what only the prover reads at i: a clause, a ghost, an attribute, a model; i where none stands."""
     if is_word(text, i, "requires") or is_word(text, i, "ensures"):
         return after_bracket(text, text.index("{", i))
+    if re.match(r"pub ghost\b", text[i:]) and is_word(text, i, "pub"):
+        return after_ghost(text, i)
     if is_word(text, i, "ghost"):
         return after_ghost(text, i)
     if re.match(r"#!?\[(tactic|error)\b", text[i:]):
@@ -182,11 +191,11 @@ def converted(crate, text, crates, libraries):
     return "#[allow(unused_imports)]\nuse crate::rt::prelude::*;\n" + with_shared_decoder(with_swizzles(text)).lstrip()
 
 
-def needed(top):
-    """The crates that the program needs, its own among them, and the libraries of the kit that they need, as crates.txt has them."""
+def needed(top, root):
+    """The crates that a crate needs, itself among them, and the libraries of the kit that they need, as crates.txt has them."""
     lines = [line.partition(":") for line in read(f"{top}/crates.txt").split("\n") if ":" in line and not line.startswith("#")]
     needs = {name.split()[0]: rest.split() for name, _, rest in lines}
-    found, left = set(), [PROGRAM]
+    found, left = set(), [root]
     while left:
         name = left.pop()
         if name not in found:
@@ -218,19 +227,22 @@ def convert(top, out, crate, crates, libraries):
 
 
 def main():
-    if len(sys.argv) != 3:
+    words = sys.argv[1:]
+    is_library = words[:1] == ["--library"]
+    if len(words) != 2 + is_library:
         sys.exit(__doc__)
-    top, out = sys.argv[1:]
-    crates, libraries = needed(top)
+    top, out = words[is_library:]
+    crates, libraries = needed(top, LIBRARY if is_library else PROGRAM)
     lacking = [name for name in libraries if not os.path.exists(f"{OURS}/{name}.rs") and not os.path.exists(f"{OURS}/{name}")]
     if lacking:
         sys.exit(f"plain.py: {OURS} has nothing for {', '.join(lacking)}")
     for crate in crates:
         convert(top, out, crate, crates, libraries)
-    shutil.copytree(OURS, f"{out}/src/rt", ignore=shutil.ignore_patterns("main.rs"), dirs_exist_ok=True)
+    shutil.copytree(OURS, f"{out}/src/rt", ignore=shutil.ignore_patterns("main.rs", "library.rs"), dirs_exist_ok=True)
     modules = "".join(f"mod {crate};\n" for crate in crates)
-    write(f"{out}/src/main.rs", read(f"{OURS}/main.rs").replace("use std::", f"#[macro_use]\nmod rt;\n{modules}use std::", 1))
-    write(f"{out}/Cargo.toml", CARGO.replace("@VERSION@", read(f"{top}/VERSION").split()[0]))
+    root, kind = ("library", STATIC) if is_library else ("main", "")
+    write(f"{out}/src/{root}.rs", read(f"{OURS}/{root}.rs").replace("@MODULES@", f"#[macro_use]\nmod rt;\n{modules}"))
+    write(f"{out}/Cargo.toml", CARGO.replace("@VERSION@", read(f"{top}/VERSION").split()[0]).replace("@KIND@", kind))
 
 
 main()

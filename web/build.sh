@@ -23,7 +23,7 @@ done
 for part in "$kit"/toolchain/*; do [ "$(basename "$part")" = bin ] || ln -s "$part" "$work/kit/toolchain/"; done
 for part in "$kit"/toolchain/bin/*; do [ "$(basename "$part")" = clang ] || ln -s "$part" "$work/kit/toolchain/bin/"; done
 for part in "$kit"/bin/*; do
-  case $(basename "$part") in rt | rt*.py | rtlib.py) cp "$part" "$work/kit/bin/" ;; *) ln -s "$part" "$work/kit/bin/" ;; esac
+  case $(basename "$part") in rt | rt*.py) cp "$part" "$work/kit/bin/" ;; *) ln -s "$part" "$work/kit/bin/" ;; esac
 done
 cat >"$work/kit/toolchain/bin/clang" <<END
 #!/bin/bash
@@ -37,6 +37,7 @@ chmod +x "$work/kit/toolchain/bin/clang"
 module=${MODULE:-}
 if [ -z "$module" ]; then
   (cd "${CRATES:-$top/crates}/h264_c" && rm -f out/libh264_c.a && python3 "$work/kit/bin/rt" lib ${CPU:+--cpu "$CPU"})
+  # shellcheck disable=SC2012 # their names have no odd characters
   module=$(ls -S "$work/modules"/* | head -n 1)
 fi
 

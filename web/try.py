@@ -4,7 +4,7 @@
     web/try.py PROGRAM PAGE SCREENSHOT LEGAL BROKEN
 
 PROGRAM is h264v, PAGE what web/build.sh wrote, LEGAL a legal stream of three frames or more, and BROKEN one that breaks a rule in a macroblock, of
-which the screenshot is. tools/compare_library.py compares the frames of many streams. Needs chromium.
+which the screenshot is. test/compare_library.py compares the frames of many streams. Needs chromium.
 """
 import os
 import re

@@ -5,7 +5,7 @@
 #
 #   examples/c/run.sh [PREFIX]
 #
-# PREFIX is where install.sh put the library, ~/.local where it is left out. tools/compare_library.py compares frames with the
+# PREFIX is where install.sh put the library, ~/.local where it is left out. test/compare_library.py compares frames with the
 # program's. Needs cc, pkg-config and valgrind.
 set -eu
 prefix=${1:-$HOME/.local}

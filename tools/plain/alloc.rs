@@ -1,4 +1,5 @@
 //! Vectors and texts whose growth can be refused, over Rust's own.
+use std::alloc::Layout;
 use std::collections::TryReserveError;
 use std::fmt;
 use std::io;
@@ -11,6 +12,19 @@ pub struct Global;
 /// A growth was refused.
 #[derive(Clone, Copy, Debug, PartialEq, Eq)]
 pub struct AllocError;
+
+/// What a vector did not take, where the sources let go of it: it is gone by then.
+pub struct Untaken {
+    pub value: (),
+}
+
+impl Deref for AllocError {
+    type Target = Untaken;
+
+    fn deref(&self) -> &Untaken {
+        &Untaken { value: () }
+    }
+}
 
 impl From<TryReserveError> for AllocError {
     fn from(_: TryReserveError) -> AllocError {
@@ -27,9 +41,24 @@ impl From<AllocError> for io::Error {
 #[derive(Debug, Clone, PartialEq)]
 pub struct Vec<T>(std::vec::Vec<T>);
 
-/// `vec![in alloc; item; count]`
+/// Whether an item is one byte, which is 0.
+fn is_zero_byte<T>(item: &T) -> bool {
+    size_of::<T>() == 1 && !std::mem::needs_drop::<T>() && unsafe { std::mem::transmute_copy::<T, u8>(item) } == 0
+}
+
+/// `vec![in alloc; item; count]`. The system gives bytes that are 0, and takes their memory only once they are used.
 pub fn filled<T: Clone>(item: T, count: usize) -> Result<Vec<T>, AllocError> {
-    Ok(Vec(vec![item; count]))
+    if count > 0 && is_zero_byte(&item) {
+        let place = unsafe { std::alloc::alloc_zeroed(Layout::array::<T>(count).map_err(|_| AllocError)?) } as *mut T;
+        if place.is_null() {
+            return Err(AllocError);
+        }
+        return Ok(Vec(unsafe { std::vec::Vec::from_raw_parts(place, count, count) }));
+    }
+    let mut items = std::vec::Vec::new();
+    items.try_reserve_exact(count)?;
+    items.resize(count, item);
+    Ok(Vec(items))
 }
 
 impl<T> Vec<T> {
@@ -59,6 +88,10 @@ impl<T> Vec<T> {
 
     pub fn reserve(&mut self, count: usize) -> Result<(), AllocError> {
         Ok(self.0.try_reserve(count)?)
+    }
+
+    pub fn reserve_exact(&mut self, count: usize) -> Result<(), AllocError> {
+        Ok(self.0.try_reserve_exact(count)?)
     }
 
     #[inline]

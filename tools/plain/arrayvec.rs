@@ -1,32 +1,107 @@
-//! A vector with room for so many items, over Rust's own.
+//! A vector with room for so many items, which takes no memory of its own.
 use super::alloc::AllocError;
+use std::fmt;
+use std::mem::{MaybeUninit, needs_drop};
 use std::ops::{Deref, DerefMut};
 
-#[derive(Debug, Clone, PartialEq, Eq)]
-pub struct ArrayVec<T, const N: usize>(Vec<T>);
+pub struct ArrayVec<T, const N: usize> {
+    items: [MaybeUninit<T>; N],
+    /// How many of them there are: the first ones.
+    length: usize,
+}
 
 impl<T, const N: usize> ArrayVec<T, N> {
     pub fn new() -> Self {
-        ArrayVec(Vec::new())
+        const { assert!(!needs_drop::<T>()) };
+        ArrayVec { items: [const { MaybeUninit::uninit() }; N], length: 0 }
     }
 
     pub fn as_slice(&self) -> &[T] {
-        &self.0
+        unsafe { std::slice::from_raw_parts(self.items.as_ptr() as *const T, self.length) }
     }
 
     pub fn as_mut_slice(&mut self) -> &mut [T] {
-        &mut self.0
+        unsafe { std::slice::from_raw_parts_mut(self.items.as_mut_ptr() as *mut T, self.length) }
     }
 
     pub fn is_full(&self) -> bool {
-        self.0.len() == N
+        self.length == N
+    }
+
+    #[inline]
+    pub fn push(&mut self, item: T) {
+        self.items[self.length].write(item);
+        self.length += 1;
+    }
+
+    pub fn pop(&mut self) -> Option<T> {
+        self.length = self.length.checked_sub(1)?;
+        Some(unsafe { self.items[self.length].assume_init_read() })
+    }
+
+    pub fn insert(&mut self, place: usize, item: T) {
+        self.push(item);
+        self.as_mut_slice()[place..].rotate_right(1);
+    }
+
+    pub fn remove(&mut self, place: usize) -> T {
+        self.as_mut_slice()[place..].rotate_left(1);
+        self.pop().unwrap()
+    }
+
+    pub fn retain(&mut self, mut stays: impl FnMut(&T) -> bool) {
+        let mut kept = 0;
+        for place in 0..self.length {
+            if stays(&self.as_slice()[place]) {
+                self.as_mut_slice().swap(kept, place);
+                kept += 1;
+            }
+        }
+        self.length = kept;
+    }
+
+    pub fn truncate(&mut self, count: usize) {
+        self.length = self.length.min(count);
+    }
+
+    pub fn clear(&mut self) {
+        self.length = 0;
     }
 }
 
 impl<T: Clone, const N: usize> ArrayVec<T, N> {
     pub fn try_extend_from_slice(&mut self, items: &[T]) -> Result<(), AllocError> {
-        self.0.extend_from_slice(items);
+        if items.len() > N - self.length {
+            return Err(AllocError);
+        }
+        for item in items {
+            self.push(item.clone());
+        }
         Ok(())
+    }
+}
+
+impl<T: Clone, const N: usize> Clone for ArrayVec<T, N> {
+    fn clone(&self) -> Self {
+        let mut copy = ArrayVec::new();
+        for item in self.as_slice() {
+            copy.push(item.clone());
+        }
+        copy
+    }
+}
+
+impl<T: PartialEq, const N: usize> PartialEq for ArrayVec<T, N> {
+    fn eq(&self, other: &Self) -> bool {
+        self.as_slice() == other.as_slice()
+    }
+}
+
+impl<T: Eq, const N: usize> Eq for ArrayVec<T, N> {}
+
+impl<T: fmt::Debug, const N: usize> fmt::Debug for ArrayVec<T, N> {
+    fn fmt(&self, f: &mut fmt::Formatter<'_>) -> fmt::Result {
+        self.as_slice().fmt(f)
     }
 }
 
@@ -37,16 +112,16 @@ impl<T, const N: usize> Default for ArrayVec<T, N> {
 }
 
 impl<T, const N: usize> Deref for ArrayVec<T, N> {
-    type Target = Vec<T>;
+    type Target = [T];
 
-    fn deref(&self) -> &Vec<T> {
-        &self.0
+    fn deref(&self) -> &[T] {
+        self.as_slice()
     }
 }
 
 impl<T, const N: usize> DerefMut for ArrayVec<T, N> {
-    fn deref_mut(&mut self) -> &mut Vec<T> {
-        &mut self.0
+    fn deref_mut(&mut self) -> &mut [T] {
+        self.as_mut_slice()
     }
 }
 
@@ -55,7 +130,7 @@ impl<'a, T, const N: usize> IntoIterator for &'a ArrayVec<T, N> {
     type IntoIter = std::slice::Iter<'a, T>;
 
     fn into_iter(self) -> Self::IntoIter {
-        self.0.iter()
+        self.as_slice().iter()
     }
 }
 
@@ -64,15 +139,15 @@ impl<'a, T, const N: usize> IntoIterator for &'a mut ArrayVec<T, N> {
     type IntoIter = std::slice::IterMut<'a, T>;
 
     fn into_iter(self) -> Self::IntoIter {
-        self.0.iter_mut()
+        self.as_mut_slice().iter_mut()
     }
 }
 
 impl<T, const N: usize> IntoIterator for ArrayVec<T, N> {
     type Item = T;
-    type IntoIter = std::vec::IntoIter<T>;
+    type IntoIter = std::iter::Map<std::iter::Take<std::array::IntoIter<MaybeUninit<T>, N>>, fn(MaybeUninit<T>) -> T>;
 
     fn into_iter(self) -> Self::IntoIter {
-        self.0.into_iter()
+        self.items.into_iter().take(self.length).map(|item| unsafe { item.assume_init() })
     }
 }

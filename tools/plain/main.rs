@@ -2,6 +2,7 @@
 #![feature(portable_simd, alloc_error_hook, io_error_more)]
 #![allow(warnings)]
 #![no_main]
+@MODULES@
 use std::ffi::{CStr, c_char};
 use std::io::Write;
 

@@ -4,9 +4,11 @@ pub mod alloc;
 pub mod arrayvec;
 pub mod aside;
 pub mod base64;
+pub mod boxed;
 pub mod cell;
 pub mod circular_buffer;
 pub mod clap;
+pub mod collections;
 pub mod env;
 pub mod fs;
 pub mod hex;
@@ -25,5 +27,6 @@ pub const NOT_PROVED: &str = "a plain build, of which nothing is proved";
 /// What each module has without a word.
 pub mod prelude {
     pub use super::alloc::{String, Vec};
+    pub use super::boxed::Box;
     pub use super::runtime::HostRuntime;
 }

@@ -1,14 +1,14 @@
 #!/usr/bin/env python3
 """Compares the library by each way with the program on streams: frames with counts and sizes, last lines and statuses.
 
-    tools/compare_library.py PROGRAM LIBRARY PAGE SCREENSHOT FILE|FOLDER..
+    test/compare_library.py [--page PAGE SCREENSHOT] PROGRAM LIBRARY FILE|FOLDER..
 
 PROGRAM is h264v, LIBRARY the shared object (libh264v.so.0), PAGE what web/build.sh wrote. The ways are C (examples/c/decode.c), Python (python/), units
-without start codes by Python, and the page in headless Chromium; SCREENSHOT shows it with the last stream. `-` for PAGE leaves the page out. A FOLDER stands
-for the .264 files in it.
+without start codes by Python, and with --page the page in headless Chromium; SCREENSHOT shows it with the last stream. A FOLDER stands for the .264 files in it.
 Each stream is judged for both targets. Says of each difference what it is, and at the end how many streams agree; status 1 where one differs.
 Needs cc, and chromium for the page. A plain build is compared as well as a proved one: which they are is the caller's to say.
 """
+import argparse
 import hashlib
 import os
 import re
@@ -221,21 +221,24 @@ def compare(program, ways, name, differ):
 
 
 def main():
-    if len(sys.argv) < 6:
-        sys.exit(__doc__)
-    path, library, page, screenshot, *words = sys.argv[1:]
-    names, frames = list(names_in(words)), 0
+    words = argparse.ArgumentParser(description=__doc__, formatter_class=argparse.RawDescriptionHelpFormatter)
+    words.add_argument("--page", nargs=2, metavar=("PAGE", "SCREENSHOT"))
+    words.add_argument("program")
+    words.add_argument("library")
+    words.add_argument("streams", nargs="+", metavar="FILE|FOLDER")
+    asked = words.parse_args()
+    names, frames = list(names_in(asked.streams)), 0
     with tempfile.TemporaryDirectory(prefix="h264v-compare.") as folder:
-        ways = {"C": InC(library, folder).judge, "Python": InPython(library).judge, "units": InUnits(library).judge}
-        shown = None if page == "-" else OnPage(page)
+        ways = {"C": InC(asked.library, folder).judge, "Python": InPython(asked.library).judge, "units": InUnits(asked.library).judge}
+        shown = OnPage(asked.page[0]) if asked.page else None
         if shown:
             ways["page"] = shown.judge
         differ = {way: set() for way in ways}
         try:
             for name in names:
-                frames += compare(Program(path), ways, name, differ)
+                frames += compare(Program(asked.program), ways, name, differ)
             if shown:
-                shown.page.screenshot(screenshot)
+                shown.page.screenshot(asked.page[1])
         finally:
             if shown:
                 shown.page.__exit__()

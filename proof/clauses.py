@@ -1,7 +1,7 @@
 #!/usr/bin/env python3
 """What contracts and definitions said at a revision, and no longer say.
 
-  tools/clauses.py REV
+  proof/clauses.py REV
 
 Prints each clause of a public function, and each definition of specs/, that stood at REV and does not stand in the working tree, and how many there are of
 both. A clause is known by its function's name and its text, a definition by its text: neither by its crate or file, so that what only moved is not listed.

@@ -1,5 +1,5 @@
 #!/usr/bin/env python3
-"""buffer.py [--changed N] [--seed S] PROGRAM STREAM..: compares what `check --strict` finds of the coded picture buffer with C.1 to C.3 by fractions.
+"""buffer.py [--changed N] [--seed S] PROGRAM FILE..: compares what `check --strict` finds of the coded picture buffer with C.1 to C.3 by fractions.
 
 With --changed N it makes N streams of those by other HRD parameters, times, delays and filler data, and compares these too; S begins the chances. A
 stream has one sequence parameter set, and is judged with --target main-ip, which every stream of the first target is legal for. It prints each stream
@@ -45,7 +45,7 @@ def main():
     parser.add_argument("--changed", type=int, default=0)
     parser.add_argument("--seed", type=int, default=1)
     parser.add_argument("program")
-    parser.add_argument("streams", nargs="+")
+    parser.add_argument("streams", nargs="+", metavar="FILE")
     arguments = parser.parse_args()
     same, differ, broken = 0, 0, collections.Counter()
     with tempfile.TemporaryDirectory() as folder:

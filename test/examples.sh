@@ -2,9 +2,10 @@
 # Runs every example of docs/EXAMPLES.md and compares the last line that the program prints, or with --strict the first one that begins with `strict: bit`.
 # Then it runs every line of every document that begins with `$` (tools/documents.py). The status is 1 where something differs.
 #
-#   bench/examples.sh [PROGRAM]      PROGRAM is h264v on the path where it is left out
+#   test/examples.sh PROGRAM
+# shellcheck disable=SC2016 # the backquotes are those of the table
 set -u
-program=$(command -v "${1:-h264v}") || { echo "examples.sh: ${1:-h264v} is not on the path" >&2; exit 64; }
+program=$(command -v "${1:?PROGRAM}") || { echo "examples.sh: there is no $1" >&2; exit 64; }
 top=$(dirname "$0")/..
 page=$top/docs/EXAMPLES.md
 stream=$(mktemp); trap 'rm -f "$stream"' EXIT
@@ -12,8 +13,9 @@ same=0; different=0
 while IFS='|' read -r _ label _ run line _; do
   command=$(printf '%s' "$run" | sed -n 's/^ *\([a-z -]*\): .*/\1/p')
   want=$(printf '%s' "$line" | sed -n 's/^ *`\(.*\)` *$/\1/p')
-  [ -n "$command" ] && [ -n "$want" ] || continue
+  if [ -z "$command" ] || [ -z "$want" ]; then continue; fi
   printf '%s' "$run" | sed -n 's/^[^`]*`\([0-9a-f]*\)`.*/\1/p' | xxd -r -p >"$stream"
+  # shellcheck disable=SC2086 # options are words of their own
   case $command in
   *--strict) got=$("$program" $command "$stream" 2>/dev/null | grep -m 1 '^strict: bit') ;;
   *) got=$("$program" $command "$stream" 2>/dev/null | tail -n 1) ;;

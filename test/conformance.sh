@@ -1,16 +1,16 @@
 #!/bin/bash
 # Goes through a folder of streams with their expected frames, such as the suite of H.264.1, and prints a table.
 #
-#   bench/conformance.sh DIR [PROGRAM]      PROGRAM is h264v on the path where it is left out
+#   test/conformance.sh PROGRAM FOLDER
 #
 # A file is a stream if it begins with a start code, whatever its name. Its expected frames are beside it: planar YUV in a file whose name
 # begins as the stream's (.yuv, .qcif, .cif), or else the only such file of its folder; or their MD5 in a file NAME*.md5.
 # Status 1 if a stream is no yes, or its frames differ.
 set -u
-dir=${1:?DIR}
-program=${2:-h264v}
+program=${1:?PROGRAM}
+folder=${2:?FOLDER}
 work=$(mktemp -d); trap 'rm -rf "$work"' EXIT
-format='%-32s %-44s %-24s %8s\n'
+row() { printf '%-32s %-44s %-24s %8s\n' "$@"; }
 
 is_stream() {
   case $1 in *.yuv | *.qcif | *.cif | *.md5 | *.zip | *.txt | *.doc | *.pdf) return 1 ;; esac
@@ -44,7 +44,7 @@ compared() {
 }
 
 bad=0; all=0
-printf "$format" stream verdict frames seconds
+row stream verdict frames seconds
 while IFS= read -r file; do
   is_stream "$file" || continue
   all=$((all + 1))
@@ -54,7 +54,7 @@ while IFS= read -r file; do
   line=$(tail -n 1 "$work/line")
   frames=$(compared "$(expected "$file")" "$file")
   case "$line/$frames" in yes*/equal | yes*/nothing*) ;; *) bad=$((bad + 1)) ;; esac
-  printf "$format" "$(basename "$file")" "$line" "$frames" "$(awk "BEGIN { printf \"%.3f\", ($to - $from) / 1e9 }")"
-done < <(find "$dir" -type f | sort)
+  row "$(basename "$file")" "$line" "$frames" "$(awk "BEGIN { printf \"%.3f\", ($to - $from) / 1e9 }")"
+done < <(find "$folder" -type f | sort)
 echo "$all streams, $bad of them no yes or with other frames"
 [ $bad = 0 ]

@@ -1,11 +1,11 @@
 #!/usr/bin/env python3
-"""faults.py PROGRAM [STREAM..]: runs each command of PROGRAM on small streams while one thing after another goes wrong, by a library that stands in
+"""faults.py PROGRAM [FILE..]: runs each command of PROGRAM on small streams while one thing after another goes wrong, by a library that stands in
 front of the C library (faults.c).
 
 The Nth allocation is refused, for each N: `memory` and status 3, or nothing changes, where the program could do without it. The Nth read fails: `read failed` and status 4. The Nth write fails: status 4, or nothing
 changes, where what was held back before a read is written after it. What was
 written before is the front of what the stream gives without the fault, whole lines and whole frames; after a failed write it may break off anywhere. Each
-read gives one byte, each write takes one, each is interrupted first: nothing changes. With no STREAM some are made. It prints a line for each command and
+read gives one byte, each write takes one, each is interrupted first: nothing changes. With no FILE some are made. It prints a line for each command and
 stream, and ends with 1 at the first answer that is otherwise.
 
 PROGRAM is h264v or h264v-quick, whose notice is passed over. Needs a C compiler."""

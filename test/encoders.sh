@@ -1,14 +1,11 @@
 #!/usr/bin/env bash
-# encoders.sh [PROGRAM]: makes small streams by x264 (through ffmpeg) and by OpenH264 (through GStreamer), and compares what `h264v decode` writes of each with what
-# ffmpeg's own decoder gives, byte for byte. With no PROGRAM it proves and builds h264v. It prints each stream that is no yes or whose frames differ, with its options, and how many agreed.
+# encoders.sh PROGRAM: makes small streams by x264 (through ffmpeg) and by OpenH264 (through GStreamer), and compares what `h264v decode` writes of each with what
+# ffmpeg's own decoder gives, byte for byte.
+# It prints each stream that is no yes or whose frames differ, with its options, and how many agreed.
 # Main profile streams of x264 with weighted prediction are judged with --target main-ip.
 # On Debian: apt-get install ffmpeg gstreamer1.0-tools gstreamer1.0-plugins-base gstreamer1.0-plugins-bad
 set -eu
-top=$(cd "$(dirname "$0")/.." && pwd)
-program=${1:-$top/crates/h264v/out/h264v}
-if [ $# -eq 0 ]; then
-    (cd "$top/crates/h264v" && rt run -- units "$top/samples/one_frame.264" > /dev/null)
-fi
+program=${1:?PROGRAM}
 made=$(mktemp -d)
 trap 'rm -r "$made"' EXIT
 agreed=0

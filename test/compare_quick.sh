@@ -1,7 +1,7 @@
 #!/bin/sh
 # Compares h264v-quick with the proved program, of each command and option: standard output, standard error, the status, and the file of --output.
 #
-#   tools/compare_quick.sh PROGRAM QUICK FILE..
+#   test/compare_quick.sh PROGRAM QUICK FILE..
 set -u
 [ $# -ge 3 ] || { sed -n 's/^# *//p' "$0" >&2; exit 64; }
 proved=$(realpath "$1") || exit 64

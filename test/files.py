@@ -1,5 +1,5 @@
 #!/usr/bin/env python3
-"""files.py PROGRAM [--whole]: files and streams as systems have them. It prints a line for each, and ends with 1 where one is not answered as
+"""files.py [--whole] PROGRAM: files and streams as systems have them. It prints a line for each, and ends with 1 where one is not answered as
 docs/OUTPUT.md says.
 
 Input above 4 GiB, in a sparse file; with --whole also input above 2^40 bytes, whose last ones are zeros that a library in front of the C library gives
@@ -8,6 +8,7 @@ folder in its place. Output to a full disk and to a pipe that nobody reads: stat
 whole line.
 
 PROGRAM is h264v or h264v-quick. Needs a C compiler, and 4 GiB of room for names of blocks in a sparse file, but no room on the disk."""
+import argparse
 import os
 import pathlib
 import signal
@@ -179,17 +180,19 @@ def heed_signals():
         signal.signal(number, signal.SIG_DFL)
 
 
-def main(program, *words):
+def main():
+    words = argparse.ArgumentParser(description=__doc__, formatter_class=argparse.RawDescriptionHelpFormatter)
+    words.add_argument("--whole", action="store_true")
+    words.add_argument("program")
+    asked = words.parse_args()
     with tempfile.TemporaryDirectory() as folder:
-        trials = Trials(program, folder)
+        trials = Trials(asked.program, folder)
         all_of_them = [trials.pipes, trials.shrinking, trials.unreadable, trials.full_disk, trials.closed_pipe, trials.whole_writes, trials.signals]
-        all_of_them += [trials.above_4_gib] + [trials.above_2_to_40] * ("--whole" in words)
+        all_of_them += [trials.above_4_gib] + [trials.above_2_to_40] * asked.whole
         for trial in all_of_them:
             trial()
         return 1 if trials.failed else 0
 
 
 if __name__ == "__main__":
-    if len(sys.argv) < 2:
-        sys.exit(__doc__)
-    sys.exit(main(*sys.argv[1:]))
+    sys.exit(main())

@@ -1,7 +1,7 @@
 #!/usr/bin/env python3
 """Lists the functions of a crate whose proofs take most processor time. Run it in the crate's folder, with out/ removed, else what is kept there counts as free.
 
-    tools/dear.py [--test] [--most N] [--log FILE]
+    proof/times.py [--test] [--most N] [--log FILE]
 
 Proves the crate by `rt check` with one job, with its tests where --test is given, and prints the N dearest functions (40 where none is given), with the seconds
 from the line before. What is read before a function is charged to it: the first that cites a long file of lemmas seems dear. FILE gets all lines of the check,

@@ -1,9 +1,10 @@
 #!/usr/bin/env python3
-"""dearest.py PROGRAM [--command COMMAND] [CASE..]: makes the dearest streams that a level allows (streams/dear.py), judges each by PROGRAM (check), and
+"""dearest.py [--command COMMAND] PROGRAM [CASE..]: makes the dearest streams that a level allows (streams/dear.py), judges each by PROGRAM (check), and
 prints processor time a byte and a macroblock, and the greatest memory.
 
 Each case is made in two sizes, the second twice the first. The last column is the processor time of the second over that of the first: about 2 where time
 grows with the input, 4 where it grows with the input's square. It ends with 1 where an answer is not the one that the case must have."""
+import argparse
 import os
 import subprocess
 import sys
@@ -43,19 +44,17 @@ def measured(name, program, command, path):
     return right
 
 
-def main(program, *words):
-    command, names = "check", list(words)
-    if "--command" in names:
-        at = names.index("--command")
-        command = names[at + 1]
-        del names[at : at + 2]
+def main():
+    words = argparse.ArgumentParser(description=__doc__, formatter_class=argparse.RawDescriptionHelpFormatter)
+    words.add_argument("--command", default="check")
+    words.add_argument("program")
+    words.add_argument("cases", nargs="*", metavar="CASE")
+    asked = words.parse_args()
     print(f"{'case':20} {'bytes':>10} {'mbs':>8} {'seconds':>7} {'ns a byte':>10} {'ns a mb':>12} {'MiB':>7} {'ratio':>5}  answer")
     with tempfile.TemporaryDirectory() as folder:
-        right = [measured(name, program, command, f"{folder}/dear.264") for name in names or dear.CASES]
+        right = [measured(name, asked.program, asked.command, f"{folder}/dear.264") for name in asked.cases or dear.CASES]
     return 0 if all(right) else 1
 
 
 if __name__ == "__main__":
-    if len(sys.argv) < 2:
-        sys.exit(__doc__)
-    sys.exit(main(*sys.argv[1:]))
+    sys.exit(main())

@@ -1,8 +1,8 @@
 #!/usr/bin/env python3
-"""campaign.py PROGRAM [--minutes M] [--jobs N] [--seed S] [--changed C] [--keep FOLDER] [--show K] [--main-ip] [STREAM..]: judges small streams
+"""campaign.py [--minutes M] [--jobs N] [--seed S] [--changed C] [--keep FOLDER] [--show K] [--main-ip] PROGRAM [FILE..]: judges small streams
 by PROGRAM (h264v, or h264v-quick) and by other decoders.
 
-Streams are made by bench/streams, legal by construction and with every tool of the profile, and some by x264 where it is installed; STREAM adds more. Of
+Streams are made by test/streams, legal by construction and with every tool of the profile, and some by x264 where it is installed; FILE adds more. Of
 each C changed ones are made: an element with another value, the code words after it whole; bits flipped; a byte inserted; the end cut off; units lost,
 doubled and exchanged.
 
@@ -40,7 +40,7 @@ CHECK = ["check", "--strict"]
 VERDICTS = {0: "yes", 1: "no", 2: "outside"}
 LAST_LINE = re.compile(r"yes: units \d+ pictures \d+ frames \d+|no: bit \d+: (\w+) \(clause [A-E\d.]+\)|outside: bit \d+: (\w+)")
 LABELS = set(re.findall(r"^### (\w+)$", (HERE.parent / "docs" / "RULES.md").read_text().partition("\n## Further rules")[0], re.M))
-# further rules that bench/streams does not heed
+# further rules that test/streams does not heed
 UNHEEDED = {"VectorCount", "ScheduleLimits", "PictureBytes"}
 # Elements of which each value is a tool.
 TOLD_BY_VALUE = {"mb_type", "sub_mb_type", "memory_management_control_operation", "modification_of_pic_nums_idc"}
@@ -483,7 +483,7 @@ def words():
     parser.add_argument("--keep", default="campaign")
     parser.add_argument("--show", type=int, default=0)
     parser.add_argument("--main-ip", action="store_true")
-    parser.add_argument("streams", nargs="*")
+    parser.add_argument("streams", nargs="*", metavar="FILE")
     return parser.parse_intermixed_args()
 
 
