@@ -4,7 +4,7 @@
 #   test/all.sh
 #
 # It prints a line for each step, and what a step said where it failed. Status 1 where one failed.
-# Needs cargo, python3, bash, cc, pkg-config, valgrind, xxd and shellcheck.
+# Needs cargo, python3, bash, cc, pkg-config, valgrind, xxd, shellcheck and Python's jsonschema.
 set -u
 top=$(cd "$(dirname "$0")/.." && pwd)
 cd "$top" || exit 1
@@ -55,6 +55,7 @@ step 'shell scripts' shellcheck $(git ls-files '*.sh') .ci/run
 step 'completions of bash' completes
 step 'the plain program' ./quick.sh "$work"
 step 'labels of the program' lists_labels
+step 'objects and their schema' test/schema.py "$work/h264v-quick" samples
 step 'examples' test/examples.sh "$work/h264v-quick"
 # A processor that valgrind knows.
 step 'the plain library' env CPU=x86-64-v2 ./quick.sh --library "$work/prefix"

@@ -1,9 +1,10 @@
 #!/usr/bin/env python3
-"""Writes what a shell completes, from the tables of the command line (h264_words), of the rules (h264_pages) and of the further rules (h264_strict).
+"""Writes what a shell completes, and the labels of the schema, from the tables of the command line (h264_words), of the rules (h264_pages) and of the further rules (h264_strict).
 
-    tools/words.py            writes share/h264v.bash, share/_h264v and share/h264v.fish
+    tools/words.py            writes share/h264v.bash, share/_h264v and share/h264v.fish, and the labels in share/h264v.schema.json
     tools/words.py --check    says which of them is out of date, and which command or option the man page lacks or has too much; status 1 where there is one
 """
+import json
 import pathlib
 import re
 import sys
@@ -12,6 +13,7 @@ sys.dont_write_bytecode = True
 TOP = pathlib.Path(__file__).resolve().parent.parent
 SOURCE = TOP / "crates" / "h264_words" / "src" / "command_line.rt"
 MANUAL = TOP / "share" / "h264v.1"
+SCHEMA = TOP / "share" / "h264v.schema.json"
 TEXT = r'"((?:[^"\\]|\\.)*)"'
 TARGETS = "baseline main-ip"
 #: How the value of an option is completed, by the name of the value in the help: in zsh, and whether it is a file.
@@ -68,11 +70,17 @@ class Words:
         yield Option("all", None, None, re.search(rf'\.long\("all"\)[^;]*?\.help\({TEXT}\)', self.source)[1], ["explain"])
 
 
-def labels():
-    """The labels of rules, features and further rules, in the order of their tables."""
+def labels_by_kind():
+    """The labels of rules, of features and of further rules, by what the schema calls them, in the order of their tables."""
     rules = (TOP / "crates" / "h264_pages" / "src" / "rules.rt").read_text(encoding="utf-8")
     further = (TOP / "crates" / "h264_strict" / "src" / "strict_entries.rt").read_text(encoding="utf-8")
-    return [it for kind, text in (("RuleEntry", rules), ("FeatureEntry", rules), ("StrictEntry", further)) for it in re.findall(rf"{kind} \{{\s*\w+: \w+::(\w+),", text)]
+    tables = {"rule": ("RuleEntry", rules), "feature": ("FeatureEntry", rules), "further_rule": ("StrictEntry", further)}
+    return {name: re.findall(rf"{kind} \{{\s*\w+: \w+::(\w+),", text) for name, (kind, text) in tables.items()}
+
+
+def labels():
+    """All labels."""
+    return [it for some in labels_by_kind().values() for it in some]
 
 
 def for_bash(words):
@@ -154,7 +162,15 @@ def for_fish(words):
     return "\n".join(lines) + "\n"
 
 
-FILES = {TOP / "share" / "h264v.bash": for_bash, TOP / "share" / "_h264v": for_zsh, TOP / "share" / "h264v.fish": for_fish}
+def for_schema(words):
+    """The schema of the objects as it stands, with these labels."""
+    schema = json.loads(SCHEMA.read_text(encoding="utf-8"))
+    for name, some in labels_by_kind().items():
+        schema["$defs"][name]["enum"] = some
+    return json.dumps(schema, indent=2) + "\n"
+
+
+FILES = {TOP / "share" / "h264v.bash": for_bash, TOP / "share" / "_h264v": for_zsh, TOP / "share" / "h264v.fish": for_fish, SCHEMA: for_schema}
 
 
 def told_of_manual(words):
