@@ -1,7 +1,8 @@
 #!/usr/bin/env python3
-"""Lists the functions of a crate whose proofs take most processor time. Run it in the crate's folder, with out/ removed, else what is kept there counts as free.
+"""Lists the functions whose proofs take most processor time.
 
-    proof/times.py [--test] [--most N] [--log FILE]
+    proof/times.py [--test] [--most N] [--log FILE]     of the crate in this folder. With what is kept in out/ removed, else that counts as free
+    proof/times.py [--most N] --of LOG..                of several crates, by the logs of earlier calls, and what each check took in all
 
 Proves the crate by `rt check` with one job, with its tests where --test is given, and prints the N dearest functions (40 where none is given), with the seconds
 from the line before. What is read before a function is charged to it: the first that cites a long file of lemmas seems dear. FILE gets all lines of the check,
@@ -42,7 +43,41 @@ def main():
     options.add_argument("--test", action="store_true")
     options.add_argument("--most", type=int, default=40)
     options.add_argument("--log")
+    options.add_argument("--of", nargs="+", metavar="LOG")
     given = options.parse_args()
+    return told_of(given.of, given.most) if given.of else checked(given)
+
+
+def told_of(logs, most):
+    """Prints the dearest functions of these logs, and what each check took."""
+    functions, sums = [], []
+    for log in logs:
+        own, last, now = [], 0.0, 0.0
+        with open(log) as file:
+            for line in file:
+                now, line = float(line[:9]), line[10:]
+                function = CHECKED.match(line)
+                if function:
+                    own.append((now - last, function[1]))
+                if function or BEGINS.match(line):
+                    last = now
+        functions += own
+        sums.append((now, len(own), own[0][1].split("::")[0] if own else log))
+    put(functions, most)
+    print("\nin all, and functions")
+    for seconds, count, crate in sorted(sums, reverse=True):
+        print(f"{seconds:7.1f}  {count:4}  {crate}")
+    return 0
+
+
+def put(functions, most):
+    """Prints the dearest functions."""
+    for seconds, name in sorted(functions, reverse=True)[:most]:
+        print(f"{seconds:7.1f}  {name}")
+
+
+def checked(given):
+    """Proves a crate and prints its dearest functions: the check's status."""
     command = ["rt", "check", "--progress", "--jobs", "1"] + ["--test"] * given.test
     check = subprocess.Popen(command, stdout=subprocess.PIPE, stderr=subprocess.STDOUT, text=True)
     lines, functions, last = [], [], 0.0
@@ -59,8 +94,7 @@ def main():
         with open(given.log, "w") as file:
             file.writelines(lines)
     print(f"{os.times().children_user + os.times().children_system:7.1f}  the whole check")
-    for seconds, name in sorted(functions, reverse=True)[: given.most]:
-        print(f"{seconds:7.1f}  {name}")
+    put(functions, given.most)
     return status
 
 
