@@ -6,8 +6,8 @@
 #   ./install.sh --uninstall [PREFIX]               removes what an installation put there, and no folder
 #
 # The program is installed as soon as it is built, and the library after it. Each crate that was proved is told, with the time so far.
-# An installation that was broken off goes on where it stopped: what was proved stays in ${XDG_CACHE_HOME:-~/.cache}/h264v-build until all is
-# installed.
+# An installation that was broken off goes on with the crate where it stopped: what was proved stays in ${XDG_CACHE_HOME:-~/.cache}/h264v-build until
+# all is installed.
 #
 # Needs the kit's rt on the path, python3, 8 GB of memory for each processor or two, and 11 GB of disk in that folder. JOBS=N sets how many
 # processors it takes, CPU=x86-64-v2 the processor that it builds for, BUILD=FOLDER the folder in which it makes h264v-build, and KEEP=1 leaves that one.

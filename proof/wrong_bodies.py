@@ -7,9 +7,8 @@ not prove a function that the edit changes, and says so of that function itself:
 the crate as it stands is not proved, the edit is tried alone, as the gate tries those of must-fail/. With --alone each is. With --part K/N, K from 1, it takes the K-th of N parts of a crate's batches, so that several
 runs share a large crate. Standard error is told of each batch when it is done.
 
-FOLDER is a folder with the repository's crates/ and what checks left in their out/, such as KEEP=1 ./install.sh leaves in FOLDER/work; the
-repository itself where it is left out. With no CRATE it tries the edits of every crate that has some. It prints a line for each edit that is not refused,
-or only for a name in a proof or by a limit of the prover, and a count for each crate. Status 1 where an edit was not refused.
+FOLDER is a folder with the repository's crates/ and what `rt all check` left in their out/; the repository itself where it is left out. With no CRATE it
+tries the edits of every crate that has some. It prints a line for each edit that is not refused, or only for a name in a proof or by a limit of the prover, and a count for each crate. Status 1 where an edit was not refused.
 
 With --stale REV nothing is proved. It names the edits that cannot be applied to the files as they are, since an old text does not stand there once, and
 those to be tried again, since something changed after REV: the edit, a function that it turns with its contract, or a file of the crate's specs/ that the

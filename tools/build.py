@@ -5,12 +5,16 @@
 
 Builds in FOLDER, which it makes. Each CRATE is a program or a static library of this repository. Crates that don't wait for one another
 are proved side by side, on N processors: first what the first CRATE needs, and of that first the crates with the longest chain of others
-behind them. A later run in the same FOLDER goes on where this one was broken off, and proves what changed since.
+behind them. A later run in the same FOLDER goes on with the crate where this one was broken off, and proves what changed since.
+
+Each crate is proved from nothing by the kit's `rattle`, over the statements of the crates below it, as `rt ci` does. `rt lib` would read their proofs too, which in
+the upper crates takes longer than the proof of the crate itself.
 
 On standard error stands a line for each crate that was proved, with its time by the clock and its processor time. On standard output stands a line `CRATE FILE` as soon as a CRATE that was
-asked for is built. FOLDER/log/CRATE has what rt said. Status 1 where a crate was not proved.
+asked for is built. FOLDER/log/CRATE has what rattle said. Status 1 where a crate was not proved.
 """
 import argparse
+import hashlib
 import os
 import pathlib
 import shutil
@@ -20,6 +24,8 @@ import threading
 import time
 
 TOP = pathlib.Path(__file__).resolve().parent.parent
+KIT = pathlib.Path(os.path.realpath(shutil.which("rt") or "rt")).parent.parent
+RATTLE, TOOLCHAIN = KIT / "bin" / "rattle", KIT / "toolchain"
 PARTS = ("src", "specs", "proofs")
 # What a check takes of memory: at least, and for each line of the crate and of those below it, in MB.
 LEAST_MEMORY, OWN_MEMORY, BELOW_MEMORY = 1000, 0.3, 0.02
@@ -35,22 +41,29 @@ class Crate:
         self.is_static = "staticlib" in kind
         self.source = TOP / "crates" / self.name
         self.is_program = (self.source / "src" / "main.rt").is_file()
-        self.below = below.split()
-        files = [file for part in PARTS for file in (self.source / part).rglob("*") if file.suffix in (".rt", ".antt")]
-        self.lines = sum(file.read_bytes().count(b"\n") for file in files)
+        self.needs = below.split()
+        self.files = sorted(file for part in PARTS for file in (self.source / part).rglob("*") if file.suffix in (".rt", ".antt"))
+        self.lines = sum(file.read_bytes().count(b"\n") for file in self.files)
 
-    def built(self, folder):
-        """The file that is made of the crate, in a copy of the repository."""
-        name = self.name if self.is_program else f"lib{self.name}.a"
-        return folder / "crates" / self.name / "out" / name
+    def made(self):
+        """The name of what is made of the crate."""
+        return self.name if self.is_program else f"lib{self.name}.a" if self.is_static else f"{self.name}.rlib"
+
+    def sum(self):
+        """A checksum of its text."""
+        text = hashlib.sha256(self.line.encode())
+        for file in self.files:
+            text.update(f"{file.relative_to(self.source)}\0".encode() + file.read_bytes() + b"\0")
+        return text.hexdigest()
 
 
 def crates_of_repository():
-    """The crates of crates.txt by their names. Of what each stands on, only crates of the repository are listed."""
+    """The crates of crates.txt by their names, with what each names of the repository, and of the kit."""
     lines = [it.split("#")[0].strip() for it in (TOP / "crates.txt").read_text().splitlines()]
     found = {it.name: it for it in map(Crate, filter(None, lines))}
     for crate in found.values():
-        crate.below = [it for it in crate.below if it in found]
+        crate.below = [it for it in crate.needs if it in found]
+        crate.of_kit = ["std", *(it for it in crate.needs if it not in found)]
     return found
 
 
@@ -59,20 +72,8 @@ def all_below(crates, name):
     return {name}.union(*(all_below(crates, it) for it in crates[name].below))
 
 
-def copy_parts(source, to):
-    """Puts the text of a crate into a copy of it, and leaves there what earlier checks kept."""
-    for part in PARTS:
-        shutil.rmtree(to / part, ignore_errors=True)
-        if (source / part).is_dir():
-            shutil.copytree(source / part, to / part)
-
-
 class Build:
-    """What is built of some crates, and how far it is.
-
-    Each crate has a copy of the repository of its own, FOLDER/CRATE, with what it stands on: two runs of rt in one copy would wait for
-    each other. The libraries below it come into that copy as links to those that were built.
-    """
+    """What is built of some crates, and how far it is. What is made of a crate stands in FOLDER/CRATE, and beside it the checksum of all that it was made of."""
 
     def __init__(self, crates, asked):
         self.crates, self.asked, self.began = crates, asked, time.time()
@@ -101,37 +102,63 @@ class Build:
         ready = [it for it in left if set(self.crates[it].below) <= self.done]
         return sorted(ready, key=lambda it: (it not in self.first, -self.behind[it], it))
 
-    def copy_for(self, name):
-        """The copy of the repository in which a crate is proved."""
-        copy, names = self.folder / name, all_below(self.crates, name)
-        (copy / "crates").mkdir(parents=True, exist_ok=True)
-        (copy / "crates.txt").write_text("".join(f"{it.line}\n" for it in self.crates.values() if it.name in names))
-        shutil.copy(TOP / "HANDLES", copy)
-        for it in names:
-            copy_parts(self.crates[it].source, copy / "crates" / it)
-            if it != name:
-                library = copy / "crates" / it / "out" / "rlib"
-                shutil.rmtree(library, ignore_errors=True)
-                shutil.copytree(self.folder / it / "crates" / it / "out" / "rlib", library, copy_function=os.link)
-        return copy
+    def stamp(self, name):
+        """A checksum of all that a crate is made of."""
+        parts = [(KIT / "KIT-ID").read_text(), self.asked.cpu or "", *(f"{it} {self.crates[it].sum()}" for it in sorted(all_below(self.crates, name)))]
+        return hashlib.sha256("\n".join(parts).encode()).hexdigest()
 
-    def command(self, crate, jobs):
-        """The command that proves and builds a crate."""
-        words = ["--jobs", str(jobs)]
-        if self.asked.cpu and (crate.is_program or crate.is_static):
-            words += ["--cpu", self.asked.cpu]
-        return ["rt", "run", *words, "--", "--version"] if crate.is_program else ["rt", "lib", *words]
+    def words(self, crate):
+        """What rattle is told of a crate: its name, its root, and the libraries that it stands on."""
+        words = ["--crate-name", crate.name, "src/main.rt" if crate.is_program else "src/lib.rt"]
+        for name in crate.of_kit:
+            words += ["--extern", f"{name}={KIT}/rlibs/{name}.rlib"]
+        for name in crate.below:
+            words += ["--extern", f"{name}={self.folder}/{name}/{name}.rlib"]
+        words += ["-L", f"dependency={KIT}/rlibs", "--antt-project", str(KIT / "rattle" / "logic" / "antt-project.json"), "--links", f"{crate.name}="]
+        for name in sorted(all_below(self.crates, crate.name) - {crate.name}):
+            words += ["-L", f"dependency={self.folder}/{name}"]
+        if crate.is_static:
+            words += ["--crate-type", "staticlib"]
+        if self.asked.cpu and (crate.is_static or crate.is_program):
+            words += [f"--cpu={self.asked.cpu}"]
+        return words
+
+    def commands(self, crate, jobs):
+        """The commands that prove and build a crate, one after another."""
+        words, room = self.words(crate), self.folder / crate.name
+        proves = [*words, "--logic-built", str(KIT / "logic_built"), "--jobs", str(jobs)]
+        compiles = ["--toolchain", str(TOOLCHAIN), "--backend", "llvm"]
+        if crate.is_static:
+            return [[RATTLE, "build", *proves, *compiles, "-o", room / crate.made()]]
+        if not crate.is_program:
+            return [[RATTLE, "build", *proves, "--statements", "-o", room / crate.made()]]
+        links = [KIT / "bin" / "rattle-link", "--target", "x86_64-unknown-linux-gnu", "--toolchain", TOOLCHAIN, "-o", room / crate.made()]
+        return [
+            [RATTLE, "check", *proves, "-o", room / "checked"],
+            [RATTLE, "build", *words, "--crate-checked", room / "checked", *compiles, "-o", room / "program.o"],
+            [*links, room / "program.o", KIT / "c" / "libos_c.a", KIT / "c" / "liblibc_c.a"],
+        ]
 
     def built(self, crate, jobs):
-        """Proves and builds a crate: whether that went well, and the processor time that it took, in seconds."""
-        copy, log = self.copy_for(crate.name), self.folder / "log" / crate.name
+        """Proves and builds a crate, unless that was done: whether that went well, and the processor time that it took, in seconds."""
+        room, log, used = self.folder / crate.name, self.folder / "log" / crate.name, 0
+        stamp, kept = self.stamp(crate.name), self.folder / crate.name / "stamp"
+        if kept.is_file() and kept.read_text() == stamp:
+            return True, 0
+        shutil.rmtree(room, ignore_errors=True)
+        room.mkdir(parents=True)
         with open(log, "w") as said:
-            how = {"cwd": copy / "crates" / crate.name, "stdin": subprocess.DEVNULL, "stdout": said, "stderr": subprocess.STDOUT}
-            ran = subprocess.Popen(self.command(crate, jobs), **how)
-            _, status, used = os.wait4(ran.pid, 0)
-        # (a program that was built is run, and ends with a status of its own)
-        is_well = crate.built(copy).is_file() and "rt: running" in log.read_text() if crate.is_program else status == 0
-        return is_well, used.ru_utime + used.ru_stime
+            for command in self.commands(crate, jobs):
+                how = {"cwd": crate.source, "stdin": subprocess.DEVNULL, "stdout": said, "stderr": subprocess.STDOUT}
+                ran = subprocess.Popen(command, **how)
+                _, status, took = os.wait4(ran.pid, 0)
+                used += took.ru_utime + took.ru_stime
+                if status:
+                    return False, used
+        if stamp != self.stamp(crate.name) or "logic=proved " not in log.read_text():
+            return False, used
+        kept.write_text(stamp)
+        return True, used
 
     def work(self, name, jobs):
         """Proves and builds a crate, and says how that went."""
@@ -148,10 +175,10 @@ class Build:
             else:
                 self.failed.append(name)
             far = f"{len(self.done)} of {len(self.wanted)} crates after {clock(time.time() - self.began)}"
-            took = f"{clock(time.time() - began)}, {clock(used)} of processor time"
-            print(f"{far}: {name} {'proved' if is_well else 'NOT PROVED'} in {took}", file=sys.stderr, flush=True)
+            took = f"in {clock(time.time() - began)}, {clock(used)} of processor time" if used else "by an earlier run"
+            print(f"{far}: {name} {'proved' if is_well else 'NOT PROVED'} {took}", file=sys.stderr, flush=True)
             if is_well and name in self.asked.crates:
-                print(name, crate.built(self.folder / name), flush=True)
+                print(name, self.folder / name / crate.made(), flush=True)
             self.turn.notify()
 
     def begin_some(self):
@@ -203,7 +230,7 @@ def main():
     build = Build(crates, asked)
     is_well = build.run()
     for name in build.failed:
-        print(f"what rt said: {build.folder}/log/{name}", file=sys.stderr)
+        print(f"what rattle said: {build.folder}/log/{name}", file=sys.stderr)
     sys.exit(0 if is_well else 1)
 
 

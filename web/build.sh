@@ -5,8 +5,8 @@
 #
 # The library crates/h264_c is proved and built for x86-64 by the kit. Its LLVM module, as the compiler is given it, is then given another target
 # and compiled anew. The proof covers the module before that, and not the translation. Needs the kit's rt on the path, python3, and crates/h264_c
-# proved or the time for it. CRATES=FOLDER takes crates that were proved elsewhere, such as those that KEEP=1 ./install.sh leaves in
-# FOLDER/work/crates, and CPU=NAME the processor for which they were checked. MODULE=FILE takes an LLVM module that is there.
+# proved or the time for it. CRATES=FOLDER takes crates that were proved elsewhere: the crates/ of a checkout in which
+# `rt all check` ran; and CPU=NAME the processor for which they were checked. MODULE=FILE takes an LLVM module that is there.
 set -euo pipefail
 top=$(cd "$(dirname "$0")/.." && pwd)
 output=${1:-$top/web/h264v.html}
