@@ -13,7 +13,7 @@ use Rattle.h264_base.proofs.OneAnswer.{run-says, run-one}
 use Rattle.h264_verify.specs.Content.{Content}
 use Rattle.h264_verify.specs.Outcome.{Outcome, ◌>>=◌, with_calls, continued, answers, gives}
 use Rattle.h264_verify.specs.Demands.{Demand, judged}
-use Rattle.h264_verify.specs.Course.{Course, Ends, Needs, Tells, Reads, ◌>>=◌ as ◌then◌, ◌>>◌, needs, told, Runs}
+use Rattle.h264_verify.specs.Course.{Course, Ends, Needs, Tells, Reads, ◌>>=◌ as ◌then◌, needs, told, Runs}
 use Rattle.h264_verify.specs.CourseOutcome.{structure_from, outcome_of}
 
 choice-met : {A : Type 0} (b : Bool) (x y : A) → IsTrue b → (if b then x else y) ≡ x
