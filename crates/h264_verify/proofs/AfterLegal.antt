@@ -1,12 +1,11 @@
 -- What follows legal units: what the next comes to, what the end of the input comes to, and some verdict.
-use Rattle.std.proofs.Common.{◌≡◌, ℕ, ◌+◌, ◌*◌, inl, inr, List, [], ◌∷◌, ◌++◌, length, Result, Ok, Err, refl, ap, sym, ◌∙◌, subst, append_assoc, MatchResult}
+use Rattle.std.proofs.Common.{◌≡◌, ℕ, ◌+◌, ◌*◌, List, [], ◌∷◌, ◌++◌, length, Result, Ok, Err, refl, ap, sym, ◌∙◌, subst, append_assoc, MatchResult}
 use Rattle.std.proofs.lemmas.List.{append-nil}
 use Rattle.h264_base.specs.declared.rule.Rule.TheVariants.{Emulation}
 use Rattle.h264_base.specs.declared.stop.Stop.{Stop}
 use Rattle.h264_base.specs.declared.stop.Stop.TheVariants.{No}
 use Rattle.h264_base.specs.declared.summary.Summary.{Summary}
 use Rattle.h264_rbsp.specs.Emulation.{IsFault, IsFirstFault, emulation_checked}
-use Rattle.h264_rbsp.specs.Rbsp.{body_of}
 use Rattle.h264_rbsp.proofs.Told.{is-checked, none-checked, some-checked}
 use Rattle.h264_units.specs.Stream.{NalUnit, Tail, Zeros, Stray, Bare, Long, Cut, Splits}
 use Rattle.h264_verify.specs.declared.state.Extent.{Extent}
@@ -14,15 +13,14 @@ use Rattle.h264_verify.specs.Content.{Content}
 use Rattle.h264_verify.specs.History.{History, ReadUnit}
 use Rattle.h264_verify.specs.Order.{unit_course, end_steps}
 use Rattle.h264_verify.specs.Outcome.{Outcome, answers}
-use Rattle.h264_verify.specs.StepOutcome.{steps_outcome, course_outcome}
-use Rattle.h264_verify.specs.Steps.{AreMet, IsFirstStop, Runs}
+use Rattle.h264_verify.specs.CourseOutcome.{outcome_of}
+use Rattle.h264_verify.specs.Course.{Steps, Runs}
 use Rattle.h264_verify.specs.Telling.{Told}
 use Rattle.h264_verify.specs.UnitOutcome.{unit_outcome, end_outcome}
 use Rattle.h264_verify.specs.Units.{summary_of}
 use Rattle.h264_verify.specs.Verdict.{IsSound, IsLegal, IsStop, AtBytes, InCourse, in_order, AreLegal, Holds, IsStopAfter, AtNext, AtTail, AtEnd, StopsAt}
 use Rattle.h264_verify.specs.Verdict.{Verdict, remainder}
-use Rattle.h264_verify.proofs.CourseOutcome.{outcome, met-is, stop-is, either, bound, bind-stop, runs-outcome, SomeRun, some-run}
-use Rattle.h264_verify.proofs.CourseOutcome as steps
+use Rattle.h264_verify.proofs.Courses.{outcome, bound, bind-stop, runs-outcome, outcome-runs}
 use Rattle.h264_verify.proofs.DecodablePictures.{are-decodable}
 
 stopped-not : {A : Type 0} (a b : List Told) (stop : Stop) (x : A) → outcome a (Err stop) ≡ outcome b (Ok x) → ⊥
@@ -43,8 +41,8 @@ module _ (extent : Extent) (before : History) where
   legal-unit r calls l =
       bound (answers (emulation_checked r.unit.from r.unit.body)) _ [] tt _
       (ap (λ (x : Result (Unit {0}) Stop). answers x) (sym (none-checked r.unit.from r.unit.body l.sound)))
-      (bound (course_outcome (body_of r.unit) (unit_course extent before r.unit)) _ calls r.content _
-      (runs-outcome (body_of r.unit) (unit_course extent before r.unit) calls (Ok r.content) l.runs) refl)
+      (bound (outcome_of (unit_course extent before r.unit)) _ calls r.content _
+      (runs-outcome (unit_course extent before r.unit) calls (Ok r.content) l.runs) refl)
       ∙ ap (λ c. outcome c (Ok (r ∷ before))) (append-nil calls)
 
   module _ (unit : NalUnit) where
@@ -58,8 +56,7 @@ module _ (extent : Extent) (before : History) where
     stop-unit stop calls (InCourse sound runs) =
         bound (answers (emulation_checked unit.from unit.body)) _ [] tt _
         (ap (λ (x : Result (Unit {0}) Stop). answers x) (sym (none-checked unit.from unit.body sound)))
-        (bind-stop (course_outcome (body_of unit) (unit_course extent before unit)) _ calls stop
-        (runs-outcome (body_of unit) (unit_course extent before unit) calls (Err stop) runs))
+        (bind-stop (outcome_of (unit_course extent before unit)) _ calls stop (runs-outcome (unit_course extent before unit) calls (Err stop) runs))
 
     -- It is legal, or the verdict falls at it.
     data Either : Type 0 where
@@ -69,14 +66,13 @@ module _ (extent : Extent) (before : History) where
     either-unit : Either
     either-unit = by (emulation_checked unit.from unit.body) (is-checked unit.from unit.body)
       where
-        course : IsSound unit → (calls : List Told) (a : Result Content Stop) → Runs (body_of unit) (unit_course extent before unit) calls a → Either
+        course : IsSound unit → (calls : List Told) (a : Result Content Stop) → Runs (unit_course extent before unit) calls a → Either
         course sound calls (Ok found) runs = Legal found calls (record { sound = sound; runs = runs })
         course sound calls (Err stop) runs = Fails stop calls (InCourse sound runs)
 
         by : (r : Result (Unit {0}) Stop) → MatchResult r (λ _. (place : ℕ) → IsFault unit.body place → ⊥)
             (λ stop. (place : ℕ) × (stop ≡ No (8 * (unit.from + place)) Emulation) × IsFirstFault unit.body place) → Either
-        by (Ok x) f = let r : SomeRun (body_of unit) (unit_course extent before unit) = some-run (body_of unit) (unit_course extent before unit) in
-            course f r.calls r.answer r.runs
+        by (Ok x) f = let c = unit_course extent before unit in course f (outcome_of c).calls (outcome_of c).answer (outcome-runs c)
         by (Err stop) f = Fails stop [] (AtBytes f.0 f.2 f.1 refl)
 
     -- So one that comes to these calls and joins is legal with them.
@@ -113,47 +109,46 @@ module _ (extent : Extent) (before : History) where
 
   -- ---- the end of the input
   module _ (bit : ℕ) where
-    pub met-end : (calls : List Told) → AreMet (end_steps extent.depth before bit) calls →
-        end_outcome extent.depth before bit ≡ outcome calls (Ok (summary_of extent.depth before))
+    abbrev end : Steps
+    end = end_steps extent.depth before bit
+
+    pub met-end : (calls : List Told) → Runs end calls (Ok tt) → end_outcome extent.depth before bit ≡ outcome calls (Ok (summary_of extent.depth before))
     unfolding end_outcome
-    met-end calls h = bound (steps_outcome (end_steps extent.depth before bit)) _ calls tt _ (met-is (end_steps extent.depth before bit) calls h) refl ∙
+    met-end calls h = bound (outcome_of end) _ calls tt _ (runs-outcome end calls (Ok tt) h) refl ∙
         ap (λ l. outcome l (Ok (summary_of extent.depth before))) (append-nil calls)
 
-    pub unmet-end : (calls : List Told) (stop : Stop) → IsFirstStop (end_steps extent.depth before bit) calls stop →
-        end_outcome extent.depth before bit ≡ outcome calls (Err stop)
+    pub unmet-end : (calls : List Told) (stop : Stop) → Runs end calls (Err stop) → end_outcome extent.depth before bit ≡ outcome calls (Err stop)
     unfolding end_outcome
-    unmet-end calls stop h = bind-stop (steps_outcome (end_steps extent.depth before bit)) _ calls stop
-        (stop-is (end_steps extent.depth before bit) calls stop h)
+    unmet-end calls stop h = bind-stop (outcome_of end) _ calls stop (runs-outcome end calls (Err stop) h)
 
     -- So its rules are met where it comes to a summary,
     pub record Ended (calls : List Told) (summary : Summary) : Type 0 where
-      pub met : AreMet (end_steps extent.depth before bit) calls
+      pub met : Runs end calls (Ok tt)
       pub summary_is : summary ≡ summary_of extent.depth before
 
     pub ended : (calls : List Told) (summary : Summary) → end_outcome extent.depth before bit ≡ outcome calls (Ok summary) → Ended calls summary
-    ended calls summary e = by (either (end_steps extent.depth before bit))
+    ended calls summary e = by (outcome_of end).calls (outcome_of end).answer (outcome-runs end)
       where
-        by : steps.Either (end_steps extent.depth before bit) → Ended calls summary
-        by (inr h) = absurd (stopped-not h.0 calls h.1 summary (sym (unmet-end h.0 h.1 h.2) ∙ e))
-        by (inl h) =
+        by : (cs : List Told) (a : Result (Unit {0}) Stop) → Runs end cs a → Ended calls summary
+        by cs (Err stop) h = absurd (stopped-not cs calls stop summary (sym (unmet-end cs stop h) ∙ e))
+        by cs (Ok x) h =
             let whole : Summary = summary_of extent.depth before in
-            let same : outcome h.0 (Ok whole) ≡ outcome calls (Ok summary) = sym (met-end h.0 h.1) ∙ e in
+            let same : outcome cs (Ok whole) ≡ outcome calls (Ok summary) = sym (met-end cs h) ∙ e in
             record {
-              met = subst (AreMet (end_steps extent.depth before bit)) (ap (λ (o : Outcome Summary). o.calls) same) h.1;
+              met = subst (λ (l : List Told). Runs end l (Ok tt)) (ap (λ (o : Outcome Summary). o.calls) same) h;
               summary_is = sym (ok-same whole summary (ap (λ (o : Outcome Summary). o.answer) same));
             }
 
     -- and else there is a first that is not.
-    pub unended : (calls : List Told) (stop : Stop) → end_outcome extent.depth before bit ≡ outcome calls (Err stop) →
-        IsFirstStop (end_steps extent.depth before bit) calls stop
-    unended calls stop e = by (either (end_steps extent.depth before bit))
+    pub unended : (calls : List Told) (stop : Stop) → end_outcome extent.depth before bit ≡ outcome calls (Err stop) → Runs end calls (Err stop)
+    unended calls stop e = by (outcome_of end).calls (outcome_of end).answer (outcome-runs end)
       where
-        by : steps.Either (end_steps extent.depth before bit) → IsFirstStop (end_steps extent.depth before bit) calls stop
-        by (inl h) = absurd (stopped-not calls h.0 stop (summary_of extent.depth before) (sym e ∙ met-end h.0 h.1))
-        by (inr h) =
-            let same : outcome h.0 (Err h.1) ≡ outcome calls (Err stop) = sym (unmet-end h.0 h.1 h.2) ∙ e in
-            subst (IsFirstStop (end_steps extent.depth before bit) calls) (err-same h.1 stop (ap (λ (o : Outcome Summary). o.answer) same))
-            (subst (λ (l : List Told). IsFirstStop (end_steps extent.depth before bit) l h.1) (ap (λ (o : Outcome Summary). o.calls) same) h.2)
+        by : (cs : List Told) (a : Result (Unit {0}) Stop) → Runs end cs a → Runs end calls (Err stop)
+        by cs (Ok x) h = absurd (stopped-not calls cs stop (summary_of extent.depth before) (sym e ∙ met-end cs h))
+        by cs (Err other) h =
+            let same : outcome cs (Err other) ≡ outcome calls (Err stop) = sym (unmet-end cs other h) ∙ e in
+            subst (λ (s : Stop). Runs end calls (Err s)) (err-same other stop (ap (λ (o : Outcome Summary). o.answer) same))
+            (subst (λ (l : List Told). Runs end l (Err other)) (ap (λ (o : Outcome Summary). o.calls) same) h)
 
 -- ---- the stream
 
@@ -172,7 +167,7 @@ after-more {extent} {bytes} told more v = record {
 
 module _ (extent : Extent) (bytes : List ℕ) where
   pub holds-after : (before : History) (told last : List Told) → AreLegal extent before told → Splits 0 bytes (in_order before []) Zeros →
-      AreMet (end_steps extent.depth before (8 * length bytes)) last → Holds extent bytes (told ++ last) (summary_of extent.depth before)
+      Runs (end_steps extent.depth before (8 * length bytes)) last (Ok tt) → Holds extent bytes (told ++ last) (summary_of extent.depth before)
   holds-after before told last l s h = record {
     units = before;
     stream = s;
@@ -202,8 +197,11 @@ module _ (extent : Extent) (bytes : List ℕ) where
 
     -- the verdict at the end, with what the end tells
     pub after-end : Splits 0 bytes (in_order before []) Zeros → SomeAfter extent bytes (told ++ (end_outcome extent.depth before (8 * length bytes)).calls)
-    after-end s = by (either (end_steps extent.depth before (8 * length bytes)))
+    after-end s = by (outcome_of steps).calls (outcome_of steps).answer (outcome-runs steps)
       where
+        steps : Steps
+        steps = end_steps extent.depth before (8 * length bytes)
+
         end : Outcome Summary
         end = end_outcome extent.depth before (8 * length bytes)
 
@@ -216,10 +214,11 @@ module _ (extent : Extent) (bytes : List ℕ) where
               (ap (λ (o : Outcome Summary). told ++ o.calls) (sym e) ∙ sym (append-nil (told ++ end.calls))) v;
         }
 
-        by : steps.Either (end_steps extent.depth before (8 * length bytes)) → SomeAfter extent bytes (told ++ end.calls)
-        by (inl h) = with_end h.0 (Ok (summary_of extent.depth before)) (met-end extent before (8 * length bytes) h.0 h.1)
-            (holds-after before told h.0 legal s h.1)
-        by (inr h) = with_end h.0 (Err h.1) (unmet-end extent before (8 * length bytes) h.0 h.1 h.2) (stops-after [] Zeros h.0 h.1 s (AtEnd refl refl h.2))
+        by : (cs : List Told) (a : Result (Unit {0}) Stop) → Runs steps cs a → SomeAfter extent bytes (told ++ end.calls)
+        by cs (Ok x) h = with_end cs (Ok (summary_of extent.depth before)) (met-end extent before (8 * length bytes) cs h)
+            (holds-after before told cs legal s h)
+        by cs (Err stop) h = with_end cs (Err stop) (unmet-end extent before (8 * length bytes) cs stop h)
+            (stops-after [] Zeros cs stop s (AtEnd refl refl h))
 
     at-stop : (tail : Tail) (stop : Stop) → Splits 0 bytes (in_order before []) tail → IsStopAfter extent before (remainder [] tail (length bytes)) stop [] →
         SomeAfter extent bytes told

@@ -1,8 +1,7 @@
 -- What derives for the target Baseline derives for MainIP, with the same elements and values.
-use Rattle.std.proofs.Common.{◌≡◌, ℕ, ◌*◌, ◌==◌, ◌||◌, ◌&&◌, Bool, true, false, List, [], ◌∷◌, ◌++◌, length, Result, Ok, Err, refl, ap, sym, ◌∙◌, subst, inl}
+use Rattle.std.proofs.Common.{◌≡◌, ℕ, ◌==◌, ◌||◌, ◌&&◌, Bool, true, false, List, [], ◌∷◌, ◌++◌, Result, Ok, Err, refl, ap, sym, ◌∙◌, subst, inl}
 use Rattle.std.proofs.Common.{inr, if◌then◌else◌}
 use Rattle.h264_verify.specs.declared.state.Depth.{Depth}
-use Rattle.h264_base.specs.declared.mode.Target.{Target}
 use Rattle.h264_base.specs.declared.mode.Target.TheVariants.{Baseline, MainIP}
 use Rattle.h264_base.specs.declared.rule.Rule.{Rule}
 use Rattle.h264_base.specs.declared.stop.Stop.{Stop}
@@ -17,14 +16,14 @@ use Rattle.h264_sps.specs.Sps.{is_judged_profile, profile_and_level, sps}
 use Rattle.h264_pps.specs.Pps.{weighted_pred, weighted_bipred, pps}
 use Rattle.h264_units.specs.Stream.{NalUnit}
 use Rattle.h264_rbsp.specs.Rbsp.{body_of}
-use Rattle.h264_verify.specs.Telling.{Told, Said}
+use Rattle.h264_verify.specs.Telling.{Told}
 use Rattle.h264_verify.specs.Content.{Content}
-use Rattle.h264_verify.specs.Steps.{Step, Tells, needs, Course, Takes, Reads, Runs}
+use Rattle.h264_verify.specs.Course.{Course, Ends, Needs, Tells, Reads, Steps, ◌>>=◌ as ◌then◌, ◌>>◌, Runs}
 use Rattle.h264_units.specs.UnitHeader.{header_of, nal_unit_type}
-use Rattle.h264_verify.specs.Order.{header_demands, closing_at, whole_at, content, content_steps, data_course, frames_at, unit_course}
+use Rattle.h264_verify.specs.Order.{content, unit_course}
 use Rattle.h264_verify.specs.History.{History}
 use Rattle.h264_base.specs.declared.summary.Summary.{Summary}
-use Rattle.h264_verify.specs.Units.{extent_at, other_content, unit_call}
+use Rattle.h264_verify.specs.Units.{extent_at, other_content}
 use Rattle.h264_verify.specs.Verdict.{AreLegal, Holds}
 
 -- where the first structure gives a value, the second runs as it does
@@ -131,47 +130,29 @@ module _ (depth : Depth) where
       let other = f.same body i v j (ap (λ (r : Run A). r.answer) one) ∙ one in
       subst (λ (r : Run A). Says g' body i r.elements r.answer) other (run-says g' body i)
 
-  -- a course with another rest
-  takes-follows : (body : Body) (steps : List Step) (one other : Course) (c : Content) →
-      ((calls : List Told) → Runs body one calls (Ok c) → Runs body other calls (Ok c)) → (calls : List Told) → Runs body (Takes steps one) calls (Ok c) →
-      Runs body (Takes steps other) calls (Ok c)
-  takes-follows body steps one other c h calls (inl r) = inl (r.0, r.1, r.2, h r.1 r.3, r.4)
-  takes-follows body steps one other c h calls (inr r) = absurd (let e = r.2 in cc)
+  -- where the first course comes to an end with a value, the second does, with the same calls
+  abbrev CourseFollows : {A : Type 0} → Course A → Course A → Type 0
+  CourseFollows {A} c d = (calls : List Told) (x : A) → Runs c calls (Ok x) → Runs d calls (Ok x)
 
-  reads-follows : (body : Body) {g g' : Grammar Content} (next : Content → ℕ → Course) (c : Content) → Follows g g' →
-      (calls : List Told) → Runs body (Reads g 0 next) calls (Ok c) → Runs body (Reads g' 0 next) calls (Ok c)
-  reads-follows body next c f calls (inl r) = inl (r.0, r.1, r.2, r.3, says-follows f body 0 r.0 r.1 r.2 r.4, r.5, r.6)
-  reads-follows body next c f calls (inr r) = absurd (let e = r.4 in cc)
+  steps-follow : {A : Type 0} (steps : Steps) (c d : Course A) → CourseFollows c d → CourseFollows (steps >> c) (steps >> d)
+  unfolding ◌then◌
+  steps-follow (Ends u) c d h calls x r = h calls x r
+  steps-follow (Needs e steps) c d h calls x (inl r) = inl (r.0, steps-follow steps c d h calls x r.1)
+  steps-follow (Needs e steps) c d h calls x (inr r) = inr r
+  steps-follow (Tells t steps) c d h calls x r = (r.0, r.1, steps-follow steps c d h r.0 x r.2)
+  steps-follow (Reads body bit g next) c d h calls x (inl r) = inl (r.0, r.1, r.2, r.3, r.4, steps-follow (next r.1 r.2) c d h r.3 x r.5, r.6)
+  steps-follow (Reads body bit g next) c d h calls x (inr r) = inr r
 
-  -- the parts of a unit's course
-  abbrev byte_steps : NalUnit → List Step
-  byte_steps unit = needs (header_demands (8 * unit.from) (header_of unit))
+  reads-follow : {A : Type 0} (body : Body) {g g' : Grammar Content} (next : Content → ℕ → Course A) → Follows g g' →
+      CourseFollows (Reads body 0 g next) (Reads body 0 g' next)
+  reads-follow body next f calls x (inl r) = inl (r.0, r.1, r.2, r.3, says-follows f body 0 r.0 r.1 r.2 r.4, r.5, r.6)
+  reads-follow body next f calls x (inr r) = absurd (let e = r.4 in cc)
 
-  abbrev said_steps : NalUnit → List Step
-  said_steps unit = Tells (Said (unit_call unit.from (header_of unit) (length unit.body))) ∷ []
-
-  abbrev ending_steps : History → NalUnit → List Step
-  ending_steps before unit = whole_at depth (nal_unit_type (header_of unit)) before ++
-      (needs (closing_at (nal_unit_type (header_of unit)) before) ++ frames_at depth (nal_unit_type (header_of unit)) before)
-
-  abbrev after_content : History → NalUnit → Content → ℕ → Course
-  after_content before unit found bit = Takes (content_steps depth before unit found) (data_course depth before unit found bit)
-
-  abbrev read_for : Target → History → NalUnit → Course
-  read_for target before unit = Reads (content (extent_at depth target) (nal_unit_type (header_of unit)) before unit) 0 (after_content before unit)
-
-  unit-follows : (before : History) (unit : NalUnit) (c : Content) (calls : List Told) →
-      Runs (body_of unit) (unit_course (extent_at depth Baseline) before unit) calls (Ok c) →
-      Runs (body_of unit) (unit_course (extent_at depth MainIP) before unit) calls (Ok c)
-  unit-follows before unit c calls r =
-      let body = body_of unit in
-      let ended : Target → Course = λ target. Takes (ending_steps before unit) (read_for target before unit) in
-      let told : Target → Course = λ target. Takes (said_steps unit) (ended target) in
-      takes-follows body (byte_steps unit) (told Baseline) (told MainIP) c
-      (takes-follows body (said_steps unit) (ended Baseline) (ended MainIP) c
-      (takes-follows body (ending_steps before unit) (read_for Baseline before unit) (read_for MainIP before unit) c
-      (reads-follows body (after_content before unit) c (content-follows (nal_unit_type (header_of unit)) before unit))))
-      calls r
+  unit-follows : (before : History) (unit : NalUnit) →
+      CourseFollows (unit_course (extent_at depth Baseline) before unit) (unit_course (extent_at depth MainIP) before unit)
+  unit-follows before unit =
+      steps-follow _ _ _ (steps-follow _ _ _ (steps-follow _ _ _
+      (reads-follow (body_of unit) _ (content-follows (nal_unit_type (header_of unit)) before unit))))
 
   legal-follows : (units : History) (calls : List Told) → AreLegal (extent_at depth Baseline) units calls → AreLegal (extent_at depth MainIP) units calls
   legal-follows [] calls l = l
@@ -179,7 +160,7 @@ module _ (depth : Depth) where
     l.0,
     l.1,
     legal-follows before l.0 l.2,
-    record { sound = l.3.sound; runs = unit-follows before r.unit r.content l.1 l.3.runs },
+    record { sound = l.3.sound; runs = unit-follows before r.unit l.1 r.content l.3.runs },
     l.4,
   )
 

@@ -1,5 +1,5 @@
 -- What the verdict says of predictions and of the buffer, at each picture of a stream.
-use Rattle.std.proofs.Common.{◌≡◌, ℕ, Bool, true, false, List, [], ◌∷◌, ◌++◌, refl, sym, ◌∙◌, subst, arith, append_assoc}
+use Rattle.std.proofs.Common.{◌≡◌, ℕ, Bool, true, false, List, [], ◌∷◌, ◌++◌, refl, sym, ◌∙◌, subst, arith, append_assoc, Ok}
 use Rattle.h264_verify.specs.Units.{extent_at}
 use Rattle.h264_base.specs.declared.mode.Target.{Target}
 use Rattle.h264_verify.specs.declared.state.Depth.{Depth}
@@ -7,7 +7,7 @@ use Rattle.h264_verify.specs.declared.state.Depth.TheVariants as depths
 use Rattle.h264_base.specs.declared.summary.Summary.{Summary}
 use Rattle.h264_verify.specs.Telling.{Told}
 use Rattle.h264_verify.specs.History.{History}
-use Rattle.h264_verify.specs.Steps.{AreMet}
+use Rattle.h264_verify.specs.Course.{Runs}
 use Rattle.h264_verify.specs.Order.{end_steps}
 use Rattle.h264_verify.specs.Pictures.{CodedPicture, goes_on, held_in, runs_of, ended_pictures}
 use Rattle.h264_verify.specs.Buffering.{within_newest}
@@ -68,7 +68,7 @@ module _ (target : Target) (before : History) (told : List Told) (l : AreLegal (
 -- ---- of a stream whose end is legal too
 
 module _ (target : Target) (units : History) (first last : List Told) (bit : ℕ) (l : AreLegal (extent_at depths.Full target) units first)
-    (end : AreMet (end_steps depths.Full units bit) last) where
+    (end : Runs (end_steps depths.Full units bit) last (Ok tt)) where
   is-decodable : (later : List CodedPicture) (p : CodedPicture) (ps : List CodedPicture) → runs_of units ≡ later ++ p ∷ ps → IsDecodable p ps
   is-decodable later p ps e = record {
     predicted = legal-predicted target units first l later p ps e;
@@ -84,7 +84,7 @@ module _ (target : Target) (units : History) (first last : List Told) (bit : ℕ
 
 -- its pictures, where slice data are read
 pub are-decodable : (depth : Depth) (target : Target) (units : History) (first last : List Told) (bit : ℕ) → AreLegal (extent_at depth target) units first →
-    AreMet (end_steps depth units bit) last → AreDecodable depth (runs_of units)
+    Runs (end_steps depth units bit) last (Ok tt) → AreDecodable depth (runs_of units)
 are-decodable depths.Units target units first last bit l e = tt
 are-decodable depths.Headers target units first last bit l e = tt
 are-decodable depths.Full target units first last bit l e = each-decodable target units first last bit l e [] (runs_of units) refl

@@ -25,9 +25,9 @@ use Rattle.h264_verify.specs.Outcome.{Outcome, answers, gives, Plays}
 use Rattle.h264_verify.specs.Order.{whole_picture}
 use Rattle.h264_base.specs.declared.stop.Stop.TheVariants.{No}
 use Rattle.h264_base.specs.declared.rule.Rule.TheVariants.{Incomplete}
-use Rattle.h264_verify.specs.Steps.{Step}
+use Rattle.h264_verify.specs.Course.{Steps, nothing, ◌>>=◌}
 use Rattle.h264_dpb.specs.Ending.{ended_of}
-use Rattle.h264_verify.specs.StepOutcome.{steps_outcome}
+use Rattle.h264_verify.specs.CourseOutcome.{outcome_of}
 use Rattle.h264_verify.specs.Framing.{EndsFrames, closing}
 use Rattle.h264_verify.proofs.FamiliesAgree.{agree-none}
 use Rattle.h264_verify.proofs.OutcomesPlayed.{gives-plays}
@@ -50,10 +50,10 @@ is-open true (p ∷ ps) kept o e h k = record { p = p; ps = ps; goes = refl; are
 -- nothing goes on
 pub none-open : (on : Bool) (pictures : List CodedPicture) (kept : Option OpenPicture) → kept ≡ None → HoldsOpen (open_of on pictures) kept →
     (frames : Family) (d : Decoder) → KeepsFrames frames on false pictures d → KeepsFrames frames on true pictures d ×
-    ((if on then end_frames depths.Full pictures else []) ≡ [])
+    ((if on then end_frames depths.Full pictures else nothing) ≡ nothing)
 none-open on [] kept e h frames d k = (record { format = tt; output = k.output; picture = k.picture }, by on)
   where
-    by : (b : Bool) → (if b then end_frames depths.Full [] else []) ≡ []
+    by : (b : Bool) → (if b then end_frames depths.Full [] else nothing) ≡ nothing
     by true = refl
     by false = refl
 none-open true (p ∷ ps) kept e h frames d k = absurd (subst (HoldsOpen (Some p)) e h)
@@ -108,14 +108,14 @@ module _ {S : Type 0} (took : S → List Call → Type 0) (failures : S → ℕ)
   where
     pub ends-open : (on : Bool) (pictures : List CodedPicture) (o : OpenPicture) (i : IsOpen on pictures o) →
         EndsFrames depths.Full (frame_span took failures frames s s') (closing true true (i.p ∷ i.ps))
-        (steps_outcome (end_frames depths.Full (i.p ∷ i.ps))) new r →
+        (outcome_of (end_frames depths.Full (i.p ∷ i.ps))) new r →
         EndsFrames depths.Full (frame_span took failures frames s s') (closing on true pictures)
-        (steps_outcome (if on then end_frames depths.Full pictures else [])) new r
+        (outcome_of (if on then end_frames depths.Full pictures else nothing)) new r
     ends-open on pictures o i h =
         subst (λ (b : Bool). EndsFrames depths.Full (frame_span took failures frames s s') (closing b true pictures)
-        (steps_outcome (if b then end_frames depths.Full pictures else [])) new r) (sym i.goes)
+        (outcome_of (if b then end_frames depths.Full pictures else nothing)) new r) (sym i.goes)
         (subst (λ (ps : List CodedPicture). EndsFrames depths.Full (frame_span took failures frames s s') (closing true true ps)
-        (steps_outcome (end_frames depths.Full ps)) new r) (sym i.are) h)
+        (outcome_of (end_frames depths.Full ps)) new r) (sym i.are) h)
 
 pub keeps-open : (frames : Family) (on : Bool) (pictures : List CodedPicture) (o : OpenPicture) (d : Decoder) (i : IsOpen on pictures o) →
     KeepsFrames frames on false pictures d → KeepsFrames frames true false (i.p ∷ i.ps) d
@@ -127,28 +127,29 @@ is-met : (b : Bool) (bit : ℕ) → answers {A = Unit {0}} (Ok tt) ≡ (if b the
 is-met true bit e = refl
 is-met false bit e = let r : ◌≡◌ {A = Result (Unit {0}) Stop} (Ok tt) (Err (No bit Incomplete)) = ap (λ (o : Outcome (Unit {0})). o.answer) e in cc
 
-whole-of : (p : CodedPicture) (ps : List CodedPicture) → answers {A = Unit {0}} (Ok tt) ≡ steps_outcome (whole_picture (p ∷ ps)) →
+whole-of : (p : CodedPicture) (ps : List CodedPicture) → answers {A = Unit {0}} (Ok tt) ≡ outcome_of (whole_picture (p ∷ ps)) →
     length (last_slice p).macroblocks ≡ picture_size p.first.sps
 whole-of p ps e = eqb-true _ _ (is-met (length (last_slice p).macroblocks == picture_size p.first.sps) (bit_after (last_slice p).unit) e)
 
 -- all its macroblocks are coded
 pub is-whole : (on : Bool) (pictures : List CodedPicture) (o : OpenPicture) (i : IsOpen on pictures o) → answers {A = Unit {0}} (Ok tt) ≡
-    steps_outcome (if on then whole_picture pictures else []) → length (last_slice i.p).macroblocks ≡ picture_size i.p.first.sps
+    outcome_of (if on then whole_picture pictures else nothing) → length (last_slice i.p).macroblocks ≡ picture_size i.p.first.sps
 is-whole on pictures o i e =
-    whole-of i.p i.ps (subst (λ (ps : List CodedPicture). answers {A = Unit {0}} (Ok tt) ≡ steps_outcome (whole_picture ps)) i.are
-    (subst (λ (b : Bool). answers {A = Unit {0}} (Ok tt) ≡ steps_outcome (if b then whole_picture pictures else [])) i.goes e))
+    whole-of i.p i.ps (subst (λ (ps : List CodedPicture). answers {A = Unit {0}} (Ok tt) ≡ outcome_of (whole_picture ps)) i.are
+    (subst (λ (b : Bool). answers {A = Unit {0}} (Ok tt) ≡ outcome_of (if b then whole_picture pictures else nothing)) i.goes e))
 
 -- nothing ends
 pub none-ends : {S : Type 0} (took : S → List Call → Type 0) (failures : S → ℕ) (frames : Family) (d : Decoder) (s : S) (on : Bool)
     (pictures : List CodedPicture) (kept : Option OpenPicture) → kept ≡ None → HoldsOpen (open_of on pictures) kept → KeepsFrames frames on false pictures d →
-    EndsFrames depths.Full (frame_span took failures frames s s) (closing on true pictures) (steps_outcome (if on then end_frames depths.Full pictures else []))
+    EndsFrames depths.Full (frame_span took failures frames s s) (closing on true pictures)
+    (outcome_of (if on then end_frames depths.Full pictures else nothing))
     (Some d) (Ok tt)
 none-ends took failures frames d s on pictures kept e h k =
     let n = none-open on pictures kept e h frames d k in
     record {
       made = frames;
       same = agree-none _ frames;
-      plays = subst (λ (steps : List Step). Plays (span (took_with frames took) failures s s) (λ (x : Unit {0}). x) (steps_outcome steps) (Ok tt)) (sym n.1)
+      plays = subst (λ (steps : Steps). Plays (span (took_with frames took) failures s s) (λ (x : Unit {0}). x) (outcome_of steps) (Ok tt)) (sym n.1)
           (gives-plays (took_with frames took) failures (λ (x : Unit {0}). x) tt s);
       keeps = full-made _ depths.Full d refl n.0;
     }
@@ -165,7 +166,8 @@ few-end slices o decoder e k h =
 
 -- ---- where no frames are made
 
-quiet-steps : (m : Depth) → MakesNone m → (on : Bool) (pictures : List CodedPicture) → (if on then end_frames m pictures else []) ≡ []
+quiet-steps : (m : Depth) → MakesNone m → (on : Bool) (pictures : List CodedPicture) → (if on then end_frames m pictures else nothing) ≡ nothing
+unfolding ◌>>=◌
 quiet-steps depths.Units q true [] = refl
 quiet-steps depths.Units q true (p ∷ ps) = refl
 quiet-steps depths.Units q false pictures = refl
@@ -178,15 +180,15 @@ pub quiet-ends : {S : Type 0} (depth : Depth) → MakesNone depth →
     (took : S → List Call → Type 0) (failures : S → ℕ) (frames : Family) (decoder : Option Decoder) → decoder ≡ None →
     (s : S) (on ends : Bool) (pictures : List CodedPicture) →
     EndsFrames depth (frame_span took failures frames s s) (closing on ends pictures)
-    (steps_outcome (if ends then (if on then end_frames depth pictures else []) else [])) decoder (Ok tt)
+    (outcome_of (if ends then (if on then end_frames depth pictures else nothing) else nothing)) decoder (Ok tt)
 quiet-ends depth q took failures frames decoder n s on ends pictures = record {
   made = frames;
   same = agree-none _ frames;
-  plays = subst (λ (steps : List Step). Plays (span (took_with frames took) failures s s) (λ (x : Unit {0}). x) (steps_outcome steps) (Ok tt))
+  plays = subst (λ (steps : Steps). Plays (span (took_with frames took) failures s s) (λ (x : Unit {0}). x) (outcome_of steps) (Ok tt))
       (sym (none ends)) (gives-plays (took_with frames took) failures (λ (x : Unit {0}). x) tt s);
   keeps = quiet-made _ depth decoder n q;
 }
   where
-    none : (b : Bool) → (if b then (if on then end_frames depth pictures else []) else []) ≡ []
+    none : (b : Bool) → (if b then (if on then end_frames depth pictures else nothing) else nothing) ≡ nothing
     none true = quiet-steps depth q on pictures
     none false = refl

@@ -10,7 +10,8 @@ use Rattle.h264_verify.specs.Pictures.{CodedPicture, last_slice, picture_size, o
 use Rattle.h264_verify.specs.Order.{whole_picture, coded_before}
 use Rattle.h264_verify.specs.Keeping.{HoldsCoded, HoldsNewest, HoldsOpen}
 use Rattle.h264_verify.specs.Outcome.{answers}
-use Rattle.h264_verify.specs.StepOutcome.{steps_outcome}
+use Rattle.h264_verify.specs.Course.{nothing}
+use Rattle.h264_verify.specs.CourseOutcome.{outcome_of}
 use Rattle.h264_verify.specs.declared.picture.OpenPicture.{OpenPicture}
 
 -- A slice that goes on has as many macroblocks before it as are kept.
@@ -30,14 +31,14 @@ checked-outcome false stop r h = ap (λ (x : Result (Unit {0}) Stop). answers x)
 pub whole-outcome : (on : Bool) (pictures : List CodedPicture) (picture : Option OpenPicture) (o : OpenPicture) (work : Work) (whole : Bool) → picture ≡
     Some o → HoldsOpen (open_of on pictures) picture → HoldsCoded (open_of on pictures) work →
     ((width size : ℕ) (ms : List CodedMacroblock) → HoldsMacroblocks width size ms work → whole ≡ (length ms == size)) →
-    (if whole then answers (Ok tt) else answers (Err (No o.following Incomplete))) ≡ steps_outcome (if on then whole_picture pictures else [])
+    (if whole then answers (Ok tt) else answers (Err (No o.following Incomplete))) ≡ outcome_of (if on then whole_picture pictures else nothing)
 whole-outcome on [] picture o work whole e h k c = absurd (subst (HoldsOpen None) e h)
 whole-outcome false (p ∷ pictures) picture o work whole e h k c = absurd (subst (HoldsOpen None) e h)
 whole-outcome true (p ∷ pictures) picture o work whole e h k c =
     rw ((subst (HoldsOpen (Some p)) e h).following, c p.first.sps.frame_size.width (picture_size p.first.sps) (last_slice p).macroblocks k) refl
 
 pub none-whole : (on : Bool) (pictures : List CodedPicture) (picture : Option OpenPicture) → picture ≡ None → HoldsOpen (open_of on pictures) picture →
-    answers {A = Unit {0}} (Ok tt) ≡ steps_outcome (if on then whole_picture pictures else [])
+    answers {A = Unit {0}} (Ok tt) ≡ outcome_of (if on then whole_picture pictures else nothing)
 none-whole true [] picture e h = refl
 none-whole false [] picture e h = refl
 none-whole true (p ∷ pictures) picture e h = absurd (subst (HoldsOpen (Some p)) e h)

@@ -1,5 +1,5 @@
 -- The level of a set has a place for a frame of its size at least: MaxDpbFrames is not 0 (A.3.1, Table A-1).
-use Rattle.std.proofs.Common.{◌≡◌, ℕ, ◌*◌, ◌<◌, ◌≤◌, nat_le, ◌==◌, Bool, true, false, List, [], ◌∷◌, ◌++◌, find, Option, Some, None, Ok, refl, ap, sym}
+use Rattle.std.proofs.Common.{◌≡◌, ℕ, ◌*◌, ◌<◌, ◌≤◌, nat_le, ◌==◌, Bool, true, false, List, [], ◌∷◌, ◌++◌, find, Option, Some, None, refl, ap, sym}
 use Rattle.std.proofs.Common.{subst, arith}
 use Rattle.std.proofs.lemmas.Bool.{and_parts, leb-true}
 use Rattle.std.specs.Prelude.{unwrap_or, IfSome}
@@ -35,13 +35,13 @@ use Rattle.h264_verify.specs.Data.{slice_data_at}
 use Rattle.h264_verify.specs.History.{History, ReadUnit, with_pair, maps_with, maps_of}
 use Rattle.h264_verify.specs.Pictures.{ended_pictures}
 use Rattle.h264_verify.specs.Pictures.{CodedSlice, CodedPicture, with_sets, slice_in, goes_on, joined_to, joined_by, begins_after, open_of, runs_of}
-use Rattle.h264_verify.specs.Steps.{Runs}
 use Rattle.h264_units.specs.UnitHeader.{header_of, nal_unit_type}
 use Rattle.h264_verify.specs.Units.{extent_at, slice_unit}
 use Rattle.h264_verify.specs.Order.{data_course}
 use Rattle.h264_verify.specs.Verdict.{IsLegal, AreLegal}
 use Rattle.h264_verify.proofs.HeaderSets.{content-gives}
-use Rattle.h264_verify.proofs.LegalUnit.{given, has-met, rest-ends, rest-reads}
+use Rattle.h264_verify.proofs.LegalUnit.{given, has-met, read-gives}
+use Rattle.h264_verify.proofs.MetRules.{Met}
 
 abbrev pub HasRoom : Sps → Type 0
 HasRoom set = 0 < dpb_frames set
@@ -133,18 +133,17 @@ IsRoomy contents.Passed = Unit {0}
 unit-room : (target : Target) (before : History) (r : ReadUnit) (calls : List Told) → IsLegal (extent_at depths.Full target) before r calls → IsRoomy r.content
 unit-room target before r calls l =
     let m = has-met target before r calls l in
-    by m.found m.bit m.rest (given IsRoomy _ (body_of r.unit) 0 m.elements m.found m.bit
+    by m.found m.bit (given IsRoomy _ (body_of r.unit) 0 m.elements m.found m.bit
     (content-gives IsRoomy (extent_at depths.Full target) (nal_unit_type (header_of r.unit)) before r.unit (sps-gives target) (λ set. tt)
     (λ slice. gives-any (header (sets_of (maps_of before)) (slice_unit r.unit))) tt) m.says) m.following
   where
-    by : (found : Content) (bit : ℕ) (rest : List Told) → IsRoomy found →
-        Runs (body_of r.unit) (data_course depths.Full before r.unit found bit) rest (Ok r.content) → IsRoomy r.content
-    by (contents.OfSps set) bit rest h d = subst IsRoomy (sym (rest-ends (body_of r.unit) (contents.OfSps set) r.content rest d)) h
-    by (contents.OfPps set) bit rest h d = subst IsRoomy (sym (rest-ends (body_of r.unit) (contents.OfPps set) r.content rest d)) tt
-    by (contents.OfSlice h ms) bit rest k d =
-        rest-reads (body_of r.unit) (slice_data_at before r.unit h >>= (λ ms. Done (contents.OfSlice h ms))) bit rest r.content IsRoomy
+    by : (found : Content) (bit : ℕ) → IsRoomy found → Met (data_course depths.Full before r.unit found bit) (λ c. c ≡ r.content) → IsRoomy r.content
+    by (contents.OfSps set) bit h e = subst IsRoomy e h
+    by (contents.OfPps set) bit h e = subst IsRoomy e h
+    by (contents.OfSlice h ms) bit k d =
+        read-gives (body_of r.unit) (slice_data_at before r.unit h >>= (λ ms. Done (contents.OfSlice h ms))) bit r.content IsRoomy
         (gives-bind _ IsRoomy _ _ (gives-any _) (λ ms a. gives-done IsRoomy _ tt)) d
-    by contents.Passed bit rest h d = subst IsRoomy (sym (rest-ends (body_of r.unit) contents.Passed r.content rest d)) tt
+    by contents.Passed bit h e = subst IsRoomy e h
 
 -- ---- the sets by id
 

@@ -14,10 +14,11 @@ pub mod FamiliesInSlice
 pub mod ToldFrames
 pub mod FamiliesByPurpose
 pub mod OutcomesPlayed
-pub mod CourseOutcome
+pub mod Courses
+pub mod MetRules
 pub mod SliceSteps
 pub mod SlicePlaced
-pub mod StepsPlayed
+pub mod Played
 pub mod SliceRules
 pub mod SoundPictures
 pub mod HeldInBuffer

@@ -1,6 +1,6 @@
 -- Missing numbers, one after another: what is told, and what is kept.
 use Rattle.std.proofs.Common.{◌≡◌, ℕ, suc, ◌+◌, ◌-◌, ◌%◌, ◌<◌, Bool, true, false, cond, not, ◌||◌, List, [], ◌∷◌, ◌++◌, map, Option, Some, None, unwrap_or}
-use Rattle.std.proofs.Common.{Result, Ok, Err, refl, ap, sym, ◌∙◌, subst, arith, append_assoc, if◌then◌else◌}
+use Rattle.std.proofs.Common.{Result, Ok, Err, ap, sym, ◌∙◌, subst, arith, append_assoc, if◌then◌else◌}
 use Rattle.std.proofs.lemmas.List.{append-nil}
 use Rattle.std.proofs.lemmas.List.Sums.{sum_by-cons}
 use Rattle.std.specs.Option.{is_some, is_none, option_map, option_and_then}
@@ -19,17 +19,16 @@ use Rattle.h264_dpb.specs.Bumping.{missing_in}
 use Rattle.h264_dpb.specs.Buffered.{Buffered}
 use Rattle.h264_dpb.specs.Turns.{Shown, Turn, turn_then, names, missing_turn}
 use Rattle.h264_verify.specs.declared.decoder.Decoder.{Decoder}
-use Rattle.h264_verify.specs.Telling.{Told, Tells, took_with, Family}
-use Rattle.h264_verify.specs.Outcome.{Outcome, ◌>>=◌, continued, with_calls, answers, gives, Plays}
-use Rattle.h264_verify.specs.Steps.{Step, Needs}
+use Rattle.h264_verify.specs.Telling.{took_with, Family}
+use Rattle.h264_verify.specs.Outcome.{answers, gives, Plays}
+use Rattle.h264_verify.specs.Course.{Steps, Needs, ◌>>◌}
 use Rattle.h264_verify.specs.Buffering.{told_frames, gaps_turn, gap_on, missing_steps, missing_on}
-use Rattle.h264_verify.specs.StepOutcome.{steps_outcome}
+use Rattle.h264_verify.specs.CourseOutcome.{outcome_of}
 use Rattle.h264_verify.specs.Demands.{judged}
 use Rattle.h264_verify.specs.Slices.{new_num_demand}
 use Rattle.h264_verify.specs.Keeping.{WhereMade, FillsFrames, KeepsSomeGap}
-use Rattle.h264_verify.proofs.ToldTogether.{tells-none, tells-both}
-use Rattle.h264_verify.proofs.OutcomesPlayed.{plays-on, plays-stops, gives-plays}
-use Rattle.h264_verify.proofs.CourseOutcome.{steps-append}
+use Rattle.h264_verify.proofs.OutcomesPlayed.{gives-plays}
+use Rattle.h264_verify.proofs.Played.{ComesTo, begins, left-as, stopped, stops, played, ended}
 use Rattle.h264_marking.proofs.Filling.{left-is, none-left}
 
 -- ---- one number
@@ -65,47 +64,27 @@ pub some-missing : (n : Numbering) (refs new : References) → filled n refs ≡
 unfolding filled
 some-missing n refs new e = missing-slid refs new n.frame_num (slide n refs.frames) e
 
--- ---- outcomes
-
-bind-ok : {A B : Type 0} (o : Outcome A) (next : A → Outcome B) (x : A) → o.answer ≡ Ok x → (o >>= next) ≡ with_calls o.calls (next x)
-unfolding ◌>>=◌
-bind-ok o next x e = ap (continued o.calls next) e
-
-with-both : {A : Type 0} (xs ys : List Told) (o : Outcome A) → with_calls xs (with_calls ys o) ≡ with_calls (xs ++ ys) o
-with-both xs ys o = ap (λ (l : List Told). record { calls = l; answer = o.answer }) (sym (append_assoc xs ys o.calls))
-
--- what is played after what was told
-after-plays : {A S X : Type 0} (took : S → List Told → Type 0) (failures : S → ℕ) (view : X → A) (told : List Told) (o : Outcome A) (s0 s1 s2 : S)
-    (r : Result X Stop) → Tells took s0 s1 told → failures s1 ≡ failures s0 → Plays (span took failures s1 s2) view o r →
-    Plays (span took failures s0 s2) view (with_calls told o) r
-unfolding ◌>>=◌
-after-plays took failures view told o s0 s1 s2 r t k p =
-    plays-on took failures (λ (x : Unit {0}). x) view (record { calls = told; answer = Ok tt }) (λ _. o) s0 s1 s2 tt r (record { plays = (refl, t, k) }) p
-
 -- ---- the steps
 
 -- so many numbers after this one
 abbrev following : Numbering → ℕ → ℕ → List ℕ
 following n count number = numbers_from count ((number + 1) % n.max_frame_num) n.max_frame_num
 
+-- the rest, by what the first number gives
+abbrev first_filled : Depth → ℕ → Numbering → List ℕ → Buffered Shown → Option References → Steps
+first_filled depth bit n numbers b o = Needs (record { rule = FrameNum; bit = bit; met = is_some o }) (missing_on o
+    (λ held. told_frames depth (missing_turn held b).written >> missing_steps depth bit n numbers held (missing_turn held b).buffer))
+
 pub steps-some : (depth : Depth) (bit : ℕ) (n : Numbering) (number : ℕ) (numbers : List ℕ) (refs held : References) (b : Buffered Shown) →
     filled (record n { frame_num = number }) refs ≡ Some held →
-    steps_outcome (missing_steps depth bit n (number ∷ numbers) refs b) ≡
-    (steps_outcome (told_frames depth (missing_turn held b).written) >>= λ _. steps_outcome
-    (missing_steps depth bit n numbers held (missing_turn held b).buffer))
-steps-some depth bit n number numbers refs held b e =
-    ap (λ (o : Option References). steps_outcome
-    (Needs (record { rule = FrameNum; bit = bit; met = is_some o }) ∷ missing_on o
-    (λ held. told_frames depth (missing_turn held b).written ++ missing_steps depth bit n numbers held (missing_turn held b).buffer))) e
-    ∙ steps-append (told_frames depth (missing_turn held b).written) (missing_steps depth bit n numbers held (missing_turn held b).buffer)
+    outcome_of (missing_steps depth bit n (number ∷ numbers) refs b) ≡
+    outcome_of (told_frames depth (missing_turn held b).written >> missing_steps depth bit n numbers held (missing_turn held b).buffer)
+steps-some depth bit n number numbers refs held b e = ap (λ (o : Option References). outcome_of (first_filled depth bit n numbers b o)) e
 
 steps-none : (depth : Depth) (bit : ℕ) (n : Numbering) (number : ℕ) (numbers : List ℕ) (refs : References) (b : Buffered Shown) →
     filled (record n { frame_num = number }) refs ≡ None →
-    steps_outcome (missing_steps depth bit n (number ∷ numbers) refs b) ≡ answers (Err (No bit FrameNum))
-steps-none depth bit n number numbers refs b e =
-    ap (λ (o : Option References). steps_outcome
-    (Needs (record { rule = FrameNum; bit = bit; met = is_some o }) ∷ missing_on o
-    (λ held. told_frames depth (missing_turn held b).written ++ missing_steps depth bit n numbers held (missing_turn held b).buffer))) e
+    outcome_of (missing_steps depth bit n (number ∷ numbers) refs b) ≡ answers (Err (No bit FrameNum))
+steps-none depth bit n number numbers refs b e = ap (λ (o : Option References). outcome_of (first_filled depth bit n numbers b o)) e
 
 turn-some : (n : Numbering) (number : ℕ) (numbers : List ℕ) (refs held : References) (t : Turn) → filled (record n { frame_num = number }) refs ≡ Some held →
     turn_then t (gaps_turn n (number ∷ numbers) refs) ≡ turn_then (turn_then t (missing_turn held)) (gaps_turn n numbers held)
@@ -118,24 +97,25 @@ turn-some n number numbers refs held t e =
 
 module _ {S : Type 0} (depth : Depth) (bit : ℕ) (n : Numbering) (count prev : ℕ) (held : References) (took : S → List Call → Type 0) (failures : S → ℕ)
     (frames : Family) (t : Turn) (next : ℕ) (old : S) where
-  abbrev pub all_steps : List Step
+  abbrev pub all_steps : Steps
   all_steps = missing_steps depth bit n (following n count prev) held t.buffer
 
-  -- so many numbers after the last one are left: what was told of the others, and what is kept
+  -- it was judged up to these steps
+  abbrev FilledTo : S → Steps → Type 0
+  FilledTo new rest = ComesTo (took_with frames took) failures gives (outcome_of all_steps) rest old new
+
+  -- so many numbers after the last one are left, and this is kept
   pub record Fills (left last : ℕ) (now : References) (new : S) (d : Option Decoder) : Type 0 where
     pub turn : Turn
-    pub told : List Told
-    pub tells : Tells (took_with frames took) old new told
-    pub steps : steps_outcome all_steps ≡ with_calls told (steps_outcome (missing_steps depth bit n (following n left last) now turn.buffer))
+    pub comes : FilledTo new (missing_steps depth bit n (following n left last) now turn.buffer)
     pub turns : turn_then t (gaps_turn n (following n count prev) held) ≡ turn_then turn (gaps_turn n (following n left last) now)
     pub keeps : WhereMade depth (FillsFrames frames turn next) d
 
   first : (left : ℕ) (d : Option Decoder) → left ≡ count → WhereMade depth (FillsFrames frames t next) d → Fills left prev held old d
   first left d e k = record {
     turn = t;
-    told = [];
-    tells = tells-none (took_with frames took) old;
-    steps = ap (λ (c : ℕ). steps_outcome (missing_steps depth bit n (following n c prev) held t.buffer)) (sym e);
+    comes = subst (λ (c : ℕ). FilledTo old (missing_steps depth bit n (following n c prev) held t.buffer)) (sym e)
+        (begins (took_with frames took) failures all_steps old);
     turns = ap (λ (c : ℕ). turn_then t (gaps_turn n (following n c prev) held)) (sym e);
     keeps = k;
   }
@@ -151,60 +131,48 @@ module _ {S : Type 0} (depth : Depth) (bit : ℕ) (n : Numbering) (count prev : 
       Fills 0 last now new d
   fills-whole turn last now new d e f = subst (λ (l : ℕ). Fills l last now new d) (ap (λ (t : ℕ). count - t) e ∙ none-left count) f
 
-  module _ (k last : ℕ) (now : References) (new : S) (d : Option Decoder) (f : Fills (suc k) last now new d) (quiet : failures new ≡ failures old) where
+  module _ (k last : ℕ) (now : References) (new : S) (d : Option Decoder) (f : Fills (suc k) last now new d) where
     abbrev number : ℕ
     number = (last + 1) % n.max_frame_num
 
     -- it cannot be filled
     pub fills-refused : {X : Type 0} (view : X → Unit {0}) (e : Stop) → filled (record n { frame_num = number }) now ≡ None → e ≡ No bit FrameNum →
-        Plays {X = X} (span (took_with frames took) failures old new) view (steps_outcome all_steps) (Err e)
+        Plays {X = X} (span (took_with frames took) failures old new) view (outcome_of all_steps) (Err e)
     fills-refused {X} view e none is =
-        subst (λ (o : Outcome (Unit {0})). Plays {X = X} (span (took_with frames took) failures old new) view o (Err e))
-        (sym (f.steps ∙ ap (with_calls f.told) (steps-none depth bit n number (following n k number) now f.turn.buffer none)))
-        (subst (λ (x : Stop). Plays {X = X} (span (took_with frames took) failures old new) view (with_calls f.told (answers (Err (No bit FrameNum))))
-        (Err x)) (sym is)
-        (after-plays (took_with frames took) failures view f.told (answers (Err (No bit FrameNum))) old new new (Err (No bit FrameNum)) f.tells quiet
-        (record { plays = (refl, tells-none (took_with frames took) new, refl) })))
+        subst (λ (x : Stop). Plays {X = X} (span (took_with frames took) failures old new) view (outcome_of all_steps) (Err x)) (sym is)
+        (stopped _ _ f.comes (steps-none depth bit n number (following n k number) now f.turn.buffer none) tt)
 
     module _ (then_held : References) (fits : filled (record n { frame_num = number }) now ≡ Some then_held) where
-      abbrev frame_steps : Outcome (Unit {0})
-      frame_steps = steps_outcome (told_frames depth (missing_turn then_held f.turn.buffer).written)
+      abbrev frame_steps : Steps
+      frame_steps = told_frames depth (missing_turn then_held f.turn.buffer).written
 
-      abbrev rest : Outcome (Unit {0})
-      rest = steps_outcome (missing_steps depth bit n (following n k number) then_held (missing_turn then_held f.turn.buffer).buffer)
+      abbrev rest : Steps
+      rest = missing_steps depth bit n (following n k number) then_held (missing_turn then_held f.turn.buffer).buffer
 
-      steps-are : steps_outcome all_steps ≡ with_calls f.told (frame_steps >>= λ _. rest)
-      steps-are = f.steps ∙ ap (with_calls f.told) (steps-some depth bit n number (following n k number) now then_held f.turn.buffer fits)
+      filled-to : FilledTo new (frame_steps >> rest)
+      filled-to = left-as _ _ f.comes (steps-some depth bit n number (following n k number) now then_held f.turn.buffer fits)
 
       -- its frame is not told
       pub fills-stopped : {X : Type 0} (view : X → Unit {0}) (s : S) (e : Stop) →
-          Plays {X = Unit {0}} (span (took_with frames took) failures new s) (λ (x : Unit {0}). x) frame_steps (Err e) →
-          Plays {X = X} (span (took_with frames took) failures old s) view (steps_outcome all_steps) (Err e)
-      fills-stopped {X} view s e p =
-          subst (λ (o : Outcome (Unit {0})). Plays {X = X} (span (took_with frames took) failures old s) view o (Err e)) (sym steps-are)
-          (after-plays (took_with frames took) failures view f.told (frame_steps >>= λ _. rest) old new s (Err e) f.tells quiet
-          (plays-stops (took_with frames took) failures (λ (x : Unit {0}). x) view frame_steps (λ _. rest) new s e p))
+          Plays {X = Unit {0}} (span (took_with frames took) failures new s) (λ (x : Unit {0}). x) (outcome_of frame_steps) (Err e) →
+          Plays {X = X} (span (took_with frames took) failures old s) view (outcome_of all_steps) (Err e)
+      fills-stopped view s e p = stops _ _ frame_steps _ filled-to p
 
       -- one more is filled
       pub fills-next : (s : S) (d' : Option Decoder) (x : Unit {0}) →
-          Plays {X = Unit {0}} (span (took_with frames took) failures new s) (λ (x : Unit {0}). x) frame_steps (Ok x) →
+          Plays {X = Unit {0}} (span (took_with frames took) failures new s) (λ (x : Unit {0}). x) (outcome_of frame_steps) (Ok x) →
           WhereMade depth (FillsFrames frames (turn_then f.turn (missing_turn then_held)) next) d' → Fills k number then_held s d'
       fills-next s d' x p kept = record {
         turn = turn_then f.turn (missing_turn then_held);
-        told = f.told ++ frame_steps.calls;
-        tells = tells-both f.tells p.plays.1;
-        steps = steps-are ∙ ap (with_calls f.told) (bind-ok frame_steps (λ _. rest) x p.plays.0) ∙ with-both f.told frame_steps.calls rest;
+        comes = played _ _ frame_steps _ filled-to p;
         turns = f.turns ∙ turn-some n number (following n k number) now then_held f.turn fits;
         keeps = kept;
       }
 
   -- none is left
-  pub fills-last : (last : ℕ) (now : References) (new : S) (d : Option Decoder) → Fills 0 last now new d → failures new ≡ failures old →
-      Plays (span (took_with frames took) failures old new) (λ (x : ℕ). tt) (steps_outcome all_steps) (Ok last)
-  fills-last last now new d f quiet =
-      subst (λ (o : Outcome (Unit {0})). Plays (span (took_with frames took) failures old new) (λ (x : ℕ). tt) o (Ok last)) (sym f.steps)
-      (after-plays (took_with frames took) failures (λ (x : ℕ). tt) f.told (gives tt) old new new (Ok last) f.tells quiet
-      (gives-plays (took_with frames took) failures (λ (x : ℕ). tt) last new))
+  pub fills-last : (last : ℕ) (now : References) (new : S) (d : Option Decoder) → Fills 0 last now new d →
+      Plays (span (took_with frames took) failures old new) (λ (x : ℕ). tt) (outcome_of all_steps) (Ok last)
+  fills-last last now new d f = ended _ _ f.comes (gives-plays (took_with frames took) failures (λ (x : ℕ). tt) last new)
 
   pub fills-kept : (last : ℕ) (now : References) (new : S) (d : Option Decoder) → Fills 0 last now new d →
       WhereMade depth (FillsFrames frames (turn_then t (gaps_turn n (following n count prev) held)) next) d

@@ -1,5 +1,5 @@
 -- Missing numbers that change nothing but the numbers of frames.
-use Rattle.std.proofs.Common.{◌≡◌, ℕ, zero, suc, ◌+◌, ◌%◌, List, [], ◌++◌, Option, refl, ap, sym, ◌∙◌, subst, append-nil}
+use Rattle.std.proofs.Common.{◌≡◌, ℕ, zero, suc, ◌+◌, ◌%◌, List, ◌++◌, Option, refl, ap, sym, ◌∙◌, subst, append-nil}
 use Rattle.h264_verify.specs.declared.state.Depth.{Depth}
 use Rattle.h264_verify.specs.declared.state.Depth.TheVariants as depths
 use Rattle.h264_base.specs.Call.{Call}
@@ -12,13 +12,14 @@ use Rattle.h264_dpb.specs.Bumping.{is_held, missing_in}
 use Rattle.h264_dpb.specs.Buffered.{Buffered, missing_step}
 use Rattle.h264_dpb.specs.Turns.{Shown, Turn, turn_then, turn_of, stays, names, missing_turn}
 use Rattle.h264_verify.specs.declared.decoder.Decoder.{Decoder}
-use Rattle.h264_verify.specs.Outcome.{Outcome, ◌>>=◌, with_calls, gives}
-use Rattle.h264_verify.specs.Steps.{Step}
+use Rattle.h264_verify.specs.Outcome.{gives}
+use Rattle.h264_verify.specs.Course.{Steps, nothing, ◌>>=◌, ◌>>◌}
 use Rattle.h264_verify.specs.Buffering.{told_frames, gaps_turn, gap_on, missing_steps}
-use Rattle.h264_verify.specs.StepOutcome.{steps_outcome}
+use Rattle.h264_verify.specs.CourseOutcome.{outcome_of}
 use Rattle.h264_verify.specs.Keeping.{WhereMade, FillsFrames, BufferStays}
 use Rattle.h264_verify.proofs.WhereMade.{MakesNone, made-then, header-decoder, unit-made}
 use Rattle.h264_verify.proofs.MissingNumbers.{Fills, steps-some}
+use Rattle.h264_verify.proofs.Played.{left-as}
 use Rattle.h264_verify.specs.Telling.{Family}
 
 -- the buffer sees the pictures alone
@@ -33,7 +34,7 @@ stays-named depths.Units refs held b e s = tt
 stays-named depths.Headers refs held b e s = tt
 stays-named depths.Full refs held b e s = missing-named refs held b e ∙ s
 
-none-told : (depth : Depth) (held : References) (b : Buffered Shown) → BufferStays depth held b → told_frames depth (missing_turn held b).written ≡ []
+none-told : (depth : Depth) (held : References) (b : Buffered Shown) → BufferStays depth held b → told_frames depth (missing_turn held b).written ≡ nothing
 unfolding BufferStays
 none-told depths.Units held b s = refl
 none-told depths.Headers held b s = refl
@@ -57,24 +58,20 @@ quiet-stays held b depths.Units q = tt
 quiet-stays held b depths.Headers q = tt
 quiet-stays held b depths.Full q = absurd q
 
-nothing-first : (o : Outcome (Unit {0})) → (steps_outcome [] >>= λ _. o) ≡ o
-unfolding ◌>>=◌
-nothing-first o = refl
-
 module _ (n : Numbering) where
   -- each is met, and nothing is told
   skipped-steps : (depth : Depth) (bit count last : ℕ) (refs : References) (b : Buffered Shown) → IsSteady n last refs.frames → BufferStays depth refs b →
-      steps_outcome (missing_steps depth bit n (numbers_from count ((last + 1) % n.max_frame_num) n.max_frame_num) refs b) ≡ gives tt
+      outcome_of (missing_steps depth bit n (numbers_from count ((last + 1) % n.max_frame_num) n.max_frame_num) refs b) ≡ gives tt
+  unfolding ◌>>=◌
   skipped-steps depth bit zero last refs b s still = refl
   skipped-steps depth bit (suc count) last refs b s still =
       let number = (last + 1) % n.max_frame_num in
       let numbers = numbers_from count ((number + 1) % n.max_frame_num) n.max_frame_num in
       let next = steady-next n last refs s in
       let more = stays-named depth refs next.held b next.pictures still in
-      let rest = steps_outcome (missing_steps depth bit n numbers next.held (missing_turn next.held b).buffer) in
+      let rest = missing_steps depth bit n numbers next.held (missing_turn next.held b).buffer in
       steps-some depth bit n number numbers refs next.held b next.fits
-      ∙ ap (λ (steps : List Step). steps_outcome steps >>= λ _. rest) (none-told depth next.held b more)
-      ∙ nothing-first rest
+      ∙ ap (λ (steps : Steps). outcome_of (steps >> rest)) (none-told depth next.held b more)
       ∙ skipped-steps depth bit count number next.held (missing_turn next.held b).buffer next.steady (stays-on depth next.held b more)
 
   -- the buffer stays as it is
@@ -118,9 +115,7 @@ fills-skipped depth bit n count prev held took failures frames t next old left l
     let all = turn_then f.turn (gaps_turn n (numbers_from left ((last + 1) % n.max_frame_num) n.max_frame_num) now) in
     record {
       turn = all;
-      told = f.told;
-      tells = f.tells;
-      steps = f.steps ∙ ap (with_calls f.told) (skipped-steps n depth bit left last now f.turn.buffer s still);
+      comes = left-as _ _ f.comes (skipped-steps n depth bit left last now f.turn.buffer s still);
       turns = f.turns ∙ ap (λ (l : List _). record { written = l; buffer = all.buffer }) (sym (append-nil all.written));
       keeps = skipped-kept n depth frames f.turn next d left last now s still f.keeps;
     }

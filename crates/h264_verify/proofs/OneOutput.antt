@@ -22,7 +22,7 @@ use Rattle.h264_verify.specs.Family.{AreSameOn, IsFrontOf}
 use Rattle.std.proofs.Common.{append_assoc, ⊎_elim, List, [], ◌∷◌, ◌++◌, length, ◌⊎◌, inl, inr, Some, Result, refl, ap, sym, ◌∙◌, subst}
 use Rattle.h264_base.specs.declared.stop.Stop.{Stop}
 use Rattle.h264_base.specs.declared.summary.Summary.{Summary}
-use Rattle.h264_verify.specs.Steps.{told}
+use Rattle.h264_verify.specs.Course.{told}
 use Rattle.h264_verify.specs.History.{History}
 use Rattle.h264_verify.specs.Verdict.{AreLegal, Verdict}
 use Rattle.h264_verify.proofs.FamiliesAgree.{decoded-first, calls-both}

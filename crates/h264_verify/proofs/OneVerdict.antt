@@ -15,7 +15,7 @@ use Rattle.h264_verify.specs.UnitOutcome.{unit_outcome, end_outcome}
 use Rattle.h264_verify.specs.Units.{summary_of, extent_by}
 use Rattle.h264_verify.specs.declared.state.Terms.{Terms}
 use Rattle.h264_verify.specs.Verdict.{in_order, AreLegal, Holds, IsStopAfter, AtNext, AtTail, AtEnd, StopsAt, Verdict, remainder, BeforeNext, Judged}
-use Rattle.h264_verify.proofs.CourseOutcome.{outcome}
+use Rattle.h264_verify.proofs.Courses.{outcome}
 use Rattle.h264_verify.proofs.ToldTogether.{tells-none}
 use Rattle.h264_verify.proofs.AfterLegal.{legal-unit, stop-unit, met-end, unmet-end, SomeAfter, some-after}
 

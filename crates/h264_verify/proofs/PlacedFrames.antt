@@ -1,5 +1,5 @@
 -- A picture that has ended takes its place in the buffer.
-use Rattle.std.proofs.Common.{◌≡◌, ℕ, ◌+◌, ◌*◌, ◌<◌, ◌≤◌, not, Bool, true, false, IsTrue, List, [], ◌∷◌, ◌++◌, length, Option, Some, None, Result, Ok}
+use Rattle.std.proofs.Common.{◌≡◌, ℕ, ◌+◌, ◌*◌, ◌<◌, ◌≤◌, not, Bool, true, false, IsTrue, List, ◌∷◌, ◌++◌, length, Option, Some, None, Result, Ok}
 use Rattle.std.specs.Prelude.{IfSome}
 use Rattle.std.proofs.Common.{Err, OnOk, refl, ap, sym, ◌∙◌, subst, arith, length-append, if◌then◌else◌}
 use Rattle.h264_verify.specs.declared.state.Depth.TheVariants as depths
@@ -23,7 +23,7 @@ use Rattle.h264_dpb.specs.Shown.{fits, fits_in}
 use Rattle.h264_verify.specs.declared.decoder.Decoder.{Decoder}
 use Rattle.h264_verify.specs.declared.decoder.Format.{Format}
 use Rattle.h264_verify.specs.Pictures.{CodedPicture, held_after, last_slice, picture_size}
-use Rattle.h264_verify.specs.Buffering.{ended_picture, within_newest, after_all, told_frames}
+use Rattle.h264_verify.specs.Buffering.{ended_picture, within_newest, after_all, told_frames, told_picture}
 use Rattle.h264_verify.specs.Keeping.{HasFormat, IsRoomFor, IsSized, KeepsFrames}
 use Rattle.h264_verify.specs.Memory.{format_of}
 use Rattle.h264_verify.proofs.LentFrames.{each-lent, all-ready}
@@ -38,9 +38,8 @@ use Rattle.h264_dpb.specs.Writing.{Writes}
 use Rattle.h264_verify.specs.Decoding.{IsDecoded}
 use Rattle.h264_verify.specs.Telling.{Decodes, HasFrame, IsFamilyFor, calls_to_show, took_with, Family}
 use Rattle.h264_verify.specs.Outcome.{Outcome, ◌>>=◌, tells, Plays}
-use Rattle.h264_verify.specs.Steps.{Step}
-use Rattle.h264_verify.specs.Steps as step
-use Rattle.h264_verify.specs.StepOutcome.{steps_outcome}
+use Rattle.h264_verify.specs.Course.{Steps, ◌>>◌}
+use Rattle.h264_verify.specs.CourseOutcome.{outcome_of}
 use Rattle.h264_verify.proofs.OutcomesPlayed.{plays-on, plays-stops}
 use Rattle.h264_verify.proofs.ToldFrames.{IsLentFor, decodes-plays, end-outcome, writes-plays}
 use Rattle.h264_base.proofs.Plain.{first-false}
@@ -279,47 +278,47 @@ has-frame (Some frames) p ps old k (Some f) h d =
 module _ {S : Type 0} (made : Family) (took : S → List Call → Type 0) (failures : S → ℕ) (p : CodedPicture) (ps : List CodedPicture) (e : Ended)
     (held : References) (is : e ≡ ended_picture p ps) (h : held ≡ held_after (p ∷ ps)) (b : Buffered Shown) (d : HasFrame made (p ∷ ps)) where
   abbrev by_turns : Ended → References → Outcome (Unit {0})
-  by_turns x r = tells (Decodes (p ∷ ps)) >>= λ _. steps_outcome (told_frames depths.Full (way_turn x b).written) >>= λ _. steps_outcome
+  by_turns x r = tells (Decodes (p ∷ ps)) >>= λ _. outcome_of (told_frames depths.Full (way_turn x b).written) >>= λ _. outcome_of
       (told_frames depths.Full (store_turn x r (way_turn x b).buffer).written)
 
-  turns-are : steps_outcome ((step.Tells (Decodes (p ∷ ps)) ∷ []) ++ told_frames depths.Full (end_turn (ended_picture p ps) (held_after (p ∷ ps)) b).written) ≡
+  turns-are : outcome_of (told_picture depths.Full (p ∷ ps) >> told_frames depths.Full (end_turn (ended_picture p ps) (held_after (p ∷ ps)) b).written) ≡
       by_turns e held
   turns-are =
       end-outcome (p ∷ ps) (way_turn (ended_picture p ps) b).written
       (store_turn (ended_picture p ps) (held_after (p ∷ ps)) (way_turn (ended_picture p ps) b).buffer).written
       ∙ ap (λ (x : Ended). by_turns x (held_after (p ∷ ps))) (sym is) ∙ ap (λ (r : References). by_turns e r) (sym h)
 
-  abbrev told_steps : List Step
-  told_steps = (step.Tells (Decodes (p ∷ ps)) ∷ []) ++ told_frames depths.Full (end_turn (ended_picture p ps) (held_after (p ∷ ps)) b).written
+  abbrev told_steps : Steps
+  told_steps = told_picture depths.Full (p ∷ ps) >> told_frames depths.Full (end_turn (ended_picture p ps) (held_after (p ∷ ps)) b).written
 
   decoded-first : (s s' : S) (r : Result (Unit {0}) Stop) →
       Plays (span (took_with made took) failures s s') (λ (x : Unit {0}). x)
-      (steps_outcome (told_frames depths.Full (way_turn e b).written) >>= λ _. steps_outcome
+      (outcome_of (told_frames depths.Full (way_turn e b).written) >>= λ _. outcome_of
       (told_frames depths.Full (store_turn e held (way_turn e b).buffer).written)) r →
-      Plays (span (took_with made took) failures s s') (λ (x : Unit {0}). x) (steps_outcome told_steps) r
+      Plays (span (took_with made took) failures s s') (λ (x : Unit {0}). x) (outcome_of told_steps) r
   decoded-first s s' r q = subst (λ (o : Outcome (Unit {0})). Plays (span (took_with made took) failures s s') (λ (x : Unit {0}). x) o r) (sym turns-are)
       (plays-on (took_with made took) failures (λ (x : Unit {0}). x) (λ (x : Unit {0}). x) (tells (Decodes (p ∷ ps))) _ s s s' tt r
       (decodes-plays made took failures s (p ∷ ps) d) q)
 
   pub way-stops : (s s' : S) (x : Stop) → Writes {X = Unit {0}} took failures (calls_to_show made (way_turn e b).written) s s' (Err x) →
-      Plays (span (took_with made took) failures s s') (λ (x : Unit {0}). x) (steps_outcome told_steps) (Err x)
+      Plays (span (took_with made took) failures s s') (λ (x : Unit {0}). x) (outcome_of told_steps) (Err x)
   way-stops s s' x w = decoded-first s s' (Err x)
-      (plays-stops (took_with made took) failures (λ (x : Unit {0}). x) (λ (x : Unit {0}). x) (steps_outcome (told_frames depths.Full (way_turn e b).written))
+      (plays-stops (took_with made took) failures (λ (x : Unit {0}). x) (λ (x : Unit {0}). x) (outcome_of (told_frames depths.Full (way_turn e b).written))
       _ s s' x (writes-plays made took failures (way_turn e b).written s s' (Err x) w))
 
   pub way-on : (s s' s'' : S) (u : Unit {0}) (r : Result (Unit {0}) Stop) →
       Writes {X = Unit {0}} took failures (calls_to_show made (way_turn e b).written) s s' (Ok u) →
       Plays (span (took_with made took) failures s' s'') (λ (x : Unit {0}). x)
-      (steps_outcome (told_frames depths.Full (store_turn e held (way_turn e b).buffer).written)) r →
-      Plays (span (took_with made took) failures s s'') (λ (x : Unit {0}). x) (steps_outcome told_steps) r
+      (outcome_of (told_frames depths.Full (store_turn e held (way_turn e b).buffer).written)) r →
+      Plays (span (took_with made took) failures s s'') (λ (x : Unit {0}). x) (outcome_of told_steps) r
   way-on s s' s'' u r w q = decoded-first s s'' r
-      (plays-on (took_with made took) failures (λ (x : Unit {0}). x) (λ (x : Unit {0}). x) (steps_outcome (told_frames depths.Full (way_turn e b).written)) _ s
+      (plays-on (took_with made took) failures (λ (x : Unit {0}). x) (λ (x : Unit {0}). x) (outcome_of (told_frames depths.Full (way_turn e b).written)) _ s
       s' s'' u r (writes-plays made took failures (way_turn e b).written s s' (Ok u) w) q)
 
   pub way-store : (s s' s'' : S) (u : Unit {0}) (r : Result (Unit {0}) Stop) →
       Writes {X = Unit {0}} took failures (calls_to_show made (way_turn e b).written) s s' (Ok u) →
       Writes {X = Unit {0}} took failures (calls_to_show made (store_turn e held (way_turn e b).buffer).written) s' s'' r →
-      Plays (span (took_with made took) failures s s'') (λ (x : Unit {0}). x) (steps_outcome told_steps) r
+      Plays (span (took_with made took) failures s s'') (λ (x : Unit {0}). x) (outcome_of told_steps) r
   way-store s s' s'' u r w q = way-on s s' s'' u r w (writes-plays made took failures _ s' s'' r q)
 
 -- as many frames are held as the buffer has places

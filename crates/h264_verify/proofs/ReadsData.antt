@@ -38,7 +38,7 @@ use Rattle.h264_verify.specs.Pictures.{CodedSlice, CodedPicture, last_slice, joi
 use Rattle.h264_marking.specs.Ended.{numbering_of}
 use Rattle.h264_verify.specs.Data.{picture_set, coded_so_far, slice_syntax, data_in}
 use Rattle.h264_header.proofs.Entries.{where-ok}
-use Rattle.h264_verify.specs.StepOutcome.{structure_from}
+use Rattle.h264_verify.specs.CourseOutcome.{structure_from}
 
 -- what macroblocks take from their slice says nothing of the marking
 context-same : (pps : Pps) (sps : Sps) (h : Header) (m : Option (Found Marking)) (list : List RefSlot) →

@@ -26,7 +26,7 @@ use Rattle.h264_picture.specs.Context.{slice_context}
 use Rattle.h264_vectors.specs.declared.slice.SliceContext.{SliceContext}
 use Rattle.h264_verify.specs.Content.{Content}
 use Rattle.h264_verify.specs.Content as contents
-use Rattle.h264_verify.specs.Outcome.{Outcome, ◌>>=◌, gives, Plays, PlaysBy}
+use Rattle.h264_verify.specs.Outcome.{Outcome, ◌>>=◌, Plays, PlaysBy}
 use Rattle.h264_verify.specs.History.{History, maps_of}
 use Rattle.h264_verify.specs.Pictures.{CodedSlice, CodedPicture, with_sets, sets_at, begins_at, runs_of}
 use Rattle.h264_verify.specs.Slices.{first_mb_demands}
@@ -40,12 +40,14 @@ use Rattle.h264_verify.specs.Demands.{judged}
 use Rattle.h264_units.specs.UnitHeader.{header_of, nal_unit_type, is_slice}
 use Rattle.h264_verify.specs.Units.{slice_unit, slice_unit_of}
 use Rattle.h264_verify.proofs.SliceSteps.{ok-true}
-use Rattle.h264_verify.specs.StepOutcome.{structure_from, course_outcome}
+use Rattle.h264_verify.specs.CourseOutcome.{structure_from, outcome_of}
+use Rattle.h264_verify.specs.UnitOutcome.{joins}
 use Rattle.h264_verify.specs.Memory.{reads_slices, is_kind_read}
 use Rattle.h264_verify.proofs.WantOfMemory.{passed-content, slice-content, sps-content, pps-content}
 use Rattle.h264_verify.proofs.OutcomesPlayed.{gives-plays}
-use Rattle.h264_verify.proofs.CourseOutcome.{outcome}
-use Rattle.h264_verify.proofs.CourseParts.{seen, structure-seen, reads-then}
+use Rattle.h264_verify.proofs.Courses.{outcome}
+use Rattle.h264_verify.proofs.CourseParts.{seen, structure-seen}
+use Rattle.h264_verify.proofs.Played.{starts, read, unread, ended}
 
 -- What meets a grammar from a bit on plays its outcome, with the bit after it.
 module _ {A S X : Type 0} (frames : Family) (took : S → List Call → Type 0) (failures : S → ℕ) (view : X → A) (g : Grammar A) (body : Body) (i j : ℕ)
@@ -186,20 +188,22 @@ module _ {S : Type 0} (took : S → List Told → Type 0) (failures : S → ℕ)
   unfolding slice_data_at
   data-is = ap (λ o. data_by o before unit h) named
 
-  abbrev one_more : Content → History
-  one_more found = record { unit = unit; content = found } ∷ before
-
   abbrev Joined : Depth → Result (Unit {0}) Stop → Type 0
-  Joined depth r = Plays (span took failures s s') (λ (x : Unit {0}). one_more (contents.OfSlice h ms))
-      (course_outcome (body_of unit) (data_course depth before unit (contents.OfSlice h []) bit) >>= λ found. gives (one_more found)) r
+  Joined depth r = Plays (span took failures s s') (λ (x : Unit {0}). record { unit = unit; content = contents.OfSlice h ms } ∷ before)
+      (outcome_of (data_course depth before unit (contents.OfSlice h []) bit) >>= joins before unit) r
+
+  by-answer : (r : Result (Unit {0}) Stop) →
+      Plays (span took failures s s') (λ (x : Unit {0}). (contents.OfSlice h ms, end))
+      (structure_from (◌bind◌ (slice_data_at before unit h) (λ k. Done (contents.OfSlice h k))) (body_of unit) bit) r → Joined depths.Full r
+  by-answer (Ok x) p = ended took failures (read took failures (starts took failures (joins before unit)
+      (data_course depths.Full before unit (contents.OfSlice h []) bit) s) p)
+      (gives-plays took failures (λ (x : Unit {0}). record { unit = unit; content = contents.OfSlice h ms } ∷ before) x s')
+  by-answer (Err e) p = unread took failures (starts took failures (joins before unit) (data_course depths.Full before unit (contents.OfSlice h []) bit) s) p
 
   pub data-joins : (depth : Depth) → depth ≡ depths.Full → (r : Result (Unit {0}) Stop) →
       Plays (span took failures s s') (λ x. (ms, end)) (structure_from body_data (body_of unit) bit) r → Joined depth r
   data-joins depth full r p =
       let d = subst (λ (g : Grammar (List CodedMacroblock)). Plays (span took failures s s') (λ (x : Unit {0}). (ms, end))
       (structure_from g (body_of unit) bit) r) (sym data-is) p in
-      subst (λ (m : Depth). Joined m r) (sym full) (reads-then took failures (body_of unit) (λ found. gives (one_more found))
-      (◌bind◌ (slice_data_at before unit h) (λ k. Done (contents.OfSlice h k))) bit (λ (x : Unit {0}). (contents.OfSlice h ms, end))
-      (λ (x : Unit {0}). one_more (contents.OfSlice h ms)) s s' r
-      (plays-seen took failures (λ (x : Unit {0}). (ms, end)) (contents.OfSlice h) (slice_data_at before unit h) (body_of unit) bit s s' r d)
-      (λ x is. gives-plays took failures (λ (x : Unit {0}). one_more (contents.OfSlice h ms)) x s'))
+      subst (λ (m : Depth). Joined m r) (sym full)
+      (by-answer r (plays-seen took failures (λ (x : Unit {0}). (ms, end)) (contents.OfSlice h) (slice_data_at before unit h) (body_of unit) bit s s' r d))

@@ -26,7 +26,7 @@ use Rattle.h264_verify.specs.declared.state.Depth.{Depth}
 use Rattle.h264_units.specs.UnitHeader.{header_of, nal_unit_type, is_slice}
 use Rattle.h264_verify.specs.Feeding.{WasFed, ComesTo}
 use Rattle.h264_verify.proofs.AfterLegal.{holds-after, stops-after, after-end, joined, ended, unended}
-use Rattle.h264_verify.proofs.CourseOutcome.{outcome}
+use Rattle.h264_verify.proofs.Courses.{outcome}
 use Rattle.h264_verify.proofs.FamiliesAgree.{tells-agree}
 use Rattle.h264_verify.proofs.SessionUnits.{next-some, shows-length}
 use Rattle.h264_verify.proofs.SessionSteps.{grows-after, comes-as, agree-both, judged-after}

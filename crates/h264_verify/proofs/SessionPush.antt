@@ -20,7 +20,7 @@ use Rattle.h264_verify.specs.Verdict.{in_order, AreLegal}
 use Rattle.h264_verify.specs.Progress.{going}
 use Rattle.h264_verify.specs.Feeding.{ShowsUnits, WasFed, GoesOn, ComesTo}
 use Rattle.h264_verify.proofs.AfterLegal.{joined}
-use Rattle.h264_verify.proofs.CourseOutcome.{outcome}
+use Rattle.h264_verify.proofs.Courses.{outcome}
 use Rattle.h264_verify.proofs.FamiliesAgree.{agree-none, of-both, of-more}
 use Rattle.h264_verify.proofs.FamiliesByPurpose.{family-on}
 use Rattle.h264_verify.proofs.SessionUnits.{in-order, shows-both, shows-more}

@@ -24,7 +24,7 @@ use Rattle.h264_verify.specs.Verdict.{in_order, AtNext, AtTail, Verdict, Whole, 
 use Rattle.h264_verify.specs.Progress.{Progress}
 use Rattle.h264_verify.specs.Feeding.{WasFed, ComesTo}
 use Rattle.h264_verify.proofs.AfterLegal.{SomeAfter, stops-after, after-unit, some-after, stopped}
-use Rattle.h264_verify.proofs.CourseOutcome.{outcome}
+use Rattle.h264_verify.proofs.Courses.{outcome}
 use Rattle.h264_verify.proofs.FamiliesAgree.{agree-none}
 use Rattle.h264_verify.proofs.SessionUnits.{in-order, begin-shown, splits-first, splits-shown}
 use Rattle.h264_verify.proofs.ToldTogether.{tells-none}

@@ -1,9 +1,7 @@
 -- A slice is judged: what comes to pass, one part after another.
-use Rattle.std.proofs.Common.{◌≡◌, ℕ, ◌*◌, Bool, true, false, List, [], ◌++◌, Option, Some, Result, Ok, Err, refl, ap, sym, ◌∙◌, subst}
-use Rattle.std.proofs.Common.{if◌then◌else◌}
+use Rattle.std.proofs.Common.{◌≡◌, ℕ, ◌*◌, Bool, true, false, List, [], Option, Some, Ok, refl, ap, sym, ◌∙◌, subst}
 use Rattle.h264_base.specs.Call.{span}
 use Rattle.h264_verify.specs.declared.state.Depth.{Depth}
-use Rattle.h264_base.specs.declared.stop.Stop.{Stop}
 use Rattle.h264_units.specs.Stream.{NalUnit}
 use Rattle.h264_sps.specs.declared.sps.Sps.{Sps}
 use Rattle.h264_pps.specs.declared.Pps.{Pps}
@@ -15,72 +13,55 @@ use Rattle.h264_dpb.specs.Ending.{ended_of}
 use Rattle.h264_verify.specs.declared.decoder.Decoder.{Decoder}
 use Rattle.h264_verify.specs.declared.slices.PicturesSoFar.{PicturesSoFar}
 use Rattle.h264_verify.specs.Telling.{Told, Family}
-use Rattle.h264_verify.specs.Outcome.{Outcome, Plays}
+use Rattle.h264_verify.specs.Outcome.{gives, Plays}
 use Rattle.h264_verify.specs.Demands.{judged}
 use Rattle.h264_verify.specs.History.{History, maps_of}
-use Rattle.h264_verify.specs.Order.{whole_steps, slice_steps, closing_demands, standing_demands, coded_before}
-use Rattle.h264_verify.specs.Buffering.{closing_frames, ended_picture, frame_count}
-use Rattle.h264_verify.specs.StepOutcome.{steps_outcome}
+use Rattle.h264_verify.specs.Order.{slice_steps, standing_demands, coded_before, close_if, steps_by, own_steps, told_rules}
+use Rattle.h264_verify.specs.Buffering.{ended_picture, frame_count}
+use Rattle.h264_verify.specs.CourseOutcome.{outcome_of}
 use Rattle.h264_verify.specs.Slices.{first_mb_demands, is_idr_due}
-use Rattle.h264_verify.specs.Pictures.{CodedSlice, CodedPicture, with_sets, open_of, begins_after, begins_at, runs_of}
-use Rattle.h264_verify.specs.Keeping.{KeepsFrames, WhereMade, HoldsNewest, Entered, told_rules, close_steps}
-use Rattle.h264_verify.specs.Steps.{Step, needs}
-use Rattle.h264_verify.proofs.CourseOutcome.{three-before}
-use Rattle.h264_verify.proofs.SliceSteps.{refused, err-named, own_steps, at-standing, at-place, after-place}
-use Rattle.h264_verify.proofs.StepsPlayed.{steps-stop, steps-on}
+use Rattle.h264_verify.specs.Pictures.{CodedSlice, CodedPicture, with_sets, sets_at, open_of, begins_after, begins_at, runs_of}
+use Rattle.h264_verify.specs.Keeping.{KeepsFrames, WhereMade, HoldsNewest, Entered}
+use Rattle.h264_verify.specs.Course.{Steps, ◌>>◌, needs}
+use Rattle.h264_verify.proofs.Played.{ComesTo, begins as begins-so, played, met}
 use Rattle.h264_verify.proofs.KeepsOutput.{coded-by, holds-newest}
 use Rattle.h264_verify.proofs.WhereMade.{made-then}
 
 module _ {S : Type 0} (took : S → List Told → Type 0) (failures : S → ℕ) (depth : Depth) (before : History) (unit : NalUnit) (h : Header) (begins : Bool)
     (b : begins ≡ begins_at before h) where
-  abbrev PlaysOf : Outcome (Unit {0}) → S → S → Result (Unit {0}) Stop → Type 0
-  PlaysOf o s s' r = Plays (span took failures s s') (λ (x : Unit {0}). x) o r
+  -- it was judged up to these steps
+  abbrev pub SliceTo : S → S → Steps → Type 0
+  SliceTo s s' rest = ComesTo took failures gives (outcome_of (slice_steps depth before unit h)) rest s s'
 
-  abbrev own : Outcome (Unit {0})
-  own = steps_outcome (own_steps depth before unit h begins b)
+  abbrev own : Steps
+  own = steps_by depth (sets_at before h) before unit h
 
-  -- after the end of the picture before it
-  closed-is : slice_steps depth before unit h ≡ close_steps depth begins before ++ own_steps depth before unit h begins b
-  closed-is =
-      let at = begins_at before h in
-      sym (three-before (if at then whole_steps depth before else []) (needs (if at then closing_demands before else []))
-      (if at then closing_frames depth before else []) (own_steps depth before unit h begins b))
-      ∙ ap (λ (x : Bool). close_steps depth x before ++ own_steps depth before unit h begins b) (sym b)
+  pub slice-begins : (s : S) → SliceTo s s (close_if begins depth before >> own)
+  slice-begins s = subst (λ (x : Bool). SliceTo s s (close_if x depth before >> own)) (sym b) (begins-so took failures (slice_steps depth before unit h) s)
 
-  pub closed-stop : (s s' : S) (e : Stop) → PlaysOf (steps_outcome (close_steps depth begins before)) s s' (Err e) →
-      PlaysOf (steps_outcome (slice_steps depth before unit h)) s s' (Err e)
-  closed-stop s s' e p = subst (λ (l : List Step). PlaysOf (steps_outcome l) s s' (Err e)) (sym closed-is)
-      (steps-stop took failures (λ (x : Unit {0}). x) (close_steps depth begins before) (own_steps depth before unit h begins b) s s' e p)
-
-  pub closed-on : (s0 s1 s2 : S) (x : Unit {0}) (r : Result (Unit {0}) Stop) → PlaysOf (steps_outcome (close_steps depth begins before)) s0 s1 (Ok x) →
-      PlaysOf own s1 s2 r → PlaysOf (steps_outcome (slice_steps depth before unit h)) s0 s2 r
-  closed-on s0 s1 s2 x r p q = subst (λ (l : List Step). PlaysOf (steps_outcome l) s0 s2 r) (sym closed-is)
-      (steps-on took failures (λ (x : Unit {0}). x) (close_steps depth begins before) (own_steps depth before unit h begins b) s0 s1 s2 x r p q)
-
-  -- its own rules, and that it is told
+  -- the picture before it has ended, where it begins one; it has these sets
   module _ (due : Bool) (maps : Maps) (due-is : due ≡ is_idr_due before) (maps-are : maps ≡ maps_of before) (sets : Pps × Sps)
       (named : sets_of maps h.pic_parameter_set_id.value ≡ Some sets) where
     abbrev slice : CodedSlice
     slice = with_sets unit h [] sets
 
-    pub standing-stop : (s : S) (e : Stop) →
-        (let r : Result (Unit {0}) Stop = Err e in r ≡ judged (standing_demands begins sets.1 due maps (8 * unit.from) h)) → PlaysOf own s s (Err e)
-    standing-stop s e p = refused took failures (own_steps depth before unit h begins b) s e
-        (at-standing depth before unit h begins b due maps due-is maps-are sets named e p)
-        (err-named (standing_demands begins sets.1 due maps (8 * unit.from) h) e (sym p))
+    own-is : own ≡ own_steps depth begins due maps (runs_of before) slice
+    own-is =
+        ap (λ o. steps_by depth o before unit h) (ap (λ m. sets_of m h.pic_parameter_set_id.value) (sym maps-are) ∙ named)
+        ∙ ap (λ x. own_steps depth x (is_idr_due before) (maps_of before) (runs_of before) slice) (sym b)
+        ∙ ap (λ x. own_steps depth begins x (maps_of before) (runs_of before) slice) (sym due-is)
+        ∙ ap (λ m. own_steps depth begins due m (runs_of before) slice) (sym maps-are)
 
-    module _ (x : Unit {0}) (stands : Ok x ≡ judged (standing_demands begins sets.1 due maps (8 * unit.from) h)) where
-      pub place-stop : (s : S) (e : Stop) → (let r : Result (Unit {0}) Stop = Err e in
-          r ≡ judged (first_mb_demands depth (coded_before begins (runs_of before)) h)) → PlaysOf own s s (Err e)
-      place-stop s e p = refused took failures (own_steps depth before unit h begins b) s e
-          (at-place depth before unit h begins b due maps due-is maps-are sets named x stands e p)
-          (err-named (first_mb_demands depth (coded_before begins (runs_of before)) h) e (sym p))
+    pub slice-closed : (s s' : S) (x : Unit {0}) →
+        Plays (span took failures s s') (λ (u : Unit {0}). u) (outcome_of (close_if begins depth before)) (Ok x) →
+        SliceTo s s' (own_steps depth begins due maps (runs_of before) slice)
+    slice-closed s s' x p = subst (SliceTo s s') own-is (played took failures (close_if begins depth before) _ (slice-begins s) p)
 
-      module _ (y : Unit {0}) (placed : Ok y ≡ judged (first_mb_demands depth (coded_before begins (runs_of before)) h)) where
-        pub own-then : (s s' : S) (r : Result (Unit {0}) Stop) → PlaysOf (steps_outcome (told_rules depth begins (runs_of before) slice)) s s' r →
-            PlaysOf own s s' r
-        own-then s s' r p = subst (λ (o : Outcome (Unit {0})). PlaysOf o s s' r)
-            (sym (after-place depth before unit h begins b due maps due-is maps-are sets named x stands y placed)) p
+    pub slice-stands : (s s' : S) (x y : Unit {0}) →
+        Plays (span took failures s s') (λ (u : Unit {0}). u) (outcome_of (close_if begins depth before)) (Ok x) →
+        Ok y ≡ judged (standing_demands begins sets.1 due maps (8 * unit.from) h) →
+        SliceTo s s' (needs (first_mb_demands depth (coded_before begins (runs_of before)) h) >> told_rules depth begins (runs_of before) slice)
+    slice-stands s s' x y p stands = met took failures (standing_demands begins sets.1 due maps (8 * unit.from) h) _ (slice-closed s s' x p) stands
 
 -- the macroblocks of its picture before it
 held-before : (frames : Family) (on begins : Bool) (pictures : List CodedPicture) (h : Header) → begins ≡ begins_after (open_of on pictures) h →

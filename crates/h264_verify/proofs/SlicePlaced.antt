@@ -18,20 +18,22 @@ use Rattle.h264_verify.specs.declared.slices.PicturesSoFar.{PicturesSoFar}
 use Rattle.h264_verify.specs.declared.state.State.{State}
 use Rattle.h264_verify.specs.Telling.{took_with, frame_span, Family}
 use Rattle.h264_verify.specs.Outcome.{Plays}
-use Rattle.h264_verify.specs.StepOutcome.{steps_outcome}
+use Rattle.h264_verify.specs.CourseOutcome.{outcome_of}
 use Rattle.h264_verify.specs.Content as contents
 use Rattle.h264_verify.specs.History.{History, maps_of, maps_with}
 use Rattle.h264_verify.specs.Pictures.{CodedSlice, CodedPicture, with_sets, begins_at, joined_to, goes_on, runs_of}
 use Rattle.h264_verify.specs.KeepingUnits.{Keeps}
-use Rattle.h264_verify.specs.Keeping.{KeepsSlices, KeepsPictures, KeepsFrames, WhereMade, GoesWith, KeepsSomeRules, told_rules}
+use Rattle.h264_verify.specs.Keeping.{KeepsSlices, KeepsPictures, KeepsFrames, WhereMade, GoesWith, KeepsSomeRules}
 use Rattle.h264_verify.specs.Framing.{PlacesSlice, slice_after}
-use Rattle.h264_verify.specs.Order.{slice_steps}
+use Rattle.h264_verify.specs.Order.{slice_steps, coded_before, told_rules}
 use Rattle.h264_verify.specs.Sound.{IsMarked, NamesSet, AreSound}
 use Rattle.h264_verify.proofs.KeepsEntered.{slice-keeps}
 use Rattle.h264_verify.proofs.UnitJoins.{units-with, runs-with}
 use Rattle.h264_verify.proofs.SliceRules.{goes-with}
 use Rattle.h264_verify.proofs.SliceSets.{stands-if, before-active, joined-sound, gap-filled, joined-active, joined-named}
-use Rattle.h264_verify.proofs.SliceJudged.{closed-on, own-then}
+use Rattle.h264_verify.proofs.SliceJudged.{slice-stands}
+use Rattle.h264_verify.proofs.Played.{met, last}
+use Rattle.h264_verify.specs.Slices.{first_mb_demands}
 
 module _ {S : Type 0} (depth : Depth) (took : S → List Call → Type 0) (failures : S → ℕ) (frames : Family) (before : History) (unit : NalUnit) (h : Header)
     (begins : Bool) (old mid : State) (s s1 : S) (placed : PlacesSlice depth (frame_span took failures frames s s1) (slice_after before unit h begins) old mid)
@@ -55,11 +57,11 @@ module _ {S : Type 0} (depth : Depth) (took : S → List Call → Type 0) (failu
         -- what comes to pass of it
         pub slice-plays : (s2 : S) (r : Result (Unit {0}) Stop) →
             Plays (span (took_with placed.closes.made took) failures s1 s2) (λ (x : Unit {0}). x)
-            (steps_outcome (told_rules depth begins (runs_of before) (slice []))) r →
-            Plays (span (took_with placed.closes.made took) failures s s2) (λ (x : Unit {0}). x) (steps_outcome (slice_steps depth before unit h)) r
-        slice-plays s2 r plays = closed-on (took_with placed.closes.made took) failures depth before unit h begins b s s1 s2 tt r placed.closes.plays
-            (own-then (took_with placed.closes.made took) failures depth before unit h begins b mid.slices.due old.sets placed.ended.due m (pps, sps) sets tt
-            (placed.stands (pps, sps) sets) tt placed.first s1 s2 r plays)
+            (outcome_of (told_rules depth begins (runs_of before) (slice []))) r →
+            Plays (span (took_with placed.closes.made took) failures s s2) (λ (x : Unit {0}). x) (outcome_of (slice_steps depth before unit h)) r
+        slice-plays s2 r plays = last _ _ (met _ _ (first_mb_demands depth (coded_before begins (runs_of before)) h) _
+            (slice-stands (took_with placed.closes.made took) failures depth before unit h begins b mid.slices.due old.sets placed.ended.due m (pps, sps) sets
+            s s1 tt tt placed.closes.plays (placed.stands (pps, sps) sets)) placed.first) plays
 
         -- it is sound with the pictures before it
         pub sound-slice : (ms : List CodedMacroblock) (new : PicturesSoFar) → IsMarked h → is_usable sps ≡ true →

@@ -39,7 +39,7 @@ use Rattle.h264_verify.specs.declared.decoder.Format.{Format}
 use Rattle.h264_verify.specs.Pictures.{CodedSlice, CodedPicture, picture_size}
 use Rattle.h264_verify.specs.Lists.{list_in, context_in}
 use Rattle.h264_verify.specs.Decoding.{EachSlice, number_of, parameters_of}
-use Rattle.h264_verify.specs.StepOutcome.{structure_from}
+use Rattle.h264_verify.specs.CourseOutcome.{structure_from}
 use Rattle.h264_verify.specs.Framing.{ReadsSlice}
 use Rattle.h264_verify.specs.Keeping.{KeepsOutput, HasFormat, IsRoomFor, IsSized, IsNear}
 use Rattle.h264_verify.specs.Memory.{format_of}

@@ -1,13 +1,10 @@
 -- Rules one after another, and the sets of a slice.
-use Rattle.std.proofs.Common.{OnOk, IsTrue, IsFalse, ◌⊎◌, inl, inr, ◌≡◌, ℕ, ◌*◌, Bool, true, false, List, [], ◌∷◌, ◌++◌, Option, Some, None, Result, zero, suc}
-use Rattle.std.proofs.Common.{Ok, Err, refl, ap, sym, ◌∙◌, subst, ◌||◌, if◌then◌else◌}
+use Rattle.std.proofs.Common.{OnOk, IsTrue, IsFalse, ◌⊎◌, inl, inr, ◌≡◌, ℕ, Bool, true, false, List, [], ◌∷◌, ◌++◌, Option, Some, None, Result, zero, suc}
+use Rattle.std.proofs.Common.{Ok, Err, refl, ap, sym, ◌∙◌, ◌||◌, if◌then◌else◌}
 use Rattle.std.specs.Option.{is_some, option_map}
-use Rattle.h264_base.specs.Call.{span}
 use Rattle.h264_base.specs.declared.rule.Rule.TheVariants.{SetChanged}
 use Rattle.h264_base.specs.declared.stop.Stop.{Stop}
 use Rattle.h264_base.specs.declared.stop.Stop.TheVariants.{No}
-use Rattle.h264_verify.specs.Telling.{Told, Said}
-use Rattle.h264_units.specs.Stream.{NalUnit}
 use Rattle.h264_sps.specs.declared.sps.Sps.{Sps}
 use Rattle.h264_pps.specs.declared.Pps.{Pps}
 use Rattle.h264_sets.specs.Sets.{Maps, pair_of, with_active, IsActive}
@@ -16,19 +13,10 @@ use Rattle.h264_header.proofs.Named.{named-pair}
 use Rattle.h264_sets.specs.declared.SetPair.{SetPair}
 use Rattle.h264_header.specs.declared.header.Header.{Header}
 use Rattle.h264_header.specs.Layout.{sets_of}
-use Rattle.h264_verify.specs.declared.state.Depth.{Depth}
 use Rattle.h264_verify.specs.Content as contents
-use Rattle.h264_verify.specs.Outcome.{Outcome, answers, Plays, IsNamed}
 use Rattle.h264_verify.specs.Demands.{Demand, judged}
-use Rattle.h264_verify.specs.History.{History, with_pair, maps_with, maps_of}
-use Rattle.h264_verify.specs.Slices.{has_content, is_active, set_demand, first_mb_demands, is_idr_due, slice_call}
-use Rattle.h264_verify.specs.Order.{standing_demands, coded_before, slice_rules, rules_of, steps_by}
-use Rattle.h264_verify.specs.Steps.{Step, Tells, needs}
-use Rattle.h264_verify.specs.StepOutcome.{steps_outcome}
-use Rattle.h264_verify.specs.Pictures.{CodedSlice, with_sets, sets_at, begins_at, joined_to, runs_of}
-use Rattle.h264_verify.specs.Keeping.{told_rules}
-use Rattle.h264_verify.proofs.OutcomesPlayed.{answers-plays}
-use Rattle.h264_verify.proofs.CourseOutcome.{needs-first, needs-ok, needs-err, after_rules, three-before}
+use Rattle.h264_verify.specs.History.{with_pair, maps_with}
+use Rattle.h264_verify.specs.Slices.{has_content, is_active, set_demand}
 use Rattle.h264_base.proofs.Plain.{some-same}
 
 -- one rule before others: met, or not
@@ -55,15 +43,6 @@ ok-on d false m x y z u f h = let g : Err (No d.bit d.rule) ≡ Ok u = sym (one-
 pub front-ok : (ds es : List Demand) (x : Unit {0}) → judged ds ≡ Ok x → judged (ds ++ es) ≡ judged es
 front-ok [] es x h = refl
 front-ok (d ∷ ds) es x h = ok-on d d.met refl (judged ds) (judged (ds ++ es)) (judged es) x (front-ok ds es x) h
-
-named-on : (d : Demand) (b : Bool) → d.met ≡ b → (x : Result (Unit {0}) Stop) (e : Stop) → (x ≡ Err e → IsNamed e) →
-    (if d.met then x else Err (No d.bit d.rule)) ≡ Err e → IsNamed e
-named-on d true m x e f h = f (sym (one-met d x m) ∙ h)
-named-on d false m x e f h = let g : Err (No d.bit d.rule) ≡ Err e = sym (one-unmet d x m) ∙ h in let k : No d.bit d.rule ≡ e = cc in subst IsNamed k tt
-
-pub err-named : (ds : List Demand) (e : Stop) → judged ds ≡ Err e → IsNamed e
-err-named [] e h = cc
-err-named (d ∷ ds) e h = named-on d d.met refl (judged ds) e (err-named ds e) h
 
 -- the active pair says nothing of what an id names
 sets-kept : (maps : Maps) (pair : Option SetPair) (id : ℕ) → sets_of (with_pair maps pair) id ≡ sets_of maps id
@@ -170,64 +149,3 @@ some-of (Some x) h = (x, refl)
 pub ok-true : (b : Bool) (x : Unit {0}) (e : Stop) → (let r : Result (Unit {0}) Stop = Ok x in r ≡ (if b then Ok tt else Err e)) → b ≡ true
 ok-true true x e h = refl
 ok-true false x e h = cc
-
--- a stop that these steps come to
-pub refused : {S : Type 0} (took : S → List Told → Type 0) (failures : S → ℕ) (steps : List Step) (s : S) (e : Stop) → steps_outcome steps ≡ answers (Err e) →
-    IsNamed e → Plays (span took failures s s) (λ (x : Unit {0}). x) (steps_outcome steps) (Err e)
-refused took failures steps s e h n = subst (λ (o : Outcome (Unit {0})). Plays (span took failures s s) (λ (x : Unit {0}). x) o (Err e)) (sym h)
-    (answers-plays took failures e s n)
-
--- The steps of a slice, after what is kept of the units before it.
-module _ (depth : Depth) (before : History) (unit : NalUnit) (h : Header) (begins : Bool) (b : begins ≡ begins_at before h) where
-  -- its own rules, and that it is told
-  abbrev pub own_steps : List Step
-  own_steps = steps_by depth (sets_at before h) before unit h
-
-  module _ (due : Bool) (maps : Maps) (due-is : due ≡ is_idr_due before) (maps-are : maps ≡ maps_of before) where
-    abbrev slice : Pps × Sps → CodedSlice
-    slice sets = with_sets unit h [] sets
-
-    -- what comes to pass of the slice
-    abbrev call : Pps × Sps → Told
-    call sets = Said (slice_call (joined_to begins (slice sets) (runs_of before)) (slice sets))
-
-    abbrev place : List Demand
-    place = first_mb_demands depth (coded_before begins (runs_of before)) h
-
-    abbrev pub rules_then : Pps × Sps → List Step
-    rules_then sets = told_rules depth begins (runs_of before) (slice sets)
-
-    standing-rest : (begins : Bool) (sets : Pps × Sps) (ts : List Step) → rules_of depth begins due maps (runs_of before) (slice sets) ++ ts ≡
-        needs (standing_demands begins sets.1 due maps (8 * unit.from) h) ++
-        (needs (first_mb_demands depth (coded_before begins (runs_of before)) h) ++ (slice_rules depth begins (runs_of before) (slice sets) ++ ts))
-    standing-rest begins sets ts = three-before (needs (standing_demands begins sets.1 due maps (8 * unit.from) h))
-        (needs (first_mb_demands depth (coded_before begins (runs_of before)) h)) (slice_rules depth begins (runs_of before) (slice sets)) ts
-
-    with-sets : (sets : Pps × Sps) → sets_of maps h.pic_parameter_set_id.value ≡ Some sets →
-        steps_outcome own_steps ≡ after_rules (judged (standing_demands begins sets.1 due maps (8 * unit.from) h)) (needs place ++ rules_then sets)
-    with-sets sets n =
-        ap (λ o. steps_outcome (steps_by depth o before unit h)) (ap (λ m. sets_of m h.pic_parameter_set_id.value) (sym maps-are) ∙ n)
-        ∙ ap (λ x. steps_outcome (rules_of depth x (is_idr_due before) (maps_of before) (runs_of before) (slice sets) ++
-        Tells (Said (slice_call (joined_to x (slice sets) (runs_of before)) (slice sets))) ∷ [])) (sym b)
-        ∙ ap (λ x. steps_outcome (rules_of depth begins x (maps_of before) (runs_of before) (slice sets) ++ Tells (call sets) ∷ [])) (sym due-is)
-        ∙ ap (λ m. steps_outcome (rules_of depth begins due m (runs_of before) (slice sets) ++ Tells (call sets) ∷ [])) (sym maps-are)
-        ∙ ap steps_outcome (standing-rest begins sets (Tells (call sets) ∷ []))
-        ∙ needs-first (standing_demands begins sets.1 due maps (8 * unit.from) h) (needs place ++ rules_then sets)
-
-    -- where it stands is against a rule
-    pub at-standing : (sets : Pps × Sps) → sets_of maps h.pic_parameter_set_id.value ≡ Some sets →
-        (e : Stop) → Err e ≡ judged (standing_demands begins sets.1 due maps (8 * unit.from) h) → steps_outcome own_steps ≡ answers (Err e)
-    at-standing sets n e p = with-sets sets n ∙ ap (λ r. after_rules r (needs place ++ rules_then sets)) (sym p)
-
-    module _ (sets : Pps × Sps) (named : sets_of maps h.pic_parameter_set_id.value ≡ Some sets) (x : Unit {0})
-        (stands : Ok x ≡ judged (standing_demands begins sets.1 due maps (8 * unit.from) h)) where
-      after-standing : steps_outcome own_steps ≡ steps_outcome (needs place ++ rules_then sets)
-      after-standing = with-sets sets named ∙ ap (λ r. after_rules r (needs place ++ rules_then sets)) (sym stands)
-
-      -- it does not begin where the macroblocks so far end
-      pub at-place : (e : Stop) → Err e ≡ judged place → steps_outcome own_steps ≡ answers (Err e)
-      at-place e p = after-standing ∙ needs-err place (rules_then sets) e (sym p)
-
-      -- the rules of the slice, and then it is told
-      pub after-place : (y : Unit {0}) → Ok y ≡ judged place → steps_outcome own_steps ≡ steps_outcome (told_rules depth begins (runs_of before) (slice sets))
-      after-place y placed = after-standing ∙ needs-ok place (rules_then sets) y (sym placed)

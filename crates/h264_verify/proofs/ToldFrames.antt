@@ -14,11 +14,11 @@ use Rattle.h264_dpb.specs.Writing.{LendsNone, Writes, WritesBy}
 use Rattle.h264_verify.specs.Pictures.{CodedPicture}
 use Rattle.h264_verify.specs.Telling.{Told, Said, Decodes, Shows, calls_to_show, calls_of, HasFrame, AreDecoded, took_with, Tells, TellsFront, Family}
 use Rattle.h264_verify.specs.Outcome.{Outcome, ◌>>=◌, tells, with_calls, Plays, PlaysBy}
-use Rattle.h264_verify.proofs.CourseOutcome.{steps-append}
-use Rattle.h264_verify.specs.Steps.{Step}
-use Rattle.h264_verify.specs.Steps as step
-use Rattle.h264_verify.specs.Buffering.{told_frames}
-use Rattle.h264_verify.specs.StepOutcome.{steps_outcome}
+use Rattle.h264_verify.proofs.Courses.{course-bind}
+use Rattle.h264_verify.specs.Course.{Steps, ◌>>=◌ as ◌then◌, ◌>>◌}
+use Rattle.h264_verify.specs.Course as course
+use Rattle.h264_verify.specs.Buffering.{told_frames, told_picture}
+use Rattle.h264_verify.specs.CourseOutcome.{outcome_of}
 
 -- frames are lent where they are made, and none where they are not
 abbrev pub IsLentFor : Family → (ℕ → Option Frame) → Output → Type 0
@@ -99,7 +99,7 @@ front-shown frames took s s' written k =
     }
 
 pub shows-outcome : (written : List (Entry Shown)) →
-    (let o : Outcome (Unit {0}) = record { calls = map Shows written; answer = Ok tt } in steps_outcome (told_frames depths.Full written) ≡ o)
+    (let o : Outcome (Unit {0}) = record { calls = map Shows written; answer = Ok tt } in outcome_of (told_frames depths.Full written) ≡ o)
 shows-outcome [] = refl
 shows-outcome (e ∷ es) = ap (λ (o : Outcome (Unit {0})). with_calls (Shows e ∷ []) o) (shows-outcome es)
 
@@ -109,7 +109,7 @@ all_shown written = record { calls = map Shows written; answer = Ok tt }
 -- frames that were written
 pub writes-plays : {S : Type 0} (frames : Family) (took : S → List Call → Type 0) (failures : S → ℕ) (written : List (Entry Shown)) (s s' : S)
     (r : Result (Unit {0}) Stop) → Writes took failures (calls_to_show frames written) s s' r →
-    Plays (span (took_with frames took) failures s s') (λ (x : Unit {0}). x) (steps_outcome (told_frames depths.Full written)) r
+    Plays (span (took_with frames took) failures s s') (λ (x : Unit {0}). x) (outcome_of (told_frames depths.Full written)) r
 writes-plays {S} frames took failures written s s' r w =
     subst (λ (o : Outcome (Unit {0})). Plays (span (took_with frames took) failures s s') (λ (x : Unit {0}). x) o r) (sym (shows-outcome written))
     (record { plays = by r w.writes })
@@ -182,15 +182,16 @@ pub decodes-plays : {S : Type 0} (frames : Family) (took : S → List Call → T
     HasFrame frames pictures → Plays (span (took_with frames took) failures s s) (λ (x : Unit {0}). x) (tells (Decodes pictures)) (Ok tt)
 decodes-plays frames took failures s pictures d = record { plays = (refl, decodes-tell frames took s pictures d, refl) }
 
-shown-both : (xs ys : List (Entry Shown)) → told_frames depths.Full (xs ++ ys) ≡ told_frames depths.Full xs ++ told_frames depths.Full ys
+shown-both : (xs ys : List (Entry Shown)) → told_frames depths.Full (xs ++ ys) ≡ (told_frames depths.Full xs >> told_frames depths.Full ys)
+unfolding ◌then◌
 shown-both [] ys = refl
-shown-both (x ∷ xs) ys = ap (λ (l : List Step). step.Tells (Shows x) ∷ l) (shown-both xs ys)
+shown-both (x ∷ xs) ys = ap (λ (c : Steps). course.Tells (Shows x) c) (shown-both xs ys)
 
 -- it is decoded, and then frames are written in two steps
 pub end-outcome : (pictures : List CodedPicture) (xs ys : List (Entry Shown)) →
-    steps_outcome ((step.Tells (Decodes pictures) ∷ []) ++ told_frames depths.Full (xs ++ ys)) ≡
-    (tells (Decodes pictures) >>= λ _. steps_outcome (told_frames depths.Full xs) >>= λ _. steps_outcome (told_frames depths.Full ys))
+    outcome_of (told_picture depths.Full pictures >> told_frames depths.Full (xs ++ ys)) ≡
+    (tells (Decodes pictures) >>= λ _. outcome_of (told_frames depths.Full xs) >>= λ _. outcome_of (told_frames depths.Full ys))
 end-outcome pictures xs ys =
-    steps-append (step.Tells (Decodes pictures) ∷ []) (told_frames depths.Full (xs ++ ys))
+    course-bind (told_picture depths.Full pictures) (λ _. told_frames depths.Full (xs ++ ys))
     ∙ ap (λ (o : Outcome (Unit {0})). tells (Decodes pictures) >>= λ _. o)
-    (ap steps_outcome (shown-both xs ys) ∙ steps-append (told_frames depths.Full xs) (told_frames depths.Full ys))
+    (ap outcome_of (shown-both xs ys) ∙ course-bind (told_frames depths.Full xs) (λ _. told_frames depths.Full ys))

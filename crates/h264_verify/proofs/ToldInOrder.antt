@@ -6,10 +6,10 @@ use Rattle.std.proofs.lemmas.Bool.Decides.{nat_tests}
 use Rattle.h264_verify.specs.declared.state.Depth.{Depth}
 use Rattle.h264_verify.specs.declared.state.Depth.TheVariants as depths
 use Rattle.h264_base.specs.declared.stop.Stop.{Stop}
-use Rattle.h264_verify.specs.StepOutcome.{steps_outcome}
+use Rattle.h264_verify.specs.CourseOutcome.{outcome_of}
 use Rattle.h264_verify.proofs.FamiliesAgree.{of-more}
 use Rattle.h264_base.specs.Body.{Body}
-use Rattle.h264_base.specs.Grammar.{Grammar, Element, Done, ◌>>=◌ as ◌bind◌}
+use Rattle.h264_base.specs.Grammar.{Element, Says, Done, ◌>>=◌ as ◌bind◌}
 use Rattle.h264_base.specs.declared.summary.Summary.{Summary}
 use Rattle.h264_units.specs.Stream.{NalUnit, Tail}
 use Rattle.h264_rbsp.specs.Rbsp.{body_of}
@@ -17,7 +17,6 @@ use Rattle.h264_near.specs.Coded.{CodedMacroblock}
 use Rattle.h264_sps.specs.declared.sps.Sps.{Sps}
 use Rattle.h264_sps.specs.Sps.{sps}
 use Rattle.h264_pps.specs.declared.Pps.{Pps}
-use Rattle.h264_sets.specs.Sets.{Maps}
 use Rattle.h264_header.specs.declared.header.Header.{Header}
 use Rattle.h264_header.specs.Layout.{sets_of}
 use Rattle.h264_header.specs.Picture.{is_idr, is_reference}
@@ -34,22 +33,24 @@ use Rattle.h264_verify.specs.Telling.{Told, Said, Decodes, Shows, AreOf, Family,
 use Rattle.h264_verify.specs.Content.{Content}
 use Rattle.h264_verify.specs.Content as contents
 use Rattle.h264_verify.specs.Demands.{Demand}
-use Rattle.h264_verify.specs.Steps.{Step, Needs, Tells, needs, AreMet, IsFirstStop, Course, Takes, Reads, Ends, told, Runs}
+use Rattle.h264_verify.specs.Course.{Course, Ends, Needs, Tells, Reads, ◌>>=◌ as ◌then◌, nothing, ◌>>◌, needs, tells, told, Runs}
 use Rattle.h264_units.specs.UnitHeader.{header_of, nal_unit_type, ends_picture, is_slice}
 use Rattle.h264_verify.specs.History.{History, ReadUnit, maps_of}
 use Rattle.h264_verify.specs.Pictures.{CodedSlice, CodedPicture, sets_at, with_sets, goes_on, open_of, begins_after, begins_at, joined_to}
-use Rattle.h264_verify.specs.Pictures.{joined_by, runs_of, coded_of, prev_ref_frame_num_of, held_after, ended_pictures}
-use Rattle.h264_verify.specs.Order.{content_course, header_demands, closing_demands, closing_at, whole_picture, whole_steps, whole_at, content, content_steps}
-use Rattle.h264_verify.specs.Order.{data_course, gap_rules, first_slice_rules, rules_of, slice_rules, steps_by, slice_steps, frames_at, unit_course, end_steps}
-use Rattle.h264_verify.specs.Slices.{pictures_before, is_idr_due, new_num_demand, first_mb_demands}
+use Rattle.h264_verify.specs.Pictures.{joined_by, runs_of, prev_ref_frame_num_of, held_after, ended_pictures}
+use Rattle.h264_verify.specs.Order.{content_course, header_demands, closing_demands, whole_picture, whole_steps, close_steps, close_if, content, content_steps}
+use Rattle.h264_verify.specs.Order.{data_course, rules_before_gap, gap_rules, rules_after_gap, first_slice_rules, later_slice_rules, slice_rules, steps_by}
+use Rattle.h264_verify.specs.Order.{standing_demands, coded_before, slice_steps, unit_course, end_steps}
+use Rattle.h264_verify.specs.Slices.{pictures_before, slices_before, is_idr_due, new_num_demand, first_mb_demands, first_bit, slice_call}
 use Rattle.h264_verify.specs.Data.{slice_data_at}
 use Rattle.h264_verify.specs.declared.state.Extent.{Extent}
 use Rattle.h264_verify.specs.Units.{unit_call, slice_unit, picture_demand}
-use Rattle.h264_verify.specs.Buffering.{missing_on, missing_steps, told_frames, told_picture, end_frames, closing_frames, last_frames, after_all, within_newest}
+use Rattle.h264_verify.specs.Buffering.{missing_on, missing_steps, told_frames, told_picture, end_frames, closing_frames, last_frames, after_all}
+use Rattle.h264_verify.specs.Buffering.{within_newest, ended_turn}
 use Rattle.h264_verify.specs.Keeping.{ended_in}
 use Rattle.h264_verify.specs.Verdict.{IsLegal, AtBytes, InCourse, AreLegal, Holds, IsStopAfter, AtNext, AtTail, AtEnd, Verdict, remainder}
 use Rattle.h264_base.proofs.Gives.{Gives, gives-done, gives-any, gives-bind, gives-weaker, gives-derived}
-use Rattle.h264_verify.proofs.LegalUnit.{Met}
+use Rattle.h264_verify.proofs.MetRules.{AreMet}
 use Rattle.h264_verify.proofs.HeaderSets.{sets-given, content-gives}
 use Rattle.h264_verify.proofs.ShownFirst.{IsFirst, ended-first, within-first, missing-first, after-first, last-first}
 
@@ -132,11 +133,6 @@ by-grows on false pictures g = let e = ap (λ (x : Bool). length (ended_pictures
 abbrev IsWith : Header → Content → Type 0
 IsWith h found = (ms : List CodedMacroblock) × (found ≡ contents.OfSlice h ms)
 
--- what a content leaves: the pictures that have then ended, and a fact of it
-record Leaves : Type 1 where
-  end : Content → List CodedPicture
-  holds : Content → Type 0
-
 module _ (extent : Extent) (before : History) (unit : NalUnit) where
   abbrev kind : ℕ
   kind = nal_unit_type (header_of unit)
@@ -146,9 +142,6 @@ module _ (extent : Extent) (before : History) (unit : NalUnit) where
 
   abbrev after : Content → List CodedPicture
   after found = ended_at extent.depth (one_more found)
-
-  abbrev picture_end : List Step
-  picture_end = whole_at extent.depth kind before ++ (needs (closing_at kind before) ++ frames_at extent.depth kind before)
 
   -- of a slice that has its sets
   slice-after : (h : Header) (ms : List CodedMacroblock) → is_some (sets_at before h) ≡ true →
@@ -166,9 +159,6 @@ module _ (extent : Extent) (before : History) (unit : NalUnit) where
   -- no fewer pictures have ended with it
   abbrev Grows : Content → Type 0
   Grows found = ended_in before ≤ ended_in (one_more found)
-
-  abbrev leaves : Leaves
-  leaves = record { end = after; holds = Grows }
 
   slice-grows : (h : Header) (ms : List CodedMacroblock) → is_some (sets_at before h) ≡ true → Grows (contents.OfSlice h ms)
   slice-grows h ms t = by (sets_at before h) refl t
@@ -254,24 +244,18 @@ module _ (P : List CodedPicture → Type 0) where
   in-frames frames (Decodes (p ∷ ps) ∷ told) a b h k d = in-frames frames told (p ∷ ps) b h.2 (d.0, subst (HaveFrames frames) (sym h.0) k) d.1
   in-frames frames (Shows e ∷ told) a b h k d = in-frames frames told a b h.1 k d
 
-  -- ---- steps
+  -- ---- a course
 
-  -- What these steps tell is in order, as far as their rules are met.
-  abbrev pub StepsIn : List CodedPicture → List Step → List CodedPicture → Type 0
-  StepsIn a [] b = b ≡ a
-  StepsIn a (Needs d ∷ steps) b = IsTrue d.met → StepsIn a steps b
-  StepsIn a (Tells (Said call) ∷ steps) b = StepsIn a steps b
-  StepsIn a (Tells (Decodes []) ∷ steps) b = ⊥
-  StepsIn a (Tells (Decodes (p ∷ ps)) ∷ steps) b = (ps ≡ a) × P (p ∷ ps) × StepsIn (p ∷ ps) steps b
-  StepsIn a (Tells (Shows e) ∷ steps) b = (e.of.picture < length a) × StepsIn a steps b
-
-  met-in : (steps : List Step) (calls : List Told) (a b : List CodedPicture) → StepsIn a steps b → AreMet steps calls → InOrder a calls b
-  met-in [] calls a b h m = subst (λ l. InOrder a l b) (sym m) h
-  met-in (Needs d ∷ steps) calls a b h m = met-in steps calls a b (h m.0) m.1
-  met-in (Tells (Said call) ∷ steps) calls a b h m = subst (λ l. InOrder a l b) (sym m.1) (met-in steps m.0 a b h m.2)
-  met-in (Tells (Decodes []) ∷ steps) calls a b h m = absurd h
-  met-in (Tells (Decodes (p ∷ ps)) ∷ steps) calls a b h m = subst (λ l. InOrder a l b) (sym m.1) (h.0, h.1, met-in steps m.0 (p ∷ ps) b h.2 m.2)
-  met-in (Tells (Shows e) ∷ steps) calls a b h m = subst (λ l. InOrder a l b) (sym m.1) (h.0, met-in steps m.0 a b h.1 m.2)
+  -- What this course tells is in order, as far as its rules are met, and this holds of the pictures that have then ended, and of what comes of it.
+  abbrev pub CourseIn : {A : Type 0} → List CodedPicture → Course A → (List CodedPicture → A → Type 0) → Type 0
+  CourseIn a (Ends x) Q = Q a x
+  CourseIn a (Needs d c) Q = IsTrue d.met → CourseIn a c Q
+  CourseIn a (Tells (Said call) c) Q = CourseIn a c Q
+  CourseIn a (Tells (Decodes []) c) Q = ⊥
+  CourseIn a (Tells (Decodes (p ∷ ps)) c) Q = (ps ≡ a) × P (p ∷ ps) × CourseIn (p ∷ ps) c Q
+  CourseIn a (Tells (Shows e) c) Q = (e.of.picture < length a) × CourseIn a c Q
+  CourseIn a (Reads body bit g next) Q =
+      (es : List Element) (found : Content) (end : ℕ) → Says g body bit es (Ok (found, end)) → CourseIn a (next found end) Q
 
   -- up to some pictures
   abbrev pub ToSome : List CodedPicture → List Told → Type 0
@@ -280,271 +264,251 @@ module _ (P : List CodedPicture → Type 0) where
   none-in : (calls : List Told) (a : List CodedPicture) → calls ≡ [] → ToSome a calls
   none-in calls a e = (a, subst (λ l. InOrder a l a) (sym e) refl)
 
-  stops-in : (steps : List Step) (calls : List Told) (stop : Stop) (a b : List CodedPicture) → StepsIn a steps b → IsFirstStop steps calls stop → ToSome a calls
-  stops-in [] calls stop a b h m = absurd m
-  stops-in (Needs d ∷ steps) calls stop a b h (inl m) = none-in calls a m.2
-  stops-in (Needs d ∷ steps) calls stop a b h (inr m) = stops-in steps calls stop a b (h m.0) m.1
-  stops-in (Tells (Said call) ∷ steps) calls stop a b h m = let r = stops-in steps m.0 stop a b h m.2 in (r.0, subst (λ l. InOrder a l r.0) (sym m.1) r.1)
-  stops-in (Tells (Decodes []) ∷ steps) calls stop a b h m = absurd h
-  stops-in (Tells (Decodes (p ∷ ps)) ∷ steps) calls stop a b h m =
-      let r = stops-in steps m.0 stop (p ∷ ps) b h.2 m.2 in (r.0, subst (λ l. InOrder a l r.0) (sym m.1) (h.0, h.1, r.1))
-  stops-in (Tells (Shows e) ∷ steps) calls stop a b h m =
-      let r = stops-in steps m.0 stop a b h.1 m.2 in (r.0, subst (λ l. InOrder a l r.0) (sym m.1) (h.0, r.1))
+  abbrev ToldBy : {A : Type 0} → (List CodedPicture → A → Type 0) → List CodedPicture → List Told → Result A Stop → Type 0
+  ToldBy Q a calls (Ok x) = (b : List CodedPicture) × InOrder a calls b × Q b x
+  ToldBy Q a calls (Err stop) = ToSome a calls
 
-  -- steps after others whose rules are met
-  steps-then : (xs ys : List Step) (a b c : List CodedPicture) → StepsIn a xs b → (Met xs → StepsIn b ys c) → StepsIn a (xs ++ ys) c
-  steps-then [] ys a b c h k = subst (λ d. StepsIn d ys c) h (k tt)
-  steps-then (Needs d ∷ xs) ys a b c h k = λ t. steps-then xs ys a b c (h t) (λ m. k (t, m))
-  steps-then (Tells (Said call) ∷ xs) ys a b c h k = steps-then xs ys a b c h k
-  steps-then (Tells (Decodes []) ∷ xs) ys a b c h k = absurd h
-  steps-then (Tells (Decodes (p ∷ ps)) ∷ xs) ys a b c h k = (h.0, h.1, steps-then xs ys (p ∷ ps) b c h.2 k)
-  steps-then (Tells (Shows e) ∷ xs) ys a b c h k = (h.0, steps-then xs ys a b c h.1 k)
+  module _ {A : Type 0} (Q : List CodedPicture → A → Type 0) where
+    told-with : (a from : List CodedPicture) (calls later : List Told) (answer : Result A Stop) →
+        ((b : List CodedPicture) → InOrder from later b → InOrder a calls b) → ToldBy Q from later answer → ToldBy Q a calls answer
+    told-with a from calls later (Ok x) f k = (k.0, f k.0 k.1, k.2)
+    told-with a from calls later (Err stop) f k = (k.0, f k.0 k.1)
 
-  needs-in : (ds : List Demand) (a : List CodedPicture) → StepsIn a (needs ds) a
-  needs-in [] a = refl
-  needs-in (d ∷ ds) a = λ t. needs-in ds a
+    pub runs-in : (c : Course A) (calls : List Told) (answer : Result A Stop) (a : List CodedPicture) → CourseIn a c Q → Runs c calls answer →
+        ToldBy Q a calls answer
+    runs-in (Ends x) calls answer a q r = subst (λ r. ToldBy Q a calls r) (sym r.1) (a, subst (λ l. InOrder a l a) (sym r.0) refl, q)
+    runs-in (Needs d c) calls answer a q (inl r) = runs-in c calls answer a (q r.0) r.1
+    runs-in (Needs d c) calls answer a q (inr r) = subst (λ r. ToldBy Q a calls r) (sym r.2) (none-in calls a r.1)
+    runs-in (Tells (Said call) c) calls answer a q r =
+        told-with a a calls r.0 answer (λ b h. subst (λ l. InOrder a l b) (sym r.1) h) (runs-in c r.0 answer a q r.2)
+    runs-in (Tells (Decodes []) c) calls answer a q r = absurd q
+    runs-in (Tells (Decodes (p ∷ ps)) c) calls answer a q r =
+        told-with a (p ∷ ps) calls r.0 answer (λ b h. subst (λ l. InOrder a l b) (sym r.1) (q.0, q.1, h)) (runs-in c r.0 answer (p ∷ ps) q.2 r.2)
+    runs-in (Tells (Shows e) c) calls answer a q r =
+        told-with a a calls r.0 answer (λ b h. subst (λ l. InOrder a l b) (sym r.1) (q.0, h)) (runs-in c r.0 answer a q.1 r.2)
+    runs-in (Reads body bit g next) calls answer a q (inl r) =
+        told-with a a calls r.3 answer
+        (λ b h. subst (λ l. InOrder a l b) (sym r.6) (in-both (told body r.0) r.3 a a b (in-elements body r.0 a) h))
+        (runs-in (next r.1 r.2) r.3 answer a (q r.0 r.1 r.2 r.4) r.5)
+    runs-in (Reads body bit g next) calls answer a q (inr r) =
+        subst (λ r. ToldBy Q a calls r) (sym r.4) (a, subst (λ l. InOrder a l a) (sym r.3) (in-elements body r.0 a))
 
-  if-in : (b : Bool) (steps : List Step) (a : List CodedPicture) → StepsIn a steps a → StepsIn a (if b then steps else []) a
-  if-in true steps a h = h
-  if-in false steps a h = refl
+  -- one course, and then another
+  in-then : {A B : Type 0} (c : Course A) (f : A → Course B) (a : List CodedPicture) (Q : List CodedPicture → B → Type 0) →
+      CourseIn a c (λ b x. CourseIn b (f x) Q) → CourseIn a (◌then◌ c f) Q
+  unfolding ◌then◌
+  in-then (Ends x) f a Q q = q
+  in-then (Needs d c) f a Q q = λ t. in-then c f a Q (q t)
+  in-then (Tells (Said call) c) f a Q q = in-then c f a Q q
+  in-then (Tells (Decodes []) c) f a Q q = absurd q
+  in-then (Tells (Decodes (p ∷ ps)) c) f a Q q = (q.0, q.1, in-then c f (p ∷ ps) Q q.2)
+  in-then (Tells (Shows e) c) f a Q q = (q.0, in-then c f a Q q.1)
+  in-then (Reads body bit g next) f a Q q = λ es found end says. in-then (next found end) f a Q (q es found end says)
 
-  frames-in : (depth : Depth) (written : List (Entry Shown)) (pictures : List CodedPicture) → Each (IsFirst (length pictures)) written →
-      StepsIn (decoded_at depth pictures) (told_frames depth written) (decoded_at depth pictures)
-  frames-in depths.Units written pictures h = refl
-  frames-in depths.Headers written pictures h = refl
-  frames-in depths.Full [] pictures h = refl
-  frames-in depths.Full (e ∷ written) pictures h = (h.0, frames-in depths.Full written pictures h.1)
+  -- rules alone, and rules before a course
+  needs-in : (ds : List Demand) (a : List CodedPicture) (Q : List CodedPicture → Unit {0} → Type 0) → (AreMet ds → Q a tt) → CourseIn a (needs ds) Q
+  unfolding needs
+  needs-in [] a Q q = q tt
+  needs-in (d ∷ ds) a Q q = λ t. needs-in ds a Q (λ m. q (t, m))
 
-  picture-in : (depth : Depth) (p : CodedPicture) (ps : List CodedPicture) → P (p ∷ ps) →
-      StepsIn (decoded_at depth ps) (told_picture depth (p ∷ ps)) (decoded_at depth (p ∷ ps))
-  picture-in depths.Units p ps k = refl
-  picture-in depths.Headers p ps k = refl
-  picture-in depths.Full p ps k = (refl, k, refl)
+  rules-then : {A : Type 0} (ds : List Demand) (c : Course A) (a : List CodedPicture) (Q : List CodedPicture → A → Type 0) → (AreMet ds → CourseIn a c Q) →
+      CourseIn a (needs ds >> c) Q
+  rules-then ds c a Q q = in-then (needs ds) (λ _. c) a Q (needs-in ds a (λ b u. CourseIn b c Q) q)
 
-  -- the picture that may go on ends
-  closes-in : (depth : Depth) (on : Bool) (pictures : List CodedPicture) → (on ≡ true → P pictures) →
-      StepsIn (decoded_at depth (ended_pictures on false pictures)) (if on then end_frames depth pictures else []) (decoded_at depth pictures)
-  closes-in depth true [] k = refl
-  closes-in depth false [] k = refl
-  closes-in depth false (p ∷ ps) k = refl
-  closes-in depth true (p ∷ ps) k =
-      steps-then (told_picture depth (p ∷ ps)) _ (decoded_at depth ps) (decoded_at depth (p ∷ ps)) (decoded_at depth (p ∷ ps)) (picture-in depth p ps (k refl))
-      (λ m. frames-in depth _ (p ∷ ps) (ended-first p ps (within_newest (p ∷ ps)).buffer (within-first p ps).1).0)
+  -- what must hold of the pictures that have ended after steps
+  abbrev After : Type 1
+  After = List CodedPicture → Unit {0} → Type 0
 
-  -- it ends, or may still go on
-  passes-in : (depth : Depth) (ends on : Bool) (pictures : List CodedPicture) → (ends ≡ true → on ≡ true → P pictures) →
-      StepsIn (decoded_at depth (ended_pictures on false pictures)) (if ends then (if on then end_frames depth pictures else []) else [])
-      (decoded_at depth (ended_pictures (not ends && on) false pictures))
-  passes-in depth true on pictures k =
-      subst (λ ps. StepsIn (decoded_at depth (ended_pictures on false pictures)) (if on then end_frames depth pictures else []) (decoded_at depth ps))
-      (sym (all-ended pictures)) (closes-in depth on pictures (k refl))
-  passes-in depth false on pictures k = refl
+  frames-in : (depth : Depth) (written : List (Entry Shown)) (pictures : List CodedPicture) (Q : After) → Each (IsFirst (length pictures)) written →
+      Q (decoded_at depth pictures) tt → CourseIn (decoded_at depth pictures) (told_frames depth written) Q
+  frames-in depths.Units written pictures Q h q = q
+  frames-in depths.Headers written pictures Q h q = q
+  frames-in depths.Full [] pictures Q h q = q
+  frames-in depths.Full (e ∷ written) pictures Q h q = (h.0, frames-in depths.Full written pictures Q h.1 q)
 
-  whole-in : (depth : Depth) (before : History) (a : List CodedPicture) → StepsIn a (whole_steps depth before) a
-  whole-in depths.Units before a = refl
-  whole-in depths.Headers before a = refl
-  whole-in depths.Full before a = if-in (goes_on before) (whole_picture (runs_of before)) a (by (runs_of before))
+  picture-in : (depth : Depth) (p : CodedPicture) (ps : List CodedPicture) (Q : After) → P (p ∷ ps) → Q (decoded_at depth (p ∷ ps)) tt →
+      CourseIn (decoded_at depth ps) (told_picture depth (p ∷ ps)) Q
+  picture-in depths.Units p ps Q k q = q
+  picture-in depths.Headers p ps Q k q = q
+  picture-in depths.Full p ps Q k q = (refl, k, q)
+
+  -- the frame of the picture that may go on
+  closes-in : (depth : Depth) (on : Bool) (pictures : List CodedPicture) (Q : After) → (on ≡ true → P pictures) → Q (decoded_at depth pictures) tt →
+      CourseIn (decoded_at depth (ended_pictures on false pictures)) (if on then end_frames depth pictures else nothing) Q
+  closes-in depth true [] Q k q = q
+  closes-in depth false [] Q k q = q
+  closes-in depth false (p ∷ ps) Q k q = q
+  closes-in depth true (p ∷ ps) Q k q =
+      in-then (told_picture depth (p ∷ ps)) (λ _. told_frames depth (ended_turn p ps (within_newest (p ∷ ps)).buffer).written) (decoded_at depth ps) Q
+      (picture-in depth p ps _ (k refl)
+      (frames-in depth _ (p ∷ ps) Q (ended-first p ps (within_newest (p ∷ ps)).buffer (within-first p ps).1).0 q))
+
+  whole-in : (depth : Depth) (before : History) (a : List CodedPicture) (Q : After) → Q a tt → CourseIn a (whole_steps depth before) Q
+  whole-in depths.Units before a Q q = q
+  whole-in depths.Headers before a Q q = q
+  whole-in depths.Full before a Q q = by (goes_on before) (runs_of before)
     where
-      by : (pictures : List CodedPicture) → StepsIn a (whole_picture pictures) a
-      by [] = refl
-      by (p ∷ ps) = λ t. refl
+      by : (on : Bool) (pictures : List CodedPicture) → CourseIn a (if on then whole_picture pictures else nothing) Q
+      by true [] = q
+      by true (p ∷ ps) = λ t. q
+      by false pictures = q
+
+  -- The fact holds of all pictures where the picture that may go on has met the rules of its end.
+  abbrev pub EndsWith : History → Type 0
+  EndsWith before = AreMet (closing_demands before) → goes_on before ≡ true → P (runs_of before)
+
+  -- that picture ends
+  close-in : (depth : Depth) (before : History) (Q : After) → EndsWith before → Q (decoded_at depth (runs_of before)) tt →
+      CourseIn (ended_at depth before) (close_steps depth before) Q
+  close-in depth before Q k q =
+      let a = ended_at depth before in
+      in-then (whole_steps depth before) (λ _. needs (closing_demands before) >> closing_frames depth before) a Q
+      (whole-in depth before a _ (rules-then (closing_demands before) (closing_frames depth before) a Q
+      (λ m. closes-in depth (goes_on before) (runs_of before) Q (k m) q)))
 
   -- the missing numbers before a picture
-  missing-in : (depth : Depth) (bit : ℕ) (current : Numbering) (numbers : List ℕ) (refs : References) (b : Buffered Shown) (pictures : List CodedPicture) →
-      Each (IsFirst (length pictures)) b.entries →
-      StepsIn (decoded_at depth pictures) (missing_steps depth bit current numbers refs b) (decoded_at depth pictures)
-  missing-in depth bit current [] refs b pictures h = refl
-  missing-in depth bit current (number ∷ numbers) refs b pictures h = λ t.
-      by (filled (record current { frame_num = number }) refs) (missing-in depth bit current numbers)
+  missing-in : (depth : Depth) (bit : ℕ) (current : Numbering) (numbers : List ℕ) (refs : References) (b : Buffered Shown) (pictures : List CodedPicture)
+      (Q : After) → Each (IsFirst (length pictures)) b.entries → Q (decoded_at depth pictures) tt →
+      CourseIn (decoded_at depth pictures) (missing_steps depth bit current numbers refs b) Q
+  missing-in depth bit current [] refs b pictures Q h q = q
+  missing-in depth bit current (number ∷ numbers) refs b pictures Q h q = λ t.
+      by (filled (record current { frame_num = number }) refs) (λ held left more. missing-in depth bit current numbers held left pictures Q more q)
     where
-      by : (o : Option References) → ((held : References) (left : Buffered Shown) (ps : List CodedPicture) → Each (IsFirst (length ps)) left.entries →
-          StepsIn (decoded_at depth ps) (missing_steps depth bit current numbers held left) (decoded_at depth ps)) →
-          StepsIn (decoded_at depth pictures) (missing_on o (λ held. told_frames depth (missing_turn held b).written ++
-          missing_steps depth bit current numbers held (missing_turn held b).buffer)) (decoded_at depth pictures)
-      by None more = refl
+      by : (o : Option References) → ((held : References) (left : Buffered Shown) → Each (IsFirst (length pictures)) left.entries →
+          CourseIn (decoded_at depth pictures) (missing_steps depth bit current numbers held left) Q) →
+          CourseIn (decoded_at depth pictures) (missing_on o (λ held. told_frames depth (missing_turn held b).written >>
+          missing_steps depth bit current numbers held (missing_turn held b).buffer)) Q
+      by None more = q
       by (Some held) more =
           let one = missing-first (length pictures) held b h in
-          let done = decoded_at depth pictures in
-          steps-then (told_frames depth (missing_turn held b).written) _ done done done (frames-in depth (missing_turn held b).written pictures one.0)
-          (λ m. more held (missing_turn held b).buffer pictures one.1)
+          in-then (told_frames depth (missing_turn held b).written)
+          (λ _. missing_steps depth bit current numbers held (missing_turn held b).buffer) (decoded_at depth pictures) Q
+          (frames-in depth (missing_turn held b).written pictures _ one.0 (more held (missing_turn held b).buffer one.1))
 
   -- ---- a slice
 
-  first-in : (depth : Depth) (pictures : List CodedPicture) (s : CodedSlice) →
-      StepsIn (decoded_at depth pictures) (first_slice_rules depth (pictures_before pictures) s) (decoded_at depth pictures)
-  first-in depth pictures s =
+  first-in : (depth : Depth) (pictures : List CodedPicture) (s : CodedSlice) (Q : After) → Q (decoded_at depth pictures) tt →
+      CourseIn (decoded_at depth pictures) (first_slice_rules depth (pictures_before pictures) s) Q
+  first-in depth pictures s Q q =
       let idr = is_idr s.header in
       let bit = s.header.frame_num.bit in
       let current = numbering_of s.sps s.header in
       let prev = prev_ref_frame_num_of pictures in
       let done = decoded_at depth pictures in
-      let missing = missing-in depth bit current (unused_short_term_frame_nums idr prev current) (held_after pictures) (after_all pictures).buffer pictures
-      (after-first pictures).1 in
-      λ a b. steps-then (gap_rules depth s prev (held_after pictures) (after_all pictures).buffer) _ done done done
-      (λ t. steps-then (missing_steps depth bit current (unused_short_term_frame_nums idr prev current) (held_after pictures) (after_all pictures).buffer)
-      (needs (new_num_demand idr (is_reference s.header) bit prev current (held_after pictures) ∷ [])) done done done missing (λ m t. refl))
-      (λ m g h i j. refl)
+      let before = pictures_before pictures in
+      let last = rules_after_gap before s in
+      let missing = missing_steps depth bit current (unused_short_term_frame_nums idr prev current) (held_after pictures) (after_all pictures).buffer in
+      let number = new_num_demand idr (is_reference s.header) bit prev current (held_after pictures) ∷ [] in
+      rules-then (rules_before_gap s) _ done Q (λ m.
+      in-then (gap_rules depth s prev (held_after pictures) (after_all pictures).buffer) (λ _. needs last) done Q
+      (rules-then _ (missing >> needs number) done _ (λ m. in-then missing (λ _. needs number) done _
+      (missing-in depth bit current (unused_short_term_frame_nums idr prev current) (held_after pictures) (after_all pictures).buffer pictures _
+      (after-first pictures).1 (needs-in number done _ (λ m. needs-in last done Q (λ m. q)))))))
 
-  rules-in : (depth : Depth) (begins due : Bool) (maps : Maps) (pictures : List CodedPicture) (s : CodedSlice) (done : List CodedPicture) →
-      (begins ≡ true → done ≡ decoded_at depth pictures) → StepsIn done (rules_of depth begins due maps pictures s) done
-  rules-in depth true due maps pictures s done e =
-      subst (λ d. StepsIn d (rules_of depth true due maps pictures s) d) (sym (e refl))
-      (let d = decoded_at depth pictures in
-      λ a b. steps-then (needs (first_mb_demands depth 0 s.header)) (first_slice_rules depth (pictures_before pictures) s) d d d
-      (needs-in (first_mb_demands depth 0 s.header) d) (λ m. first-in depth pictures s))
-  rules-in depth false due maps pictures s done e =
-      λ a. steps-then (needs (first_mb_demands depth (length (coded_of pictures)) s.header)) (slice_rules depth false pictures s) done done done
-      (needs-in (first_mb_demands depth (length (coded_of pictures)) s.header) done) (λ m b c d e f g. refl)
+  rules-in : (depth : Depth) (begins : Bool) (pictures : List CodedPicture) (s : CodedSlice) (done : List CodedPicture) (Q : After) →
+      (begins ≡ true → done ≡ decoded_at depth pictures) → Q done tt → CourseIn done (slice_rules depth begins pictures s) Q
+  rules-in depth true pictures s done Q e q =
+      subst (λ d. CourseIn d (first_slice_rules depth (pictures_before pictures) s) Q) (sym (e refl))
+      (first-in depth pictures s Q (subst (λ d. Q d tt) (e refl) q))
+  rules-in depth false pictures s done Q e q = needs-in (later_slice_rules (slices_before pictures) s) done Q (λ m. q)
 
-  by-in : (depth : Depth) (o : Option (Pps × Sps)) (before : History) (unit : NalUnit) (h : Header) (done : List CodedPicture) →
-      (begins_at before h ≡ true → done ≡ decoded_at depth (runs_of before)) → StepsIn done (steps_by depth o before unit h) done
-  by-in depth None before unit h done e = refl
-  by-in depth (Some sets) before unit h done e =
-      steps-then (rules_of depth (begins_at before h) (is_idr_due before) (maps_of before) (runs_of before) (with_sets unit h [] sets)) _ done done done
-      (rules-in depth (begins_at before h) (is_idr_due before) (maps_of before) (runs_of before) (with_sets unit h [] sets) done e) (λ m. refl)
-
-  -- The fact holds of all pictures where the picture that may go on has met the rules of its end.
-  abbrev pub EndsWith : History → Type 0
-  EndsWith before = Met (needs (closing_demands before)) → goes_on before ≡ true → P (runs_of before)
-
-  begins-in : (depth : Depth) (before : History) (b : Bool) → (b ≡ false → goes_on before ≡ true) → EndsWith before →
-      Met (needs (if b then closing_demands before else [])) →
-      StepsIn (decoded_at depth (ended_pictures (goes_on before) false (runs_of before))) (if b then closing_frames depth before else [])
-      (decoded_at depth (ended_by b (runs_of before)))
-  begins-in depth before true g k m = closes-in depth (goes_on before) (runs_of before) (k m)
-  begins-in depth before false g k m = ap (λ (on : Bool). decoded_at depth (ended_pictures on false (runs_of before))) (sym (g refl))
-
-  slice-in : (depth : Depth) (before : History) (unit : NalUnit) (h : Header) → (begins_at before h ≡ false → goes_on before ≡ true) → EndsWith before →
-      StepsIn (decoded_at depth (ended_pictures (goes_on before) false (runs_of before))) (slice_steps depth before unit h)
-      (decoded_at depth (ended_by (begins_at before h) (runs_of before)))
-  slice-in depth before unit h g k =
+  by-in : (depth : Depth) (o : Option (Pps × Sps)) (before : History) (unit : NalUnit) (h : Header) (done : List CodedPicture) (Q : After) →
+      (begins_at before h ≡ true → done ≡ decoded_at depth (runs_of before)) → Q done tt → CourseIn done (steps_by depth o before unit h) Q
+  by-in depth None before unit h done Q e q = q
+  by-in depth (Some sets) before unit h done Q e q =
       let b = begins_at before h in
-      let a = decoded_at depth (ended_pictures (goes_on before) false (runs_of before)) in
-      let c = decoded_at depth (ended_by b (runs_of before)) in
-      let closing = needs (if b then closing_demands before else []) in
-      let shows = if b then closing_frames depth before else [] in
-      let own = steps_by depth (sets_at before h) before unit h in
-      steps-then (if b then whole_steps depth before else []) (closing ++ (shows ++ own)) a a c (if-in b (whole_steps depth before) a (whole-in depth before a))
-      (λ m. steps-then closing (shows ++ own) a a c (needs-in (if b then closing_demands before else []) a)
-      (λ m. steps-then shows own a c c (begins-in depth before b g k m)
-      (λ m. by-in depth (sets_at before h) before unit h c (λ e. ap (λ (x : Bool). decoded_at depth (ended_by x (runs_of before))) e))))
+      let s = with_sets unit h [] sets in
+      rules-then (standing_demands b s.sps (is_idr_due before) (maps_of before) (first_bit s) h) _ done Q (λ m.
+      rules-then (first_mb_demands depth (coded_before b (runs_of before)) h) _ done Q (λ m.
+      in-then (slice_rules depth b (runs_of before) s) (λ _. tells (Said (slice_call (joined_to b s (runs_of before)) s) ∷ [])) done Q
+      (rules-in depth b (runs_of before) s done _ e q)))
 
-  -- ---- a course
+  begins-in : (depth : Depth) (before : History) (b : Bool) (Q : After) → (b ≡ false → goes_on before ≡ true) → EndsWith before →
+      Q (decoded_at depth (ended_by b (runs_of before))) tt → CourseIn (ended_at depth before) (close_if b depth before) Q
+  begins-in depth before true Q g k q = close-in depth before Q k q
+  begins-in depth before false Q g k q = subst (λ (on : Bool). Q (decoded_at depth (ended_pictures on false (runs_of before))) tt) (sym (g refl)) q
 
-  abbrev ToldBy : Leaves → List CodedPicture → List Told → Result Content Stop → Type 0
-  ToldBy q a calls (Ok c) = InOrder a calls (q.end c) × q.holds c
-  ToldBy q a calls (Err stop) = ToSome a calls
+  slice-in : (depth : Depth) (before : History) (unit : NalUnit) (h : Header) (Q : After) → (begins_at before h ≡ false → goes_on before ≡ true) →
+      EndsWith before → Q (decoded_at depth (ended_by (begins_at before h) (runs_of before))) tt →
+      CourseIn (ended_at depth before) (slice_steps depth before unit h) Q
+  slice-in depth before unit h Q g k q =
+      let b = begins_at before h in
+      in-then (close_if b depth before) (λ _. steps_by depth (sets_at before h) before unit h) (ended_at depth before) Q
+      (begins-in depth before b _ g k
+      (by-in depth (sets_at before h) before unit h (decoded_at depth (ended_by b (runs_of before))) Q
+      (λ e. ap (λ (x : Bool). decoded_at depth (ended_by x (runs_of before))) e) q))
 
-  module _ (body : Body) (q : Leaves) where
-    told-after : (xs ys calls : List Told) (a b : List CodedPicture) (answer : Result Content Stop) → calls ≡ xs ++ ys → InOrder a xs b →
-        ToldBy q b ys answer → ToldBy q a calls answer
-    told-after xs ys calls a b (Ok c) e h k = (subst (λ l. InOrder a l (q.end c)) (sym e) (in-both xs ys a b (q.end c) h k.0), k.1)
-    told-after xs ys calls a b (Err stop) e h k = (k.0, subst (λ l. InOrder a l k.0) (sym e) (in-both xs ys a b k.0 h k.1))
+  -- ---- a unit
 
-    told-stop : (calls : List Told) (a : List CodedPicture) (answer : Result Content Stop) (stop : Stop) → answer ≡ Err stop →
-        ToldBy q a calls (Err stop) → ToldBy q a calls answer
-    told-stop calls a answer stop e k = subst (λ r. ToldBy q a calls r) (sym e) k
-
-    takes-in : (steps : List Step) (course : Course) (a b : List CodedPicture) (calls : List Told)
-        (answer : Result Content Stop) → StepsIn a steps b →
-        ((later : List Told) → Runs body course later answer → ToldBy q b later answer) →
-        Runs body (Takes steps course) calls answer → ToldBy q a calls answer
-    takes-in steps course a b calls answer h next (inl r) = told-after r.0 r.1 calls a b answer r.4 (met-in steps r.0 a b h r.2) (next r.1 r.3)
-    takes-in steps course a b calls answer h next (inr r) = told-stop calls a answer r.0 r.2 (stops-in steps calls r.0 a b h r.1)
-
-    reads-in : (g : Grammar Content) (bit : ℕ) (next : Content → ℕ → Course) (a : List CodedPicture) (Q : Content → Type 0) (calls : List Told)
-        (answer : Result Content Stop) → Gives g Q →
-        ((found : Content) (bit : ℕ) (later : List Told) → Q found → Runs body (next found bit) later answer → ToldBy q a later answer) →
-        Runs body (Reads g bit next) calls answer → ToldBy q a calls answer
-    reads-in g bit rest a Q calls answer gives next (inl r) =
-        told-after (told body r.0) r.3 calls a a answer r.6 (in-elements body r.0 a)
-        (next r.1 r.2 r.3 (gives-derived g Q body bit r.0 r.2 r.1 gives r.4) r.5)
-    reads-in g bit rest a Q calls answer gives next (inr r) =
-        told-stop calls a answer r.1 r.4 (a, subst (λ l. InOrder a l a) (sym r.3) (in-elements body r.0 a))
-
-    ends-in : {found : Content} {a : List CodedPicture} (calls : List Told) (answer : Result Content Stop) → q.end found ≡ a → q.holds found →
-        Runs body (Ends found) calls answer → ToldBy q a calls answer
-    ends-in {found} {a} calls answer e h r = subst (λ x. ToldBy q a calls x) (sym r.1) (subst (λ l. InOrder a l (q.end found)) (sym r.0) e, h)
+  passes-in : (depth : Depth) (before : History) (ends : Bool) (Q : After) → EndsWith before →
+      Q (decoded_at depth (ended_pictures (not ends && goes_on before) false (runs_of before))) tt →
+      CourseIn (ended_at depth before) (close_if ends depth before) Q
+  passes-in depth before true Q k q = close-in depth before Q k (subst (λ ps. Q (decoded_at depth ps) tt) (all-ended (runs_of before)) q)
+  passes-in depth before false Q k q = q
 
   module _ (extent : Extent) (before : History) (unit : NalUnit) where
     abbrev type_of : ℕ
     type_of = kind extent before unit
 
-    abbrev here : Leaves
-    here = leaves extent before unit
-
     abbrev left : List CodedPicture
     left = passed extent before unit
 
-    abbrev closes : List Step
-    closes = picture_end extent before unit
+    -- these pictures have then ended, and no fewer than before
+    abbrev Leaves : List CodedPicture → Content → Type 0
+    Leaves b found = (b ≡ after extent before unit found) × Grows extent before unit found
 
-    picture-end-in : EndsWith before → StepsIn (ended_at extent.depth before) closes
-        (decoded_at extent.depth (ended_pictures (not (ends_picture type_of) && goes_on before) false (runs_of before)))
-    picture-end-in k =
-        let a = ended_at extent.depth before in
-        let b = decoded_at extent.depth (ended_pictures (not (ends_picture type_of) && goes_on before) false (runs_of before)) in
-        steps-then (whole_at extent.depth type_of before) _ a a b
-        (if-in (ends_picture type_of) (whole_steps extent.depth before) a (whole-in extent.depth before a))
-        (λ m. steps-then (needs (closing_at type_of before)) (frames_at extent.depth type_of before) a a b (needs-in (closing_at type_of before) a)
-        (λ m. passes-in extent.depth (ends_picture type_of) (goes_on before) (runs_of before)
-        (λ e. k (subst (λ (x : Bool). Met (needs (if x then closing_demands before else []))) e m))))
+    data-in : (depth : Depth) (h : Header) (ms : List CodedMacroblock) (bit : ℕ) (a : List CodedPicture) →
+        ((ms : List CodedMacroblock) → (after extent before unit (contents.OfSlice h ms) ≡ a) × Grows extent before unit (contents.OfSlice h ms)) →
+        CourseIn a (data_course depth before unit (contents.OfSlice h ms) bit) Leaves
+    data-in depths.Units h ms bit a e = (sym (e ms).0, (e ms).1)
+    data-in depths.Headers h ms bit a e = (sym (e ms).0, (e ms).1)
+    data-in depths.Full h ms bit a e = λ es found end says.
+        let is : IsWith h found = gives-derived (◌bind◌ (slice_data_at before unit h) (λ ms. Done (contents.OfSlice h ms))) (IsWith h) (body_of unit) bit es end
+        found (gives-bind _ (IsWith h) _ _ (gives-any (slice_data_at before unit h)) (λ ms _. gives-done (IsWith h) (contents.OfSlice h ms) (ms, refl))) says in
+        (sym (ap (after extent before unit) is.1 ∙ (e is.0).0), subst (Grows extent before unit) (sym is.1) (e is.0).1)
 
-    data-in : (depth : Depth) (h : Header) (ms : List CodedMacroblock) (bit : ℕ) (calls : List Told) (answer : Result Content Stop) (a : List CodedPicture) →
-        ((ms : List CodedMacroblock) → ((after extent before unit) (contents.OfSlice h ms) ≡ a) × (Grows extent before unit) (contents.OfSlice h ms)) →
-        Runs (body_of unit) (data_course depth before unit (contents.OfSlice h ms) bit) calls answer → ToldBy here a calls answer
-    data-in depths.Units h ms bit calls answer a e r = ends-in (body_of unit) here calls answer (e ms).0 (e ms).1 r
-    data-in depths.Headers h ms bit calls answer a e r = ends-in (body_of unit) here calls answer (e ms).0 (e ms).1 r
-    data-in depths.Full h ms bit calls answer a e r =
-        reads-in (body_of unit) here (◌bind◌ (slice_data_at before unit h) (λ ms. Done (contents.OfSlice h ms))) bit (λ whole end. Ends whole) a
-        (IsWith h) calls answer
-        (gives-bind _ (IsWith h) _ _ (gives-any (slice_data_at before unit h)) (λ ms _. gives-done (IsWith h) (contents.OfSlice h ms) (ms, refl)))
-        (λ found bit later is run. ends-in (body_of unit) here later answer (ap (after extent before unit) is.1 ∙ (e is.0).0)
-        (subst (Grows extent before unit) (sym is.1) (e is.0).1) run) r
-
-    -- content that is no slice
-    passed-in : (found : Content) (calls : List Told) (answer : Result Content Stop) → (after extent before unit) found ≡ left →
-        (Grows extent before unit) found →
-        Runs (body_of unit) (Takes [] (Ends found)) calls answer → ToldBy here left calls answer
-    passed-in found calls answer e g r =
-        takes-in (body_of unit) here [] (Ends found) left left calls answer refl (λ later run. ends-in (body_of unit) here later answer e g run) r
-
-    content-in : (found : Content) (bit : ℕ) (calls : List Told) (answer : Result Content Stop) → EndsWith before → IsSound type_of before found →
-        Runs (body_of unit) (Takes (content_steps extent.depth before unit found) (data_course extent.depth before unit found bit)) calls answer →
-        ToldBy here left calls answer
-    content-in (contents.OfSps set) bit calls answer k s r =
-        passed-in (contents.OfSps set) calls answer refl (passed-grows (ends_picture type_of) (goes_on before) (runs_of before)) r
-    content-in (contents.OfPps set) bit calls answer k s r =
-        passed-in (contents.OfPps set) calls answer refl (passed-grows (ends_picture type_of) (goes_on before) (runs_of before)) r
-    content-in contents.Passed bit calls answer k s r =
-        passed-in contents.Passed calls answer refl (passed-grows (ends_picture type_of) (goes_on before) (runs_of before)) r
-    content-in (contents.OfSlice h ms) bit calls answer k s r =
+    content-in : (found : Content) (bit : ℕ) → EndsWith before → IsSound type_of before found →
+        CourseIn left (content_steps extent.depth before unit found >> data_course extent.depth before unit found bit) Leaves
+    content-in (contents.OfSps set) bit k s =
+        in-then nothing (λ _. Ends (contents.OfSps set)) left Leaves (refl, passed-grows (ends_picture type_of) (goes_on before) (runs_of before))
+    content-in (contents.OfPps set) bit k s =
+        in-then nothing (λ _. Ends (contents.OfPps set)) left Leaves (refl, passed-grows (ends_picture type_of) (goes_on before) (runs_of before))
+    content-in contents.Passed bit k s =
+        in-then nothing (λ _. Ends contents.Passed) left Leaves (refl, passed-grows (ends_picture type_of) (goes_on before) (runs_of before))
+    content-in (contents.OfSlice h ms) bit k s =
         let same : left ≡ ended_at extent.depth before =
         ap (λ (x : Bool). decoded_at extent.depth (ended_pictures (not x && goes_on before) false (runs_of before))) (slice-goes type_of s.0) in
-        subst (λ a. ToldBy here a calls answer) (sym same)
-        (takes-in (body_of unit) here (slice_steps extent.depth before unit h) (data_course extent.depth before unit (contents.OfSlice h ms) bit)
-        (ended_at extent.depth before) (decoded_at extent.depth (ended_by (begins_at before h) (runs_of before))) calls answer
-        (slice-in extent.depth before unit h (goes-later (goes_on before) (runs_of before) h) k)
-        (λ later run. data-in extent.depth h ms bit later answer (decoded_at extent.depth (ended_by (begins_at before h) (runs_of before)))
-        (λ ms. ((slice-after extent before unit) h ms s.1, (slice-grows extent before unit) h ms s.1)) run) r)
+        let rest = data_course extent.depth before unit (contents.OfSlice h ms) bit in
+        subst (λ a. CourseIn a (slice_steps extent.depth before unit h >> rest) Leaves) (sym same)
+        (in-then (slice_steps extent.depth before unit h) (λ _. rest) (ended_at extent.depth before) Leaves
+        (slice-in extent.depth before unit h _ (goes-later (goes_on before) (runs_of before) h) k
+        (data-in extent.depth h ms bit (decoded_at extent.depth (ended_by (begins_at before h) (runs_of before)))
+        (λ ms. (slice-after extent before unit h ms s.1, slice-grows extent before unit h ms s.1)))))
 
-    pub unit-in : EndsWith before → (calls : List Told) (answer : Result Content Stop) → Runs (body_of unit) (unit_course extent before unit) calls answer →
-        ToldBy here (ended_at extent.depth before) calls answer
-    unit-in k calls answer r =
-        let body = body_of unit in
-        let rest = content_course extent before unit in
-        let following : Content → ℕ → Course =
-        λ found bit. Takes (content_steps extent.depth before unit found) (data_course extent.depth before unit found bit) in
-        let ends : Course = Takes closes rest in
-        let said : List Step = Tells (Said (unit_call unit.from (header_of unit) (length unit.body))) ∷ [] in
+    course-in : EndsWith before → CourseIn (ended_at extent.depth before) (unit_course extent before unit) Leaves
+    course-in k =
         let start = ended_at extent.depth before in
-        takes-in body here (needs (header_demands (8 * unit.from) (header_of unit))) (Takes said ends) start start calls answer
-        (needs-in (header_demands (8 * unit.from) (header_of unit)) start)
-        (λ later run. takes-in body here said ends start start later answer refl
-        (λ later run. takes-in body here closes rest start left later answer (picture-end-in k)
-        (λ later run. reads-in body here (content extent type_of before unit) 0 following left (IsSound type_of before) later answer
-        (sound-content extent type_of before unit)
-        (λ found bit later sound run. content-in found bit later answer k sound run) run) run) run) r
+        let says = tells (Said (unit_call unit.from (header_of unit) (length unit.body)) ∷ []) in
+        let closes = close_if (ends_picture type_of) extent.depth before in
+        rules-then (header_demands (8 * unit.from) (header_of unit)) _ start Leaves (λ m.
+        in-then says (λ _. closes >> content_course extent before unit) start Leaves
+        (in-then closes (λ _. content_course extent before unit) start Leaves
+        (passes-in extent.depth before (ends_picture type_of) _ k (λ es found end says.
+        content-in found end k
+        (gives-derived (content extent type_of before unit) (IsSound type_of before) (body_of unit) 0 es end found (sound-content extent type_of before unit)
+        says)))))
+
+    abbrev ToldTo : List Told → Result Content Stop → Type 0
+    ToldTo calls (Ok c) = InOrder (ended_at extent.depth before) calls (after extent before unit c) × Grows extent before unit c
+    ToldTo calls (Err stop) = ToSome (ended_at extent.depth before) calls
+
+    pub unit-in : EndsWith before → (calls : List Told) (answer : Result Content Stop) → Runs (unit_course extent before unit) calls answer →
+        ToldTo calls answer
+    unit-in k calls answer r = by answer (runs-in Leaves (unit_course extent before unit) calls answer (ended_at extent.depth before) (course-in k) r)
+      where
+        by : (answer : Result Content Stop) → ToldBy Leaves (ended_at extent.depth before) calls answer → ToldTo calls answer
+        by (Ok c) t = (subst (λ b. InOrder (ended_at extent.depth before) calls b) t.2.0 t.1, t.2.1)
+        by (Err stop) t = t
 
   -- ---- legal units, and a verdict
 
@@ -565,17 +529,18 @@ module _ (P : List CodedPicture → Type 0) where
         (in-both l.0 l.1 [] (ended_at extent.depth before) (ended_at extent.depth (r ∷ before)) (legal-in before l.0 l.2)
         (unit-in extent before r.unit (holds before l.0 l.2) l.1 (Ok r.content) l.3.runs).0)
 
+    abbrev AllEnded : History → List CodedPicture → Unit {0} → Type 0
+    AllEnded before b u = b ≡ decoded_at extent.depth (runs_of before)
+
     end-in : (before : History) (bit : ℕ) → EndsWith before →
-        StepsIn (ended_at extent.depth before) (end_steps extent.depth before bit) (decoded_at extent.depth (runs_of before))
+        CourseIn (ended_at extent.depth before) (end_steps extent.depth before bit) (AllEnded before)
     end-in before bit k =
         let depth = extent.depth in
-        let a = ended_at depth before in
-        let b = decoded_at depth (runs_of before) in
-        let last = needs (picture_demand depth before bit ∷ []) ++ last_frames depth (runs_of before) in
-        steps-then (whole_steps depth before) _ a a b (whole-in depth before a)
-        (λ m. steps-then (needs (closing_demands before)) (closing_frames depth before ++ last) a a b (needs-in (closing_demands before) a)
-        (λ m. steps-then (closing_frames depth before) last a b b (closes-in depth (goes_on before) (runs_of before) (k m))
-        (λ n t. frames-in depth _ (runs_of before) (last-first (runs_of before)))))
+        let last = picture_demand depth before bit ∷ [] in
+        in-then (close_steps depth before) (λ _. needs last >> last_frames depth (runs_of before)) (ended_at depth before) (AllEnded before)
+        (close-in depth before _ k
+        (rules-then last (last_frames depth (runs_of before)) (decoded_at depth (runs_of before)) (AllEnded before)
+        (λ t. frames-in depth _ (runs_of before) (AllEnded before) (last-first (runs_of before)) refl)))
 
     stop-in : (before : History) (units : List NalUnit) (tail : Tail) (end : ℕ) (stop : Stop) (calls : List Told) → EndsWith before →
         IsStopAfter extent before (remainder units tail end) stop calls → ToSome (ended_at extent.depth before) calls
@@ -583,7 +548,7 @@ module _ (P : List CodedPicture → Type 0) where
     stop-in before units tail end stop calls k (AtNext unit later e (InCourse sound runs)) = unit-in extent before unit k calls (Err stop) runs
     stop-in before units tail end stop calls k (AtTail e h n) = none-in calls (ended_at extent.depth before) n
     stop-in before units tail end stop calls k (AtEnd e t h) =
-        stops-in (end_steps extent.depth before (8 * end)) calls stop (ended_at extent.depth before) _ (end-in before (8 * end) k) h
+        runs-in (AllEnded before) (end_steps extent.depth before (8 * end)) calls (Err stop) (ended_at extent.depth before) (end-in before (8 * end) k) h
 
     -- of a stream with a yes, up to all pictures
     pub whole-in-order : (bytes : List ℕ) (told : List Told) (summary : Summary) (h : Holds extent bytes told summary) →
@@ -591,9 +556,10 @@ module _ (P : List CodedPicture → Type 0) where
     whole-in-order bytes told summary h =
         let a = ended_at extent.depth h.units in
         let b = decoded_at extent.depth (runs_of h.units) in
-        let steps = end_steps extent.depth h.units (8 * length bytes) in
-        subst (λ t. InOrder [] t b) (sym h.calls_are) (in-both h.first h.last [] a b (legal-in h.units h.first h.legal)
-        (met-in steps h.last a b (end-in h.units (8 * length bytes) (holds h.units h.first h.legal)) h.end))
+        let last = runs-in (AllEnded h.units) (end_steps extent.depth h.units (8 * length bytes)) h.last (Ok tt) a
+        (end-in h.units (8 * length bytes) (holds h.units h.first h.legal)) h.end in
+        subst (λ t. InOrder [] t b) (sym h.calls_are)
+        (in-both h.first h.last [] a b (legal-in h.units h.first h.legal) (subst (λ x. InOrder a h.last x) last.2 last.1))
 
     pub verdict-in : (bytes : List ℕ) (told : List Told) (answer : Result Summary Stop) → Verdict extent bytes told answer → ToSome [] told
     verdict-in bytes told (Ok summary) h = (decoded_at extent.depth (runs_of h.units), whole-in-order bytes told summary h)
@@ -627,7 +593,7 @@ unit-grows extent before r calls l =
     few depths.Headers pictures = omega arith
     few depths.Full pictures = omega arith
 
-frames-of : (n : ℕ) (depth : Depth) (written : List (Entry Shown)) → Each (IsFirst n) written → AreOf n (steps_outcome (told_frames depth written)).calls
+frames-of : (n : ℕ) (depth : Depth) (written : List (Entry Shown)) → Each (IsFirst n) written → AreOf n (outcome_of (told_frames depth written)).calls
 frames-of n depths.Units written h = tt
 frames-of n depths.Headers written h = tt
 frames-of n depths.Full [] h = tt
@@ -635,11 +601,12 @@ frames-of n depths.Full (e ∷ written) h = (h.0, frames-of n depths.Full writte
 
 -- What the end of a picture tells is of the pictures that have ended then.
 pub closing-of : (depth : Depth) (before : History) →
-    AreOf (length (ended_pictures (goes_on before) true (runs_of before))) (steps_outcome (closing_frames depth before)).calls
+    AreOf (length (ended_pictures (goes_on before) true (runs_of before))) (outcome_of (closing_frames depth before)).calls
+unfolding ◌then◌
 closing-of depth before = by depth (goes_on before) (runs_of before)
   where
     by : (depth : Depth) (on : Bool) (pictures : List CodedPicture) →
-        AreOf (length (ended_pictures on true pictures)) (steps_outcome (if on then end_frames depth pictures else [])).calls
+        AreOf (length (ended_pictures on true pictures)) (outcome_of (if on then end_frames depth pictures else nothing)).calls
     by depth false pictures = tt
     by depth true [] = tt
     by depths.Units true (p ∷ ps) = tt

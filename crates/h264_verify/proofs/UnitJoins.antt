@@ -10,7 +10,7 @@ use Rattle.h264_verify.specs.Telling.{took_with, Agree, frame_span, Family}
 use Rattle.h264_verify.specs.declared.decoder.Decoder.{Decoder}
 use Rattle.h264_units.specs.Stream.{NalUnit}
 use Rattle.h264_verify.specs.declared.state.State.{State}
-use Rattle.h264_verify.specs.Outcome.{Outcome, ◌>>=◌, gives, Plays}
+use Rattle.h264_verify.specs.Outcome.{◌>>=◌, gives, Plays}
 use Rattle.h264_verify.specs.Content.{Content}
 use Rattle.h264_verify.specs.Content as contents
 use Rattle.h264_verify.specs.History.{History, ReadUnit, maps_of, maps_with}
@@ -28,12 +28,12 @@ use Rattle.h264_header.specs.declared.header.Header.{Header}
 use Rattle.h264_base.specs.Grammar.{Grammar}
 use Rattle.h264_rbsp.specs.Rbsp.{body_of}
 use Rattle.h264_verify.specs.declared.state.Extent.{Extent}
-use Rattle.h264_verify.specs.Order.{content, content_steps, slice_steps, data_course}
-use Rattle.h264_verify.specs.Steps.{Course, Takes, Ends}
-use Rattle.h264_verify.specs.StepOutcome.{steps_outcome, structure_from, course_outcome}
+use Rattle.h264_verify.specs.Order.{content, content_steps, slice_steps, data_course, content_then, content_course}
+use Rattle.h264_verify.specs.Course.{Course, Steps, Ends, ◌>>◌}
+use Rattle.h264_verify.specs.CourseOutcome.{outcome_of, structure_from}
 use Rattle.h264_verify.specs.Turning.{Joins, Pauses, is_ending, ended_before}
-use Rattle.h264_verify.specs.UnitOutcome.{content_to_data}
-use Rattle.h264_verify.proofs.CourseParts.{takes-on, takes-stops, reads-on, reads-stops, ends-on}
+use Rattle.h264_verify.specs.UnitOutcome.{joins, content_outcome, content_to_data}
+use Rattle.h264_verify.proofs.Played.{ComesTo, starts, read, unread, played, stops, ends, ended, ends-plays}
 use Rattle.h264_verify.proofs.OutcomesPlayed.{gives-plays}
 use Rattle.h264_verify.proofs.KeepsEntered.{IsNoSlice, EndsBefore, passed-keeps}
 use Rattle.h264_verify.specs.declared.slices.PicturesSoFar.{PicturesSoFar}
@@ -47,88 +47,79 @@ module _ {S : Type 0} (extent : Extent) (frames : Family) (took : S → List Cal
   abbrev what_is_in : Grammar Content
   what_is_in = content extent (nal_unit_type (header_of unit)) before unit
 
-  abbrev what_follows : Content → ℕ → Course
-  what_follows found bit = Takes (content_steps extent.depth before unit found) (data_course extent.depth before unit found bit)
-
-  abbrev join : Content → Outcome History
-  join found = gives (one_more found)
+  abbrev what_follows : Content → ℕ → Course Content
+  what_follows found bit = data_course extent.depth before unit found bit
 
   abbrev Joined : S → S → Result (Unit {0}) Stop → Type 0
   Joined s s' r = Joins {X = Unit {0}} extent (frame_span took failures frames s s') before unit new r
+
+  -- it is judged up to this rest
+  abbrev Comes : Course Content → S → S → Type 0
+  Comes rest s s' = ComesTo (took_with made took) failures (joins before unit) (content_outcome extent before unit) rest s s'
+
+  comes : (s : S) → Comes (content_course extent before unit) s s
+  comes s = starts (took_with made took) failures (joins before unit) (content_course extent before unit) s
+
+  stops-with : (s s' : S) (e : Stop) → Plays {X = Unit {0}} (span (took_with made took) failures s s') (λ u. []) (content_outcome extent before unit) (Err e) →
+      Joined s s' (Err e)
+  stops-with s s' e p = record { made = made; same = same; after = []; plays = p; keeps = tt }
 
   module _ {X : Type 0} (view : X → Content × ℕ) where
     -- what is in a unit cannot be read
     pub joins-stops : (s s' : S) (e : Stop) →
         Plays {X = X} (span (took_with made took) failures s s') view (structure_from what_is_in (body_of unit) 0) (Err e) → Joined s s' (Err e)
-    joins-stops s s' e p = record {
-      made = made;
-      same = same;
-      after = [];
-      plays = reads-stops (took_with made took) failures (body_of unit) join what_is_in 0 what_follows view (λ (u : Unit {0}). []) s s' e p;
-      keeps = tt;
-    }
+    joins-stops s s' e p = stops-with s s' e (unread _ _ (comes s) p)
 
-    module _ (s s1 : S) (x : X) (read : Plays (span (took_with made took) failures s s1) view (structure_from what_is_in (body_of unit) 0) (Ok x)) where
+    module _ (s s1 : S) (x : X) (there : Plays (span (took_with made took) failures s s1) view (structure_from what_is_in (body_of unit) 0) (Ok x)) where
+      abbrev steps : Steps
+      steps = content_steps extent.depth before unit (view x).0
+
+      is-read : Comes (steps >> what_follows (view x).0 (view x).1) s s1
+      is-read = read _ _ (comes s) there
+
       -- a rule on it is broken
-      pub joins-broken : (s2 : S) (e : Stop) →
-          Plays {X = Unit {0}} (span (took_with made took) failures s1 s2) (λ u. u) (steps_outcome (content_steps extent.depth before unit (view x).0))
-          (Err e) → Joined s s2 (Err e)
-      joins-broken s2 e p = record {
-        made = made;
-        same = same;
-        after = [];
-        plays = reads-on (took_with made took) failures (body_of unit) join what_is_in 0 what_follows view (λ (u : Unit {0}). []) s s1 s2 x (Err e) read
-            (takes-stops (took_with made took) failures (body_of unit) join (content_steps extent.depth before unit (view x).0)
-            (data_course extent.depth before unit (view x).0 (view x).1) (λ (u : Unit {0}). []) s1 s2 e p);
-        keeps = tt;
-      }
+      pub joins-broken : (s2 : S) (e : Stop) → Plays {X = Unit {0}} (span (took_with made took) failures s1 s2) (λ u. u) (outcome_of steps) (Err e) →
+          Joined s s2 (Err e)
+      joins-broken s2 e p = stops-with s s2 e (stops _ _ steps _ is-read p)
 
       -- its rules are met, and this comes of what stands after it
-      pub joins-after : (s2 : S) (y : Unit {0}) →
-          Plays (span (took_with made took) failures s1 s2) (λ (u : Unit {0}). u) (steps_outcome (content_steps extent.depth before unit (view x).0)) (Ok y) →
+      pub joins-after : (s2 : S) (y : Unit {0}) → Plays (span (took_with made took) failures s1 s2) (λ (u : Unit {0}). u) (outcome_of steps) (Ok y) →
           (s3 : S) (found : Content) (r : Result (Unit {0}) Stop) →
           Plays (span (took_with made took) failures s2 s3) (λ (u : Unit {0}). one_more found)
-          (course_outcome (body_of unit) (data_course extent.depth before unit (view x).0 (view x).1) >>= join) r →
-          OnOk r (Keeps extent.depth made (one_more found) new) → Joined s s3 r
+          (outcome_of (what_follows (view x).0 (view x).1) >>= joins before unit) r → OnOk r (Keeps extent.depth made (one_more found) new) → Joined s s3 r
       joins-after s2 y met s3 found r p k = record {
         made = made;
         same = same;
         after = one_more found;
-        plays = reads-on (took_with made took) failures (body_of unit) join what_is_in 0 what_follows view (λ (u : Unit {0}). one_more found) s s1 s3 x r read
-            (takes-on (took_with made took) failures (body_of unit) join (content_steps extent.depth before unit (view x).0)
-            (data_course extent.depth before unit (view x).0 (view x).1) (λ (u : Unit {0}). one_more found) s1 s2 s3 y r met p);
+        plays = ends _ _ (played _ _ steps _ is-read met) p;
         keeps = k;
       }
 
       -- its rules are met, and nothing stands after it
-      pub joins-on : (s2 : S) (y : Unit {0}) →
-          Plays (span (took_with made took) failures s1 s2) (λ (u : Unit {0}). u) (steps_outcome (content_steps extent.depth before unit (view x).0)) (Ok y) →
-          data_course extent.depth before unit (view x).0 (view x).1 ≡ Ends (view x).0 → Keeps extent.depth made (one_more (view x).0) new →
-          Joined s s2 (Ok tt)
+      pub joins-on : (s2 : S) (y : Unit {0}) → Plays (span (took_with made took) failures s1 s2) (λ (u : Unit {0}). u) (outcome_of steps) (Ok y) →
+          what_follows (view x).0 (view x).1 ≡ Ends (view x).0 → Keeps extent.depth made (one_more (view x).0) new → Joined s s2 (Ok tt)
       joins-on s2 y met none k = joins-after s2 y met s2 (view x).0 (Ok tt)
-          (subst (λ (q : Course). Plays (span (took_with made took) failures s2 s2) (λ (u : Unit {0}). one_more (view x).0)
-          (course_outcome (body_of unit) q >>= join) (Ok tt)) (sym none)
-          (ends-on (took_with made took) failures (body_of unit) join (λ (u : Unit {0}). one_more (view x).0) (view x).0 s2 s2 (Ok tt)
-          (gives-plays (took_with made took) failures (λ (u : Unit {0}). one_more (view x).0) tt s2))) k
+          (subst (λ (q : Course Content). Plays (span (took_with made took) failures s2 s2) (λ (u : Unit {0}). one_more (view x).0)
+          (outcome_of q >>= joins before unit) (Ok tt)) (sym none)
+          (ends-plays _ _ (joins before unit) (gives-plays (took_with made took) failures (λ (u : Unit {0}). one_more (view x).0) tt s2))) k
 
 -- memory is wanting for a slice whose rules are met
 pub slice-pauses : {S : Type 0} (extent : Extent) (frames : Family) (took : S → List Call → Type 0) (failures : S → ℕ) (before : History) (unit : NalUnit)
     (made : Family) → Agree (ended_before before unit) frames made → (h : Header) (bit : ℕ) (s s1 s2 : S) (x y : Unit {0}) →
     Plays (span (took_with made took) failures s s1) (λ (u : Unit {0}). (contents.OfSlice h [], bit))
     (structure_from (content extent (nal_unit_type (header_of unit)) before unit) (body_of unit) 0) (Ok x) →
-    Plays (span (took_with made took) failures s1 s2) (λ (u : Unit {0}). u) (steps_outcome (slice_steps extent.depth before unit h)) (Ok y) →
+    Plays (span (took_with made took) failures s1 s2) (λ (u : Unit {0}). u) (outcome_of (slice_steps extent.depth before unit h)) (Ok y) →
     Pauses (frame_span took failures frames s s2) (ended_before before unit) (content_to_data extent before unit)
-slice-pauses extent frames took failures before unit made same h bit s s1 s2 x y read met =
-    let view : Unit {0} → Content = λ u. contents.OfSlice h [] in
-    let next : Content → Outcome Content = λ found. gives found in
+slice-pauses extent frames took failures before unit made same h bit s s1 s2 x y there met =
     let t = took_with made took in
+    let read_to : ComesTo t failures gives (content_to_data extent before unit) (slice_steps extent.depth before unit h >> Ends (contents.OfSlice h [])) s s1 =
+    read _ _ (starts t failures gives (content_then extent before unit (λ found bit. Ends found)) s) there in
     record {
       made = made;
       same = same;
       found = contents.OfSlice h [];
-      plays = reads-on t failures (body_of unit) next _ 0 _ (λ (u : Unit {0}). (contents.OfSlice h [], bit)) view s s1 s2 x (Ok tt) read
-          (takes-on t failures (body_of unit) next (content_steps extent.depth before unit (contents.OfSlice h [])) (Ends (contents.OfSlice h [])) view s1 s2 s2
-          y (Ok tt) met (ends-on t failures (body_of unit) next view (contents.OfSlice h []) s2 s2 (Ok tt) (gives-plays t failures view tt s2)));
+      plays = ended _ _ (played _ _ (slice_steps extent.depth before unit h) _ read_to met)
+          (gives-plays t failures (λ (u : Unit {0}). contents.OfSlice h []) tt s2);
     }
 
 -- nothing follows a slice's header where no frames are made

@@ -1,5 +1,5 @@
 -- What is true of a decoder where frames are made.
-use Rattle.std.proofs.Common.{◌≡◌, ℕ, ◌≤◌, Bool, true, false, List, [], Option, Some, None, Ok, refl, sym, ◌∙◌, arith, subst, if◌then◌else◌}
+use Rattle.std.proofs.Common.{◌≡◌, ℕ, ◌≤◌, Bool, true, false, List, Option, Some, None, Ok, refl, sym, ◌∙◌, arith, subst, if◌then◌else◌}
 use Rattle.std.specs.Prelude.{IfSome}
 use Rattle.h264_verify.specs.declared.state.Depth.{Depth}
 use Rattle.h264_verify.specs.declared.state.Depth.TheVariants as depths
@@ -13,7 +13,8 @@ use Rattle.h264_verify.specs.Order.{whole_steps}
 use Rattle.h264_verify.specs.Outcome.{answers}
 use Rattle.h264_verify.specs.Pictures.{CodedPicture}
 use Rattle.h264_verify.specs.Slices.{first_mb_demands}
-use Rattle.h264_verify.specs.StepOutcome.{steps_outcome}
+use Rattle.h264_verify.specs.Course.{nothing}
+use Rattle.h264_verify.specs.CourseOutcome.{outcome_of}
 use Rattle.h264_verify.specs.declared.decoder.Decoder.{Decoder}
 use Rattle.h264_verify.specs.declared.decoder.Format.{Format}
 use Rattle.h264_verify.specs.Keeping.{WhereMade, HasPlaces, IsMadeAs, format_in}
@@ -107,7 +108,7 @@ made-same P Q depths.Full f (Some x) (Some d) p q e h = e ∙ h
 
 -- ---- where no frames are made, nothing is told of them
 
-pub quiet-told : (depth : Depth) (written : List (Entry Shown)) → MakesNone depth → told_frames depth written ≡ []
+pub quiet-told : (depth : Depth) (written : List (Entry Shown)) → MakesNone depth → told_frames depth written ≡ nothing
 quiet-told depths.Units written q = refl
 quiet-told depths.Headers written q = refl
 quiet-told depths.Full written q = absurd q
@@ -118,7 +119,7 @@ quiet-written depths.Headers pictures q = refl
 quiet-written depths.Full pictures q = absurd q
 
 pub quiet-whole : (depth : Depth) (ends : Bool) (before : History) → MakesNone depth →
-    answers {A = Unit {0}} (Ok tt) ≡ steps_outcome (if ends then whole_steps depth before else [])
+    answers {A = Unit {0}} (Ok tt) ≡ outcome_of (if ends then whole_steps depth before else nothing)
 quiet-whole depths.Units true before q = refl
 quiet-whole depths.Units false before q = refl
 quiet-whole depths.Headers true before q = refl

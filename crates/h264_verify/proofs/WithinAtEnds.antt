@@ -6,12 +6,11 @@ use Rattle.h264_verify.specs.declared.state.Depth.TheVariants as depths
 use Rattle.h264_base.specs.declared.stop.Stop.{Stop}
 use Rattle.h264_base.specs.declared.summary.Summary.{Summary}
 use Rattle.h264_verify.specs.Telling.{Told, Decodes}
-use Rattle.h264_verify.specs.Steps.{needs, told}
 use Rattle.h264_verify.specs.Pictures.{CodedPicture, goes_on, runs_of, end_of_picture}
 use Rattle.h264_verify.specs.Sound.{AreSound, has_ended}
 use Rattle.h264_verify.specs.Within.{EndsWithin}
 use Rattle.h264_verify.specs.Verdict.{Verdict}
-use Rattle.h264_verify.proofs.LegalUnit.{Met}
+use Rattle.h264_verify.proofs.MetRules.{AreMet}
 use Rattle.h264_verify.proofs.LegalUnits.{stands}
 use Rattle.h264_verify.proofs.LevelFrames.{EachRoom, legal-room}
 use Rattle.h264_verify.proofs.DecodablePictures.{ends-within}
@@ -26,9 +25,9 @@ EndsNewest (p ∷ ps) = EndsWithin p ps
 -- it has, once the rules of its end are met
 newest-ends : (target : Target) → HoldsAtEnds EndsNewest (extent_at depths.Full target)
 newest-ends target before told l m on = by (runs_of before) (stands target before told l).sound (legal-room target before told l)
-    (subst (λ (b : Bool). Met (needs (if b then end_of_picture (runs_of before) else []))) on m)
+    (subst (λ (b : Bool). AreMet (if b then end_of_picture (runs_of before) else [])) on m)
   where
-    by : (pictures : List CodedPicture) → AreSound (has_ended (goes_on before) false) pictures → EachRoom pictures → Met (needs (end_of_picture pictures)) →
+    by : (pictures : List CodedPicture) → AreSound (has_ended (goes_on before) false) pictures → EachRoom pictures → AreMet (end_of_picture pictures) →
         EndsNewest pictures
     by [] s r k = tt
     by (p ∷ ps) s r k = ends-within p ps (closes-sound true (p ∷ ps) (subst (λ (b : Bool). AreSound (has_ended b false) (p ∷ ps)) on s) k) r.0

@@ -1,5 +1,5 @@
 -- The decoded picture buffer of a stream (C.4.2, C.4.4, C.4.5), from its pictures, the newest first. To be read beside the standard.
-use Rattle.std.specs.Prelude.{ℕ, Option, Some, None, List, [], ◌∷◌, ◌++◌, map, length, ℤ, pos, if◌then◌else◌}
+use Rattle.std.specs.Prelude.{ℕ, Option, Some, None, List, [], ◌∷◌, map, length, ℤ, pos, if◌then◌else◌}
 use Rattle.std.specs.Int.{int_min}
 use Rattle.std.specs.Option.{is_some}
 use Rattle.h264_verify.specs.declared.state.Depth.{Depth}
@@ -21,7 +21,7 @@ use Rattle.h264_dpb.specs.declared.ended.Ended.{Ended}
 use Rattle.h264_dpb.specs.Ending.{ended_of}
 use Rattle.h264_dpb.specs.Turns.{Shown, Turn, turn_then, stays, no_buffer, missing_turn, end_turn, last_turn}
 use Rattle.h264_verify.specs.Telling.{Decodes, Shows}
-use Rattle.h264_verify.specs.Steps.{Step, Needs, Tells}
+use Rattle.h264_verify.specs.Course.{Steps, Needs, nothing, ◌>>◌, tells}
 use Rattle.h264_verify.specs.History.{History}
 use Rattle.h264_verify.specs.Pictures.{CodedPicture, goes_on, runs_of, counted, prev_ref_frame_num_of, held_after}
 
@@ -79,40 +79,43 @@ taken_after before = places_taken (if goes_on before then within_newest (runs_of
 -- ---- what comes to pass of frames
 
 -- each frame that is written, where frames are made
-abbrev pub told_frames : Depth → List (Entry Shown) → List Step
-told_frames depths.Units written = []
-told_frames depths.Headers written = []
-told_frames depths.Full written = map (λ e. Tells (Shows e)) written
+abbrev pub told_frames : Depth → List (Entry Shown) → Steps
+told_frames depths.Units written = nothing
+told_frames depths.Headers written = nothing
+told_frames depths.Full written = tells (map Shows written)
 
 -- the newest of these pictures is decoded, where frames are made
-abbrev pub told_picture : Depth → List CodedPicture → List Step
-told_picture depths.Units pictures = []
-told_picture depths.Headers pictures = []
-told_picture depths.Full pictures = Tells (Decodes pictures) ∷ []
+abbrev pub told_picture : Depth → List CodedPicture → Steps
+told_picture depths.Units pictures = nothing
+told_picture depths.Headers pictures = nothing
+told_picture depths.Full pictures = tells (Decodes pictures ∷ [])
 
 -- it is decoded, and then the frames are written that its end writes
-abbrev pub end_frames : Depth → List CodedPicture → List Step
-end_frames depth [] = []
-end_frames depth (p ∷ ps) = told_picture depth (p ∷ ps) ++ told_frames depth (ended_turn p ps (within_newest (p ∷ ps)).buffer).written
+abbrev pub end_frames : Depth → List CodedPicture → Steps
+end_frames depth [] = nothing
+end_frames depth (p ∷ ps) =
+    told_picture depth (p ∷ ps)
+    >> told_frames depth (ended_turn p ps (within_newest (p ∷ ps)).buffer).written
 
 -- those of the picture that may go on after these units, if there is such a picture
-abbrev pub closing_frames : Depth → History → List Step
-closing_frames depth before = if goes_on before then end_frames depth (runs_of before) else []
+abbrev pub closing_frames : Depth → History → Steps
+closing_frames depth before = if goes_on before then end_frames depth (runs_of before) else nothing
 
 -- The missing numbers before a picture, in turn: each can be filled, and then the frames are written that its place costs (7.4.3, 8.2.5.2).
-abbrev pub missing_on : Option References → (References → List Step) → List Step
-missing_on None next = []
+abbrev pub missing_on : Option References → (References → Steps) → Steps
+missing_on None next = nothing
 missing_on (Some refs) next = next refs
 
-abbrev pub missing_steps : Depth → ℕ → Numbering → List ℕ → References → Buffered Shown → List Step
-missing_steps depth bit n [] refs b = []
+abbrev pub missing_steps : Depth → ℕ → Numbering → List ℕ → References → Buffered Shown → Steps
+missing_steps depth bit n [] refs b = nothing
 missing_steps depth bit n (number ∷ numbers) refs b =
     Needs (record { rule = FrameNum; bit = bit; met = is_some (filled (record n { frame_num = number }) refs) })
-    ∷ missing_on (filled (record n { frame_num = number }) refs) (λ held.
-    told_frames depth (missing_turn held b).written ++ missing_steps depth bit n numbers held (missing_turn held b).buffer)
+    (missing_on (filled (record n { frame_num = number }) refs) (λ held.
+    told_frames depth (missing_turn held b).written
+    >> missing_steps depth bit n numbers held (missing_turn held b).buffer))
 
 -- the frames that the end of the input writes, once all pictures have ended
-abbrev pub last_frames : Depth → List CodedPicture → List Step
+abbrev pub last_frames : Depth → List CodedPicture → Steps
 last_frames depth pictures = told_frames depth (last_turn (after_all pictures).buffer).written
 
 -- how many frames a stream of these pictures writes, where frames are made

@@ -13,13 +13,13 @@ use Rattle.h264_pps.specs.declared.Pps.{Pps}
 use Rattle.h264_sps.specs.declared.sps.Sps.{Sps}
 use Rattle.h264_header.specs.declared.header.Header.{Header}
 use Rattle.h264_verify.specs.Pictures.{CodedPicture, with_sets, goes_on, runs_of}
-use Rattle.h264_verify.specs.Order.{slice_steps, standing_demands, coded_before}
-use Rattle.h264_verify.specs.Keeping.{KeepsSlices, KeepsFrames, WhereMade, EntersBy, ended_in, close_steps}
+use Rattle.h264_verify.specs.Order.{slice_steps, standing_demands, coded_before, close_if}
+use Rattle.h264_verify.specs.Keeping.{KeepsSlices, KeepsFrames, WhereMade, EntersBy, ended_in}
 use Rattle.h264_verify.specs.Pictures.{ended_pictures}
 use Rattle.h264_verify.specs.Demands.{judged}
 use Rattle.h264_verify.specs.Slices.{first_mb_demands}
 use Rattle.h264_header.specs.Layout.{sets_of}
-use Rattle.h264_verify.specs.StepOutcome.{steps_outcome}
+use Rattle.h264_verify.specs.CourseOutcome.{outcome_of}
 
 -- The pictures so far, whether the newest may go on, and whether it ends here.
 pub record Closing : Type 0 where
@@ -53,7 +53,7 @@ pub record JudgesSlice {S : Type 0} (depth : Depth) (w : FrameSpan S) (s : Slice
     (result : Result (Unit {0}) Stop) : Type 0 where
   pub made : Family
   pub same : Agree (ended_in s.before) w.frames made
-  pub plays : Plays (with_frames made w.sink) (λ (x : Unit {0}). x) (steps_outcome (slice_steps depth s.before s.unit s.header)) result
+  pub plays : Plays (with_frames made w.sink) (λ (x : Unit {0}). x) (outcome_of (slice_steps depth s.before s.unit s.header)) result
   pub enters : OnOk result (WhereMade depth (EntersBy made s.begins (with_sets s.unit s.header [] named) (goes_on s.before) (runs_of s.before)) new)
 
 -- Slice data were read, and the sink was told what comes of them; this is kept of the macroblocks up to there.
@@ -74,7 +74,7 @@ pub record ReadsData {S X : Type 0} (w : FrameSpan S) (o : Outcome (List CodedMa
 
 -- A slice took its place after these units: the picture before it ended, where it begins one, and the rules on its place are met.
 pub record PlacesSlice {S : Type 0} (depth : Depth) (w : FrameSpan S) (s : SliceAfter) (old new : State) : Type 0 where
-  pub closes : EndsFrames depth w (closing (goes_on s.before) s.begins (runs_of s.before)) (steps_outcome (close_steps depth s.begins s.before))
+  pub closes : EndsFrames depth w (closing (goes_on s.before) s.begins (runs_of s.before)) (outcome_of (close_if s.begins depth s.before))
       new.decoder (Ok tt)
   pub ended : KeepsSlices s.before s.begins new.slices
   pub stands : (named : Pps × Sps) → sets_of old.sets s.header.pic_parameter_set_id.value ≡ Some named →

@@ -37,18 +37,16 @@ use Rattle.h264_dpb.specs.declared.ended.Ended.{Ended}
 use Rattle.h264_picture.specs.Buffer.{buffer_size}
 use Rattle.h264_verify.specs.declared.decoder.Decoder.{Decoder}
 use Rattle.h264_verify.specs.declared.decoder.Format.{Format}
-use Rattle.h264_verify.specs.Buffering.{newest_count, after_all, within_newest, ended_picture, closing_frames}
+use Rattle.h264_verify.specs.Buffering.{newest_count, after_all, within_newest, ended_picture}
 use Rattle.h264_verify.specs.Decoding.{slices_of, EachSlice, number_of, parameters_of}
 use Rattle.h264_verify.specs.Demands.{Demand}
 use Rattle.h264_verify.specs.History.{History, maps_of}
 use Rattle.h264_verify.specs.Pictures.{CodedSlice, CodedPicture, last_slice, picture_size, bit_after, goes_on, open_of, joined_to, runs_of, counted}
 use Rattle.h264_verify.specs.Pictures.{with_sets, prev_ref_frame_num_of, held_after, held_in, ended_pictures}
 use Rattle.h264_verify.specs.Memory.{format_of}
-use Rattle.h264_verify.specs.Order.{closing_demands, whole_steps, slice_rules}
 use Rattle.h264_marking.specs.Ended.{numbering_of}
-use Rattle.h264_verify.specs.Telling.{Said, Family, IsFamilyFor}
-use Rattle.h264_verify.specs.Steps.{Step, Tells, needs}
-use Rattle.h264_verify.specs.Slices.{PicturesBefore, SlicesBefore, is_i, has_i, has_p, states_type, is_idr_due, newest_idr_of, slice_call}
+use Rattle.h264_verify.specs.Telling.{Family, IsFamilyFor}
+use Rattle.h264_verify.specs.Slices.{PicturesBefore, SlicesBefore, is_i, has_i, has_p, states_type, is_idr_due, newest_idr_of}
 use Rattle.h264_verify.specs.Lists.{list_in, named_in}
 use Rattle.h264_verify.specs.Data.{coded_so_far}
 use Rattle.h264_verify.specs.Sound.{AreSound, has_ended, HasActive, NamesSet}
@@ -468,14 +466,3 @@ pub record Entered (before : History) (begins : Bool) (slice : CodedSlice) (slic
   pub count : slices.count ≡ newest_count (map counted (joined_to begins slice (runs_of before)))
   pub prev_ref : slices.prev_ref_frame_num ≡ prev_ref_frame_num_of (joined_to begins slice (runs_of before))
   pub held : slices.held ≡ held_in (joined_to begins slice (runs_of before))
-
--- The rules of a slice from its type on, and then the slice is told.
-abbrev pub told_rules : Depth → Bool → List CodedPicture → CodedSlice → List Step
-told_rules depth begins pictures s = slice_rules depth begins pictures s ++ Tells (Said (slice_call (joined_to begins s pictures) s)) ∷ []
-
--- What the end of the picture that may go on goes through, where it ends here: its macroblocks, its marking, its frame.
-abbrev pub close_steps : Depth → Bool → History → List Step
-close_steps depth ends before =
-    (if ends then whole_steps depth before else [])
-    ++ (needs (if ends then closing_demands before else [])
-    ++ (if ends then closing_frames depth before else []))

@@ -8,7 +8,7 @@ pub mod Turning
 pub mod Outcome
 pub mod Demands
 pub mod Content
-pub mod Steps
+pub mod Course
 pub mod History
 pub mod Pictures
 pub mod Lists
@@ -20,7 +20,7 @@ pub mod Data
 pub mod Sound
 pub mod Held
 pub mod Keeping
-pub mod StepOutcome
+pub mod CourseOutcome
 pub mod Framing
 pub mod Within
 pub mod Predicting

@@ -23,7 +23,7 @@ use Rattle.h264_rbsp.specs.Emulation.{IsFault}
 use Rattle.h264_verify.specs.declared.state.Extent.{Extent}
 use Rattle.h264_verify.specs.Content.{Content}
 use Rattle.h264_verify.specs.Order.{course_to_data}
-use Rattle.h264_verify.specs.Steps.{Runs}
+use Rattle.h264_verify.specs.Course.{Runs}
 use Rattle.h264_verify.specs.Telling.{Told}
 
 -- in Units slices are passed over
@@ -82,4 +82,4 @@ pub record ChangesFormat (depth : Depth) (before : History) (unit : NalUnit) : T
 pub record ReachesData (extent : Extent) (before : History) (unit : NalUnit) (calls : List Told) : Type 0 where
   pub sound : (place : ℕ) → IsFault unit.body place → ⊥
   pub found : Content
-  pub runs : Runs (body_of unit) (course_to_data extent before unit) calls (Ok found)
+  pub runs : Runs (course_to_data extent before unit) calls (Ok found)

@@ -12,9 +12,8 @@ use Rattle.h264_base.specs.Call.{Call, SinkSpan}
 use Rattle.h264_verify.specs.Telling.{Told, Tells, Family, IsFamilyFor, with_frames, calls_of, AreDecoded}
 use Rattle.h264_units.specs.Stream.{NalUnit, Tail, Zeros, Splits, tail_stop}
 use Rattle.h264_rbsp.specs.Emulation.{IsFault, IsFirstFault}
-use Rattle.h264_rbsp.specs.Rbsp.{body_of}
 use Rattle.h264_base.specs.declared.summary.Summary.{Summary}
-use Rattle.h264_verify.specs.Steps.{AreMet, IsFirstStop, Runs}
+use Rattle.h264_verify.specs.Course.{Runs}
 use Rattle.h264_verify.specs.History.{History, ReadUnit}
 use Rattle.h264_verify.specs.Pictures.{runs_of}
 use Rattle.h264_verify.specs.Memory.{ChangesFormat, ReachesData, BeginWith, IsMore}
@@ -29,14 +28,14 @@ IsSound unit = (place : ℕ) → IsFault unit.body place → ⊥
 -- A unit after these whose course comes to its end: with every rule met, no feature among them, and a derivation of its content.
 pub record IsLegal (extent : Extent) (before : History) (r : ReadUnit) (calls : List Told) : Type 0 where
   pub sound : IsSound r.unit
-  pub runs : Runs (body_of r.unit) (unit_course extent before r.unit) calls (Ok r.content)
+  pub runs : Runs (unit_course extent before r.unit) calls (Ok r.content)
 
 -- A unit after these at which the verdict falls, with what was told of it before.
 pub data IsStop (extent : Extent) (before : History) (unit : NalUnit) (stop : Stop) (calls : List Told) : Type 0 where
   -- its bytes break emulation prevention: nothing is told
   AtBytes : (place : ℕ) → IsFirstFault unit.body place → stop ≡ No (8 * (unit.from + place)) Emulation → calls ≡ [] → IsStop extent before unit stop calls
   -- its course stops
-  InCourse : IsSound unit → Runs (body_of unit) (unit_course extent before unit) calls (Err stop) → IsStop extent before unit stop calls
+  InCourse : IsSound unit → Runs (unit_course extent before unit) calls (Err stop) → IsStop extent before unit stop calls
 
 -- All of these units are legal, and the sink is told of each in turn. The last one stands first.
 abbrev pub AreLegal : Extent → History → List Told → Type 0
@@ -57,7 +56,7 @@ pub record Holds (extent : Extent) (bytes : List ℕ) (calls : List Told) (summa
   pub first : List Told
   pub last : List Told
   pub legal : AreLegal extent units first
-  pub end : AreMet (end_steps extent.depth units (8 * length bytes)) last
+  pub end : Runs (end_steps extent.depth units (8 * length bytes)) last (Ok tt)
   pub calls_are : calls ≡ first ++ last
   pub summary_is : summary ≡ summary_of extent.depth units
   pub pictures : AreDecodable extent.depth (runs_of units)
@@ -76,7 +75,7 @@ pub data IsStopAfter (extent : Extent) (before : History) (rest : Remainder) (st
   AtNext : (unit : NalUnit) (later : List NalUnit) → rest.units ≡ unit ∷ later → IsStop extent before unit stop calls →
       IsStopAfter extent before rest stop calls
   AtTail : rest.units ≡ [] → tail_stop rest.tail ≡ Some stop → calls ≡ [] → IsStopAfter extent before rest stop calls
-  AtEnd : rest.units ≡ [] → rest.tail ≡ Zeros → IsFirstStop (end_steps extent.depth before (8 * rest.end)) calls stop →
+  AtEnd : rest.units ≡ [] → rest.tail ≡ Zeros → Runs (end_steps extent.depth before (8 * rest.end)) calls (Err stop) →
       IsStopAfter extent before rest stop calls
 
 -- The units before are legal, and then the verdict falls.

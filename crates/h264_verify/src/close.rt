@@ -9,12 +9,12 @@ ghost use Rattle.h264_verify.specs.Telling.{frame_span, Family};
 ghost use Rattle.h264_verify.specs.History.{History};
 ghost use Rattle.h264_verify.specs.Pictures.{goes_on, runs_of};
 ghost use Rattle.h264_verify.specs.Order.{closing_demands};
-ghost use Rattle.h264_verify.specs.Keeping.{KeepsSlices, KeepsFrames, WhereMade, KeepsSomeFrames, close_steps, format_in};
-ghost use Rattle.h264_verify.specs.StepOutcome.{steps_outcome};
+ghost use Rattle.h264_verify.specs.Keeping.{KeepsSlices, KeepsFrames, WhereMade, KeepsSomeFrames, format_in};
+ghost use Rattle.h264_verify.specs.CourseOutcome.{outcome_of};
 ghost use Rattle.h264_verify.specs.Framing.{EndsFrames, closing};
 ghost use Rattle.h264_verify.specs.Demands.{judged};
 ghost use Rattle.h264_verify.specs.Outcome.{IsNamed, answers};
-ghost use Rattle.h264_verify.specs.Order.{whole_steps};
+ghost use Rattle.h264_verify.specs.Order.{whole_steps, close_steps, close_if};
 ghost use Rattle.h264_verify.specs.Buffering.{closing_frames};
 
 use crate::decoder::Decoder;
@@ -28,7 +28,7 @@ use h264_marking::mark_end;
 fn end_data(slices: &PicturesSoFar, decoder: &Option<Decoder>) -> Result<(), Stop>
     ensures judged { (depth : Depth) (frames : Family) (before : History) → KeepsSlices before false slices.now →
         WhereMade depth (KeepsFrames frames (goes_on before) false (runs_of before)) decoder.now →
-        answers result ≡ steps_outcome (whole_steps depth before) }
+        answers result ≡ outcome_of (whole_steps depth before) }
     ensures named { IfErr result IsNamed }
 {
     let Some(decoder) = decoder else {
@@ -68,10 +68,10 @@ fn end_frame<S: FrameSink>(
     requires pictures { slices.now.pictures ≤ 2 ^ 42 }
     requires kept { KeepsSomeFrames true slices.now decoder.old }
     ensures ends { (depth : Depth) (frames : Family) (before : History) → KeepsSlices before true slices.now →
-        answers (Ok tt) ≡ steps_outcome (whole_steps depth before) →
+        answers (Ok tt) ≡ outcome_of (whole_steps depth before) →
         WhereMade depth (KeepsFrames frames (goes_on before) false (runs_of before)) decoder.old →
         EndsFrames depth (frame_span S.took S.failures frames sink.old sink.new) (closing (goes_on before) true (runs_of before))
-        (steps_outcome (closing_frames depth before)) decoder.new result }
+        (outcome_of (closing_frames depth before)) decoder.new result }
     ensures format { format_in decoder.new ≡ format_in decoder.old }
     ensures kept { OnOk result (IsQuiet S.failures sink.old sink.new) }
     ensures no_memory { IfErr result (λ e. e ≡ Stop.Write) }
@@ -98,7 +98,7 @@ pub fn close<S: FrameSink>(
     ensures closes { (depth : Depth) (frames : Family) (before : History) → KeepsSlices before false slices.old →
         WhereMade depth (KeepsFrames frames (goes_on before) false (runs_of before)) decoder.old →
         EndsFrames depth (frame_span S.took S.failures frames sink.old sink.new) (closing (goes_on before) true (runs_of before))
-        (steps_outcome (close_steps depth true before)) decoder.new result }
+        (outcome_of (close_steps depth before)) decoder.new result }
     ensures ended { (before : History) → KeepsSlices before false slices.old → OnOk result (KeepsSlices before true slices.new) }
     ensures others { slices.new ≡ record slices.old { held = slices.new.held } }
     ensures format { format_in decoder.new ≡ format_in decoder.old }
@@ -123,7 +123,7 @@ pub fn close_if<S: FrameSink>(
     ensures closes { (depth : Depth) (frames : Family) (before : History) → KeepsSlices before false slices.old →
         WhereMade depth (KeepsFrames frames (goes_on before) false (runs_of before)) decoder.old →
         EndsFrames depth (frame_span S.took S.failures frames sink.old sink.new) (closing (goes_on before) ends (runs_of before))
-        (steps_outcome (close_steps depth ends before)) decoder.new result }
+        (outcome_of (close_if ends depth before)) decoder.new result }
     ensures ended { (before : History) → KeepsSlices before false slices.old → OnOk result (KeepsSlices before ends slices.new) }
     ensures others { slices.new ≡ record slices.old { held = slices.new.held } }
     ensures format { format_in decoder.new ≡ format_in decoder.old }

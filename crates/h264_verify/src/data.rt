@@ -11,7 +11,7 @@ ghost use Rattle.h264_verify.specs.Data.{coded_so_far, data_in};
 ghost use Rattle.h264_verify.specs.Sound.{HasPps};
 ghost use Rattle.h264_verify.specs.Keeping.{EntersSome, EntersBy, IsRead, ReadsSome, BeginsFrames};
 ghost use Rattle.h264_verify.specs.Memory.{format_of};
-ghost use Rattle.h264_verify.specs.StepOutcome.{structure_from};
+ghost use Rattle.h264_verify.specs.CourseOutcome.{structure_from};
 ghost use Rattle.h264_verify.specs.Framing.{ReadsData};
 
 use crate::decoder::Decoder;

@@ -76,7 +76,7 @@ impl Decoder {
     ghost use Rattle.h264_verify.specs.Memory.{format_of};
     ghost use Rattle.h264_verify.specs.Keeping.{KeepsFrames, FillsSome, KeepsSomeEnd, EntersFrames, BegunFrames, HoldsBegun, IsNear};
     ghost use Rattle.h264_verify.specs.Keeping.{HasPlace, HasFreePlace, SlicesSome};
-    ghost use Rattle.h264_verify.specs.StepOutcome.{steps_outcome, structure_from};
+    ghost use Rattle.h264_verify.specs.CourseOutcome.{outcome_of, structure_from};
     ghost use Rattle.h264_verify.specs.Framing.{EndsFrames, ReadsSlice, closing};
 
     /// Before the first picture, of pictures that are decoded for this. It takes no memory.
@@ -255,7 +255,7 @@ impl Decoder {
             held.now ≡ held_after (p ∷ ps) → length (last_slice p).macroblocks ≡ picture_size p.first.sps →
             KeepsFrames frames true false (p ∷ ps) self.old →
             EndsFrames depths.Full (frame_span S.took S.failures frames sink.old sink.new) (closing true true (p ∷ ps))
-            (steps_outcome (end_frames depths.Full (p ∷ ps))) (Some self.new) result }
+            (outcome_of (end_frames depths.Full (p ∷ ps))) (Some self.new) result }
         ensures format { self.new.format ≡ self.old.format }
         ensures kept { OnOk result (IsQuiet S.failures sink.old sink.new) }
         ensures no_memory { IfErr result (λ e. e ≡ Stop.Write) }
@@ -275,7 +275,7 @@ impl Decoder {
         requires kept { FillsSome self.old }
         ensures plays { (frames : Family) (t : Turn) (next : ℕ) → FillsFrames frames t next self.old →
             Plays (with_frames frames (span S.took S.failures sink.old sink.new)) (λ x. x)
-            (steps_outcome (told_frames depths.Full (missing_turn held.now t.buffer).written)) result }
+            (outcome_of (told_frames depths.Full (missing_turn held.now t.buffer).written)) result }
         ensures keeps { (frames : Family) (t : Turn) (next : ℕ) → FillsFrames frames t next self.old →
             OnOk result (FillsFrames frames (turn_then t (missing_turn held.now)) next self.new) }
         ensures sized { size_of self.new.output ≡ size_of self.old.output }
@@ -300,7 +300,7 @@ impl Decoder {
         requires kept { FillsSome self.old }
         ensures plays { (frames : Family) (t : Turn) (next : ℕ) → FillsFrames frames t next self.old →
             Plays (with_frames frames (span S.took S.failures sink.old sink.new)) (λ x. x)
-            (steps_outcome (told_frames depths.Full (last_turn t.buffer).written)) result }
+            (outcome_of (told_frames depths.Full (last_turn t.buffer).written)) result }
         ensures written { (frames : Family) (t : Turn) (next : ℕ) → FillsFrames frames t next self.old →
             OnOk result (KeepsBuffer (last_turn t.buffer).buffer (length t.written + length (last_turn t.buffer).written) self.new.output) }
         ensures others { self.new ≡ record self.old { output = self.new.output } }

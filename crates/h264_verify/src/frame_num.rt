@@ -19,7 +19,7 @@ ghost use Rattle.h264_verify.specs.Outcome.{Plays};
 ghost use Rattle.h264_verify.specs.Buffering.{told_frames, gaps_turn, missing_steps};
 ghost use Rattle.h264_marking.specs.Steady.{IsSteady};
 ghost use Rattle.h264_verify.specs.Keeping.{WhereMade, FillsFrames, KeepsSomeGap, BufferStays, HasPlaces, GoesWith, numbers_in, format_in, slice_at};
-ghost use Rattle.h264_verify.specs.StepOutcome.{steps_outcome};
+ghost use Rattle.h264_verify.specs.CourseOutcome.{outcome_of};
 ghost use Rattle.h264_verify.specs.Demands.{judged};
 ghost use Rattle.h264_verify.specs.Pictures.{prev_ref_frame_num_after};
 ghost use Rattle.h264_header.specs.Picture.{is_idr, is_reference};
@@ -81,7 +81,7 @@ fn miss<S: FrameSink>(held: &Held, decoder: &mut Option<Decoder>, sink: &mut S) 
     requires kept { KeepsSomeGap decoder.old }
     ensures plays { (depth : Depth) (frames : Family) (t : Turn) (next : ℕ) → WhereMade depth (FillsFrames frames t next) decoder.old →
         Plays (with_frames frames (span S.took S.failures sink.old sink.new)) (λ x. x)
-        (steps_outcome (told_frames depth (missing_turn held.now t.buffer).written)) result }
+        (outcome_of (told_frames depth (missing_turn held.now t.buffer).written)) result }
     ensures keeps { (depth : Depth) (frames : Family) (t : Turn) (next : ℕ) → WhereMade depth (FillsFrames frames t next) decoder.old →
         OnOk result (WhereMade depth (FillsFrames frames (turn_then t (missing_turn held.now)) next) decoder.new) }
     ensures no_memory { IfErr result (λ e. e ≡ Stop.Write) }
@@ -143,7 +143,7 @@ fn fill_frames<S: FrameSink>(
     requires places { 0 < gap.now.count → HasPlaces (frame_places gap.now.numbering.max_num_ref_frames) decoder.old }
     requires kept { KeepsSomeGap decoder.old }
     ensures plays { (depth : Depth) (frames : Family) (t : Turn) (next : ℕ) → WhereMade depth (FillsFrames frames t next) decoder.old →
-        Plays (with_frames frames (span S.took S.failures sink.old sink.new)) (λ _. tt) (steps_outcome
+        Plays (with_frames frames (span S.took S.failures sink.old sink.new)) (λ _. tt) (outcome_of
         (missing_steps depth gap.now.bit gap.now.numbering (numbers_in gap.now) held.old t.buffer)) result }
     ensures keeps { (depth : Depth) (frames : Family) (t : Turn) (next : ℕ) → WhereMade depth (FillsFrames frames t next) decoder.old →
         OnOk result (WhereMade depth (FillsFrames frames (turn_then t (gaps_turn gap.now.numbering (numbers_in gap.now) held.old)) next) decoder.new) }
@@ -210,7 +210,7 @@ pub(crate) fn check_gap<S: FrameSink>(
     requires goes { is_idr head.now.header.now ≡ false → GoesWith head.now.place.sps.now held.old decoder.old }
     requires kept { KeepsSomeGap decoder.old }
     ensures plays { (depth : Depth) (frames : Family) (t : Turn) (next : ℕ) → WhereMade depth (FillsFrames frames t next) decoder.old →
-        Plays (with_frames frames (span S.took S.failures sink.old sink.new)) (λ x. x) (steps_outcome
+        Plays (with_frames frames (span S.took S.failures sink.old sink.new)) (λ x. x) (outcome_of
         (gap_rules depth (slice_at head.now.place head.now.header.now []) prev_ref_frame_num.old held.old t.buffer)) result }
     ensures keeps { (depth : Depth) (frames : Family) (t : Turn) (next : ℕ) → WhereMade depth (FillsFrames frames t next) decoder.old →
         OnOk result (WhereMade depth (FillsFrames frames (turn_then t (gaps_turn (numbering_of head.now.place.sps.now head.now.header.now)

@@ -18,9 +18,9 @@ ghost use Rattle.h264_verify.specs.Telling.{Said, with_frames, Family};
 ghost use Rattle.h264_verify.specs.Buffering.{gaps_turn, ended_picture, frame_count, newest_count};
 ghost use Rattle.h264_verify.specs.Keeping.{KeepsSlices, KeepsFrames, WhereMade, FillsFrames, EntersBy, KeepsSomeGap, GoesWith, KeepsSomeRules};
 ghost use Rattle.h264_verify.specs.Keeping.{HoldsEnd, format_in};
-ghost use Rattle.h264_verify.specs.Order.{first_slice_rules, later_slice_rules, slice_rules};
-ghost use Rattle.h264_verify.specs.Keeping.{HoldsOpen, IsLeft, pictures_by, slices_by, told_rules, KeepsPictures, Entered, is_typed, slice_at};
-ghost use Rattle.h264_verify.specs.StepOutcome.{steps_outcome};
+ghost use Rattle.h264_verify.specs.Order.{first_slice_rules, later_slice_rules, slice_rules, told_rules};
+ghost use Rattle.h264_verify.specs.Keeping.{HoldsOpen, IsLeft, pictures_by, slices_by, KeepsPictures, Entered, is_typed, slice_at};
+ghost use Rattle.h264_verify.specs.CourseOutcome.{outcome_of};
 ghost use Rattle.h264_verify.specs.Pictures.{CodedSlice, CodedPicture, open_of, joined_to, runs_of, goes_on, bit_after};
 ghost use Rattle.h264_verify.specs.Pictures.{prev_ref_frame_num_after, begins_at, begins_after};
 ghost use Rattle.h264_units.specs.UnitHeader.{ends_picture};
@@ -164,7 +164,7 @@ fn check_first_slice<S: FrameSink>(
     ensures plays { (depth : Depth) (frames : Family) (t : Turn) (next : ℕ) (pictures : List Picture) →
         WhereMade depth (FillsFrames frames t next) decoder.old → KeepsCounts pictures slices.old.counts →
         Plays (with_frames frames (span S.took S.failures sink.old sink.new)) (λ x. x)
-        (steps_outcome (first_slice_rules depth (pictures_by slices.old pictures t.buffer) (slice_at head.now.place head.now.header.now []))) result }
+        (outcome_of (first_slice_rules depth (pictures_by slices.old pictures t.buffer) (slice_at head.now.place head.now.header.now []))) result }
     ensures gap { (depth : Depth) (frames : Family) (t : Turn) (next : ℕ) → WhereMade depth (FillsFrames frames t next) decoder.old →
         OnOk result (WhereMade depth (FillsFrames frames (turn_then t (gaps_turn (numbering_of head.now.place.sps.now head.now.header.now)
         (unused_short_term_frame_nums (is_idr head.now.header.now) slices.old.prev_ref_frame_num
@@ -246,7 +246,7 @@ fn check_rules<S: FrameSink>(
     ensures plays { (depth : Depth) (frames : Family) (before : History) → KeepsSlices before head.now.place.begins slices.old →
         head.now.place.begins ≡ begins_at before head.now.header.now →
         WhereMade depth (KeepsFrames frames (goes_on before) head.now.place.begins (runs_of before)) decoder.old →
-        Plays (with_frames frames (span S.took S.failures sink.old sink.new)) (λ x. x) (steps_outcome
+        Plays (with_frames frames (span S.took S.failures sink.old sink.new)) (λ x. x) (outcome_of
         (slice_rules depth head.now.place.begins (runs_of before) (slice_at head.now.place head.now.header.now []))) result }
     ensures entered { (before : History) (macroblocks : List CodedMacroblock) → KeepsSlices before head.now.place.begins slices.old →
         head.now.place.begins ≡ begins_at before head.now.header.now →
@@ -381,7 +381,7 @@ pub(crate) fn judge_rules<S: FrameSink>(
     ensures plays { (depth : Depth) (frames : Family) (before : History) → KeepsSlices before place.now.begins slices.old →
         place.now.begins ≡ begins_at before slice.old.header →
         WhereMade depth (KeepsFrames frames (goes_on before) place.now.begins (runs_of before)) decoder.old →
-        Plays (with_frames frames (span S.took S.failures sink.old sink.new)) (λ x. x) (steps_outcome
+        Plays (with_frames frames (span S.took S.failures sink.old sink.new)) (λ x. x) (outcome_of
         (told_rules depth place.now.begins (runs_of before) (slice_at place.now slice.old.header []))) result }
     ensures entered { (before : History) (macroblocks : List CodedMacroblock) → KeepsSlices before place.now.begins slices.old →
         place.now.begins ≡ begins_at before slice.old.header → OnOk result (KeepsPictures true false

@@ -23,7 +23,7 @@ ghost use Rattle.h264_verify.specs.Turning.{Turns, Joins, Pauses, EndsAll, is_en
 ghost use Rattle.h264_verify.specs.UnitOutcome.{content_to_data, unit_to_data};
 ghost use Rattle.h264_verify.specs.Units.{unit_call, slice_unit, has_pictures};
 ghost use Rattle.h264_verify.specs.Memory.{bytes_of, reads_slices, ChangesFormat};
-ghost use Rattle.h264_verify.specs.StepOutcome.{steps_outcome};
+ghost use Rattle.h264_verify.specs.CourseOutcome.{outcome_of};
 ghost use Rattle.h264_verify.specs.declared.state.Depth.{Depth};
 
 use crate::close::{close, close_if};
@@ -306,7 +306,7 @@ fn finish_frames<S: FrameSink>(decoder: &mut Option<Decoder>, sink: &mut S) -> R
     requires room { HasRoom S.failures sink.old }
     requires kept { KeepsSomeGap decoder.old }
     ensures plays { (depth : Depth) (frames : Family) (t : Turn) (next : ℕ) → WhereMade depth (FillsFrames frames t next) decoder.old →
-        Plays (with_frames frames (span S.took S.failures sink.old sink.new)) (λ x. x) (steps_outcome (told_frames depth (last_turn t.buffer).written)) result }
+        Plays (with_frames frames (span S.took S.failures sink.old sink.new)) (λ x. x) (outcome_of (told_frames depth (last_turn t.buffer).written)) result }
     ensures written { (depth : Depth) (frames : Family) (t : Turn) (next : ℕ) → WhereMade depth (FillsFrames frames t next) decoder.old →
         OnOk result (WhereMade depth (HasWritten t) decoder.new) }
     ensures no_memory { IfErr result (λ e. e ≡ Stop.Write) }

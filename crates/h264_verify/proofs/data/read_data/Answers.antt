@@ -7,7 +7,7 @@ use Rattle.h264_picture.specs.Context.{slice_context}
 use Rattle.h264_verify.specs.Telling.{frame_span}
 use Rattle.h264_verify.specs.Pictures.{joined_to}
 use Rattle.h264_verify.specs.Framing.{ReadsData}
-use Rattle.h264_verify.specs.StepOutcome.{structure_from}
+use Rattle.h264_verify.specs.CourseOutcome.{structure_from}
 use Rattle.h264_verify.proofs.OutcomesPlayed.{memory-plays}
 use Rattle.h264_verify.proofs.KeepsOutput.{enters-some}
 use Rattle.h264_verify.proofs.NamedPlaces.{slices-some}

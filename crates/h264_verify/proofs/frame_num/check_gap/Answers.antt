@@ -12,12 +12,12 @@ use Rattle.h264_dpb.specs.Turns.{Turn}
 use Rattle.h264_verify.specs.declared.state.Depth.{Depth}
 use Rattle.h264_verify.specs.Telling.{Family, took_with}
 use Rattle.h264_verify.specs.Outcome.{Plays}
-use Rattle.h264_verify.specs.StepOutcome.{steps_outcome}
+use Rattle.h264_verify.specs.CourseOutcome.{outcome_of}
 use Rattle.h264_verify.specs.Order.{gap_rules}
 use Rattle.h264_verify.specs.Keeping.{WhereMade, FillsFrames, slice_at}
 use Rattle.h264_verify.proofs.OutcomesPlayed.{err-as}
 use Rattle.h264_verify.proofs.MissingNumbers.{new-filled}
-use Rattle.h264_verify.proofs.StepsPlayed.{gap-broken, gap-unfilled, gap-filled}
+use Rattle.h264_verify.proofs.Played.{begins, met, unmet, played, stops, rules-last}
 use Rattle.h264_verify.proofs.frame_num.check_gap.Given.{Over}
 use Rattle.h264_verify.proofs.frame_num.check_gap.Goals.{In_ok-last}
 use Rattle.h264_verify.proofs.frame_num.check_gap.Goals as goal
@@ -40,16 +40,18 @@ fill_frames-requires-clause-places g c =
 pub returns-in_err-check_missing-clause-plays : goal.returns-in_err-check_missing-clause-plays
 returns-in_err-check_missing-clause-plays g c =
     let p = err_from_is_err_and c.from_residual.result c.from_residual.ensures.1 in
-    rw (p.1, p.2) (λ depth frames t next k. gap-broken (took_with frames g.S.Elements.took) g.S.Elements.failures depth
-    (slice_at c.args.head.now.place c.args.head.now.header.now []) c.args.prev_ref_frame_num.now c.args.held.now t.buffer c.args.sink.now _
+    let slice = slice_at c.args.head.now.place c.args.head.now.header.now [] in
+    rw (p.1, p.2) (λ depth frames t next k.
+    unmet _ _ _ _ (begins _ _ (gap_rules depth slice c.args.prev_ref_frame_num.now c.args.held.now t.buffer) _)
     (rw (c.gap_before-count.ensures, c.requires.numbered, c.is_some-idr.ensures) at c.in_err-check_missing.ensures))
 
 pub returns-in_err-last-clause-plays : goal.returns-in_err-last-clause-plays
 returns-in_err-last-clause-plays g c =
     let p = err_from_is_err_and c.from_residual-in_err-last.result c.from_residual-in_err-last.ensures.1 in
-    rw (p.1, p.2) (λ depth frames t next k. gap-unfilled (took_with frames g.S.Elements.took) g.S.Elements.failures depth
-    (slice_at c.args.head.now.place c.args.head.now.header.now []) c.args.prev_ref_frame_num.now c.args.held.now t.buffer c.args.sink.now (λ _. tt) _
-    (rw (c.gap_before-count.ensures, c.requires.numbered, c.is_some-idr.ensures) at c.in_ok-check_missing.ensures) _ _
+    let slice = slice_at c.args.head.now.place c.args.head.now.header.now [] in
+    rw (p.1, p.2) (λ depth frames t next k.
+    stops _ _ _ _ (met _ _ _ _ (begins _ _ (gap_rules depth slice c.args.prev_ref_frame_num.now c.args.held.now t.buffer) _)
+    (rw (c.gap_before-count.ensures, c.requires.numbered, c.is_some-idr.ensures) at c.in_ok-check_missing.ensures))
     ((rw (c.gap_before-count.ensures, c.requires.numbered, c.is_some-idr.ensures) at c.in_err-last.ensures.plays) depth frames t next k))
 
 pub returns-in_err-last-clause-no_memory : goal.returns-in_err-last-clause-no_memory
@@ -65,11 +67,12 @@ module _ (g : Over) (c : In_ok-last g) (depth : Depth) (frames : Family) (t : Tu
       r ≡ (if idr || not (is_reference c.args.head.now.header.now) || is_new_num c.args.prev_ref_frame_num.now n.frame_num c.fill_frames.new.held
       then Ok tt else Err (No bit FrameNum))) →
       Plays (span (took_with frames g.S.Elements.took) g.S.Elements.failures c.args.sink.now c.fill_frames.new.sink) (λ (x : Unit {0}). x)
-      (steps_outcome (gap_rules depth (slice_at c.args.head.now.place c.args.head.now.header.now []) c.args.prev_ref_frame_num.now c.args.held.now t.buffer)) r
-  number-plays r h = gap-filled (took_with frames g.S.Elements.took) g.S.Elements.failures depth
-      (slice_at c.args.head.now.place c.args.head.now.header.now []) c.args.prev_ref_frame_num.now c.args.held.now t.buffer c.args.sink.now (λ _. tt) _
-      (rw (c.gap_before-count.ensures, c.requires.numbered, c.is_some-idr.ensures) at c.in_ok-check_missing.ensures) _ _ r
-      ((rw (c.gap_before-count.ensures, c.requires.numbered, c.is_some-idr.ensures) at c.in_ok-last.ensures.plays) depth frames t next k)
+      (outcome_of (gap_rules depth (slice_at c.args.head.now.place c.args.head.now.header.now []) c.args.prev_ref_frame_num.now c.args.held.now t.buffer)) r
+  number-plays r h = rules-last _ _ _ (played _ _ _ _
+      (met _ _ _ _ (begins _ _
+      (gap_rules depth (slice_at c.args.head.now.place c.args.head.now.header.now []) c.args.prev_ref_frame_num.now c.args.held.now t.buffer) _)
+      (rw (c.gap_before-count.ensures, c.requires.numbered, c.is_some-idr.ensures) at c.in_ok-check_missing.ensures))
+      ((rw (c.gap_before-count.ensures, c.requires.numbered, c.is_some-idr.ensures) at c.in_ok-last.ensures.plays) depth frames t next k))
       (h ∙ new-filled _ _ _ _ (numbering_of c.args.head.now.place.sps.now c.args.head.now.header.now) c.args.held.now _
       (rw (c.gap_before-count.ensures, c.requires.numbered, c.is_some-idr.ensures) at c.in_ok-last.ensures.held))
 

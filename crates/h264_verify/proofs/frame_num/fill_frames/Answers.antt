@@ -38,7 +38,6 @@ returns-then-may_skip-clause-plays g c = λ depth frames t next k.
     let still = c.may_skip.ensures.frames c.if-may_skip.true depth frames f.turn next f.keeps in
     fills-last _ _ _ _ _ _ _ _ _ _ _ _ _ _ _ _
     (fills-skipped _ _ _ _ _ _ _ _ _ _ _ _ _ _ c.number_after.result _ c.skip.new.self _ _ (c.may_skip.ensures.held c.if-may_skip.true) f still)
-    c.loop-turn.invariant.kept
 
 pub returns-then-may_skip-clause-keeps : goal.returns-then-may_skip-clause-keeps
 returns-then-may_skip-clause-keeps g c = λ depth frames t next k.
@@ -65,7 +64,7 @@ returns-in_err-fill_gap-clause-plays g c =
     let none = filled-none _ _ _ (rw c.number_after-in-loop-turn.ensures at c.in_err-fill_gap.ensures.answer) in
     rw (p.1, p.2) (λ depth frames t next k.
     let f = fills-more _ _ _ _ _ _ _ _ _ _ _ _ c.loop-turn.turn _ _ _ _ c.loop-turn-test.true (c.loop-turn.invariant.fills depth frames t next k) in
-    fills-refused _ _ _ _ _ _ _ _ _ _ _ _ _ _ _ _ _ f c.loop-turn.invariant.kept (λ _. tt) _ none.0 none.1)
+    fills-refused _ _ _ _ _ _ _ _ _ _ _ _ _ _ _ _ _ f (λ _. tt) _ none.0 none.1)
 
 pub returns-in_err-miss-clause-plays : goal.returns-in_err-miss-clause-plays
 returns-in_err-miss-clause-plays g c =
@@ -74,7 +73,7 @@ returns-in_err-miss-clause-plays g c =
     let held = rw c.number_after-in-loop-turn.ensures at c.in_ok-fill_gap.ensures.held in
     rw (p.1, p.2) (λ depth frames t next k.
     let f = fills-more _ _ _ _ _ _ _ _ _ _ _ _ c.loop-turn.turn _ _ _ _ c.loop-turn-test.true (c.loop-turn.invariant.fills depth frames t next k) in
-    fills-stopped _ _ _ _ _ _ _ _ _ _ _ _ _ _ _ _ _ f c.loop-turn.invariant.kept _ (filled-some _ _ _ _ _ answer held) (λ _. tt) _ _
+    fills-stopped _ _ _ _ _ _ _ _ _ _ _ _ _ _ _ _ _ f _ (filled-some _ _ _ _ _ answer held) (λ _. tt) _ _
     (c.in_err-miss.ensures.plays depth frames f.turn next f.keeps))
 
 pub loop-turn-preserved : goal.loop-turn-preserved
@@ -86,7 +85,7 @@ loop-turn-preserved g c =
           c.loop-turn.held c.fill_gap.new.self _ c.args.gap.now.bit c.loop-turn.invariant.filled c.loop-turn-test.true answer held;
       fills = λ depth frames t next k.
           let f = fills-more _ _ _ _ _ _ _ _ _ _ _ _ c.loop-turn.turn _ _ _ _ c.loop-turn-test.true (c.loop-turn.invariant.fills depth frames t next k) in
-          fills-next _ _ _ _ _ _ _ _ _ _ _ _ _ _ _ _ _ f c.loop-turn.invariant.kept _ (filled-some _ _ _ _ _ answer held) _ _ _
+          fills-next _ _ _ _ _ _ _ _ _ _ _ _ _ _ _ _ _ f _ (filled-some _ _ _ _ _ answer held) _ _ _
           (c.in_ok-miss.ensures.plays depth frames f.turn next f.keeps)
           (c.in_ok-miss.ensures.keeps depth frames f.turn next f.keeps);
       few = λ some. c.in_ok-fill_gap.ensures.bounded (c.loop-turn.invariant.few some);
@@ -101,7 +100,7 @@ pub returns-clause-plays : goal.returns-clause-plays
 returns-clause-plays g c =
     let e : c.loop-turn.turn ≡ c.args.gap.now.count = search rules in
     λ depth frames t next k. fills-last _ _ _ _ _ _ _ _ _ _ _ _ _ _ _ _
-    (fills-whole _ _ _ _ _ _ _ _ _ _ _ _ c.loop-turn.turn _ _ _ _ e (c.loop-turn.invariant.fills depth frames t next k)) c.loop-turn.invariant.kept
+    (fills-whole _ _ _ _ _ _ _ _ _ _ _ _ c.loop-turn.turn _ _ _ _ e (c.loop-turn.invariant.fills depth frames t next k))
 
 pub returns-clause-keeps : goal.returns-clause-keeps
 returns-clause-keeps g c =

@@ -1,14 +1,17 @@
-use Rattle.std.proofs.Common.{◌≡◌, Result, Ok, Err, OnOk, OnErr, ap, ◌∙◌, refl}
+use Rattle.std.proofs.Common.{◌≡◌, Result, Ok, Err, OnOk, OnErr, ap, ◌∙◌, ◌*◌, refl}
 use Rattle.std.specs.Option.{is_some}
 use Rattle.std.proofs.lemmas.Result.{err_from_is_err_and}
 use Rattle.h264_base.specs.declared.stop.Stop.{Stop}
 use Rattle.h264_verify.specs.declared.slices.PicturesSoFar.{PicturesSoFar}
-use Rattle.h264_verify.specs.Telling.{took_with, frame_span}
+use Rattle.h264_verify.specs.Telling.{frame_span}
 use Rattle.h264_verify.specs.Pictures.{goes_on, runs_of}
 use Rattle.h264_verify.specs.Framing.{JudgesSlice, slice_after}
 use Rattle.h264_verify.proofs.SliceSteps.{sets-before, some-of}
 use Rattle.h264_verify.proofs.KeepsEntered.{begins-as}
-use Rattle.h264_verify.proofs.SliceJudged.{closed-stop, closed-on, standing-stop, place-stop, before-held}
+use Rattle.h264_verify.proofs.SliceJudged.{slice-begins, slice-closed, slice-stands, before-held}
+use Rattle.h264_verify.proofs.Played.{stops, unmet}
+use Rattle.h264_verify.specs.Order.{close_if, standing_demands, coded_before}
+use Rattle.h264_verify.specs.Slices.{first_mb_demands}
 use Rattle.h264_verify.proofs.slice.place_slice.Goals as goal
 
 -- what follows where it is well, and where it is not
@@ -36,7 +39,7 @@ returns-in_err-close_if-clause-refused g c =
     record {
       made = e.made;
       same = e.same;
-      plays = closed-stop (took_with e.made g.S.Elements.took) g.S.Elements.failures depth before c.args.unit.now h c.args.begins b _ _ _ e.plays;
+      plays = stops _ _ (close_if c.args.begins depth before) _ (slice-begins _ _ depth before c.args.unit.now h c.args.begins b _) e.plays;
       enters = tt;
     })
 
@@ -54,9 +57,9 @@ returns-in_err-check_standing-clause-refused g c =
     record {
       made = e.made;
       same = e.same;
-      plays = closed-on (took_with e.made g.S.Elements.took) g.S.Elements.failures depth before c.args.unit.now h c.args.begins b _ _ _ _ _ e.plays
-          (standing-stop (took_with e.made g.S.Elements.took) g.S.Elements.failures depth before c.args.unit.now h c.args.begins b _ c.args.state.now.sets
-          (c.in_ok-close_if.ensures.ended before k).due m named w _ _ broken);
+      plays = unmet _ _ (standing_demands c.args.begins named.1 c.close_if.new.slices.due c.args.state.now.sets (8 * c.args.unit.now.from) h) _
+          (slice-closed _ _ depth before c.args.unit.now h c.args.begins b c.close_if.new.slices.due c.args.state.now.sets
+          (c.in_ok-close_if.ensures.ended before k).due m named w _ _ _ e.plays) broken;
       enters = tt;
     })
 
@@ -83,9 +86,9 @@ returns g c =
           (λ stop broken. record {
             made = e.made;
             same = e.same;
-            plays = closed-on (took_with e.made g.S.Elements.took) g.S.Elements.failures depth before c.args.unit.now h c.args.begins b _ _ _ _ _ e.plays
-                (place-stop (took_with e.made g.S.Elements.took) g.S.Elements.failures depth before c.args.unit.now h c.args.begins b _ c.args.state.now.sets
-                kept.due m named w _ stands _ _ (broken ∙ first));
+            plays = unmet _ _ (first_mb_demands depth (coded_before c.args.begins (runs_of before)) h) _
+                (slice-stands _ _ depth before c.args.unit.now h c.args.begins b c.close_if.new.slices.due c.args.state.now.sets kept.due m named w _ _ _ _
+                e.plays stands) (broken ∙ first);
             enters = tt;
           });
       placed = λ depth frames before k d.

@@ -1,16 +1,16 @@
 use Rattle.h264_base.specs.Call.{span}
-use Rattle.std.proofs.Common.{List, ◌∙◌, sym, ap, subst, [], map, length}
+use Rattle.std.proofs.Common.{◌∙◌, sym, ap, subst, [], map, length}
 use Rattle.h264_verify.specs.Keeping.{slice_at}
 use Rattle.h264_verify.specs.Telling.{took_with}
 use Rattle.h264_verify.specs.Outcome.{Plays}
 use Rattle.h264_verify.specs.Demands.{judged}
-use Rattle.h264_verify.specs.Steps.{Step}
-use Rattle.h264_verify.specs.StepOutcome.{steps_outcome}
+use Rattle.h264_verify.specs.Course.{Steps}
+use Rattle.h264_verify.specs.CourseOutcome.{outcome_of}
 use Rattle.h264_verify.specs.Buffering.{after_all}
 use Rattle.h264_verify.specs.Order.{later_slice_rules}
 use Rattle.h264_verify.specs.Slices.{SlicesBefore, slices_before}
 use Rattle.h264_verify.specs.Pictures.{goes_on, runs_of, with_sets, counted}
-use Rattle.h264_verify.proofs.StepsPlayed.{rules-play}
+use Rattle.h264_verify.proofs.Played.{rules-play}
 use Rattle.h264_verify.proofs.KeepsOutput.{ended-gap}
 use Rattle.h264_verify.proofs.SliceRules.{some-begun, first-rules, enters-first, enters-later, later-rules}
 use Rattle.h264_verify.proofs.slices.check_rules.Goals as goal
@@ -22,8 +22,8 @@ check_first_slice-requires-clause-kept g c =
 
 pub returns-then-head-clause-plays : goal.returns-then-head-clause-plays
 returns-then-head-clause-plays g c = rw c.if-head.true (λ depth frames before k b d.
-    subst (λ (steps : List Step). Plays (span (took_with frames g.S.Elements.took) g.S.Elements.failures c.args.sink.now c.check_first_slice.new.sink)
-    (λ (x : Unit {0}). x) (steps_outcome steps) c.check_first_slice.result)
+    subst (λ (steps : Steps). Plays (span (took_with frames g.S.Elements.took) g.S.Elements.failures c.args.sink.now c.check_first_slice.new.sink)
+    (λ (x : Unit {0}). x) (outcome_of steps) c.check_first_slice.result)
     (first-rules depth (goes_on before) (runs_of before) c.args.slices.now (slice_at c.args.head.now.place c.args.head.now.header.now []) k.kept)
     (c.check_first_slice.ensures.plays depth frames (after_all (runs_of before)) (length (runs_of before)) (map counted (runs_of before))
     (ended-gap depth frames (goes_on before) (runs_of before) c.args.decoder.now d) k.kept.counts))

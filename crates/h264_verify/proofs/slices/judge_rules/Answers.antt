@@ -1,4 +1,4 @@
-use Rattle.std.proofs.Common.{◌≡◌, ◌≤◌, ◌+◌, ℕ, Bool, true, false, List, Result, Ok, Err, if◌then◌else◌, refl, rules, arith, ◌∙◌, [], ◌∷◌}
+use Rattle.std.proofs.Common.{◌≡◌, ◌≤◌, ◌+◌, ℕ, Bool, true, false, Result, Ok, Err, if◌then◌else◌, refl, rules, arith, ◌∙◌, []}
 use Rattle.std.proofs.lemmas.Result.{err_from_is_err_and}
 use Rattle.std.proofs.lemmas.Int.{to_z-of_z}
 use Rattle.std.specs.Int.{w32}
@@ -10,14 +10,10 @@ use Rattle.h264_sps.specs.declared.sps.Sps.{Sps}
 use Rattle.h264_picture.specs.Buffer.{buffer_size}
 use Rattle.h264_dpb.specs.Ending.{ended_of}
 use Rattle.h264_verify.specs.Buffering.{frame_count}
-use Rattle.h264_verify.specs.Telling.{Said, took_with}
-use Rattle.h264_verify.specs.Steps.{Step, Tells}
-use Rattle.h264_verify.specs.History.{History}
 use Rattle.h264_verify.specs.Keeping.{slice_at}
-use Rattle.h264_verify.specs.Slices.{slice_call}
-use Rattle.h264_verify.specs.Pictures.{CodedSlice, goes_on, runs_of, joined_to}
-use Rattle.h264_verify.specs.Order.{slice_rules}
-use Rattle.h264_verify.proofs.StepsPlayed.{steps-stop, steps-on}
+use Rattle.h264_verify.specs.Pictures.{goes_on, runs_of}
+use Rattle.h264_verify.specs.Order.{slice_rules, told_rules}
+use Rattle.h264_verify.proofs.Played.{begins, played, stops, last}
 use Rattle.h264_verify.proofs.KeepsEntered.{slice-kept}
 use Rattle.h264_verify.proofs.SliceJudged.{ended-is}
 use Rattle.h264_verify.proofs.slices.judge_rules.Goals as goal
@@ -34,17 +30,12 @@ entered-more false old mid new n e = omega (arith, n, e)
 no-error : (let r : Result (Unit {0}) Stop = Ok tt in r ≡ Err Memory) → ⊥
 no-error e = cc
 
--- it is told, once its rules are met
-abbrev told-step : Bool → History → CodedSlice → List Step
-told-step begins before slice = Tells (Said (slice_call (joined_to begins slice (runs_of before)) slice)) ∷ []
-
 pub returns-in_err-check_rules-clause-plays : goal.returns-in_err-check_rules-clause-plays
 returns-in_err-check_rules-clause-plays g c =
     let slice = slice_at c.args.place.now c.args.slice.now.header [] in
     let p = err_from_is_err_and c.from_residual.result c.from_residual.ensures.1 in
-    rw (p.1, p.2) (λ depth frames before k b d. steps-stop (took_with frames g.S.Elements.took) g.S.Elements.failures (λ (x : Unit {0}). x)
-    (slice_rules depth c.args.place.now.begins (runs_of before) slice) (told-step c.args.place.now.begins before slice) _ _ _
-    (c.in_err-check_rules.ensures.plays depth frames before k b d))
+    rw (p.1, p.2) (λ depth frames before k b d. stops _ _ (slice_rules depth c.args.place.now.begins (runs_of before) slice) _
+    (begins _ _ (told_rules depth c.args.place.now.begins (runs_of before) slice) _) (c.in_err-check_rules.ensures.plays depth frames before k b d))
 
 pub returns-in_err-check_rules-clause-pictures : goal.returns-in_err-check_rules-clause-pictures
 returns-in_err-check_rules-clause-pictures g c = more-of _ _ c.in_err-check_rules.ensures.pictures
@@ -55,9 +46,8 @@ returns-in_err-tell_slice-clause-plays g c =
     let p = err_from_is_err_and c.from_residual-in_err-tell_slice.result c.from_residual-in_err-tell_slice.ensures.1 in
     rw (p.1, p.2) (λ depth frames before k b d.
     let told = rw (c.from.ensures.value, (c.in_ok-check_rules.ensures.entered before [] k b).count) at (c.in_err-tell_slice.ensures.plays frames) in
-    steps-on (took_with frames g.S.Elements.took) g.S.Elements.failures (λ (x : Unit {0}). x)
-    (slice_rules depth c.args.place.now.begins (runs_of before) slice) (told-step c.args.place.now.begins before slice) _ _ _ _ _
-    (c.in_ok-check_rules.ensures.plays depth frames before k b d) told)
+    last _ _ (played _ _ (slice_rules depth c.args.place.now.begins (runs_of before) slice) _
+    (begins _ _ (told_rules depth c.args.place.now.begins (runs_of before) slice) _) (c.in_ok-check_rules.ensures.plays depth frames before k b d)) told)
 
 pub returns-in_err-tell_slice-clause-pictures : goal.returns-in_err-tell_slice-clause-pictures
 returns-in_err-tell_slice-clause-pictures g c = more-of _ _ c.in_ok-check_rules.ensures.pictures
@@ -67,9 +57,8 @@ returns g c = record {
   plays = λ depth frames before k b d.
       let slice = slice_at c.args.place.now c.args.slice.now.header [] in
       let told = rw (c.from.ensures.value, (c.in_ok-check_rules.ensures.entered before [] k b).count) at (c.in_ok-tell_slice.ensures.plays frames) in
-      steps-on (took_with frames g.S.Elements.took) g.S.Elements.failures (λ (x : Unit {0}). x)
-      (slice_rules depth c.args.place.now.begins (runs_of before) slice) (told-step c.args.place.now.begins before slice) _ _ _ _ _
-      (c.in_ok-check_rules.ensures.plays depth frames before k b d) told;
+      last _ _ (played _ _ (slice_rules depth c.args.place.now.begins (runs_of before) slice) _
+      (begins _ _ (told_rules depth c.args.place.now.begins (runs_of before) slice) _) (c.in_ok-check_rules.ensures.plays depth frames before k b d)) told;
   entered = λ before ms k b.
       let sets : Pps × Sps = (c.args.place.now.pps.now, c.args.place.now.sps.now) in
       let slice = slice_at c.args.place.now c.args.slice.now.header ms in

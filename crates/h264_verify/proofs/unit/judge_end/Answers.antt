@@ -1,4 +1,4 @@
-use Rattle.std.proofs.Common.{ℕ, ◌≡◌, Bool, true, false, Result, Ok, Err, [], ◌∷◌, refl, sym, length, arith, if◌then◌else◌}
+use Rattle.std.proofs.Common.{ℕ, ◌≡◌, Bool, true, false, Result, Ok, Err, [], ◌∷◌, refl, length, arith, if◌then◌else◌}
 use Rattle.h264_base.specs.declared.rule.Rule.{Rule}
 use Rattle.h264_base.specs.declared.stop.Stop.{Stop}
 use Rattle.h264_base.specs.declared.stop.Stop.TheVariants.{No}
@@ -6,10 +6,11 @@ use Rattle.std.proofs.lemmas.Result.{err_from_is_err_and}
 use Rattle.h264_verify.specs.Pictures.{goes_on, runs_of}
 use Rattle.h264_verify.specs.Buffering.{after_all, last_frames}
 use Rattle.h264_verify.specs.Units.{picture_demand}
-use Rattle.h264_verify.proofs.OutcomesPlayed.{named-by, answers-plays, plays-as}
-use Rattle.h264_verify.proofs.CourseOutcome.{needs-ok, needs-err}
+use Rattle.h264_verify.proofs.OutcomesPlayed.{named-by}
+use Rattle.h264_verify.specs.Order.{close_steps}
+use Rattle.h264_verify.proofs.Played.{met, unmet, played, stops, last-stops}
 use Rattle.h264_verify.proofs.KeepsOutput.{ended-gap}
-use Rattle.h264_verify.proofs.CourseParts.{end-stops, end-broken, end-gives}
+use Rattle.h264_verify.proofs.CourseParts.{end-begins, end-gives}
 use Rattle.h264_verify.proofs.WantOfMemory.{error-as, named-memory, write-alone}
 use Rattle.h264_verify.proofs.unit.judge_end.Goals as goal
 
@@ -41,7 +42,12 @@ returns-in_err-close g c =
     rw (p.1, p.2) (record {
       ends = λ frames before k.
           let e = c.in_err-close.ensures.closes c.args.depth frames before k.slices k.decoder in
-          record { made = e.made; same = e.same; plays = end-stops _ _ c.args.depth before c.args.bit _ _ _ e.plays };
+          record {
+            made = e.made;
+            same = e.same;
+            plays =
+                stops _ _ (close_steps c.args.depth before) _ (end-begins _ _ c.args.depth before c.args.bit _) e.plays;
+          };
       no_memory = error-as _ c.in_err-close.ensures.no_memory;
     })
 
@@ -52,15 +58,12 @@ returns-in_err-check g c =
       ends = λ frames before k.
           let ended = c.in_ok-close.ensures.ended before k.slices in
           let e = c.in_ok-close.ensures.closes c.args.depth frames before k.slices k.decoder in
-          let met = rw (c.has_pictures.ensures (runs_of before) ended.kept.pictures_are) at c.in_err-check.ensures in
-          let ds = picture_demand c.args.depth before c.args.bit ∷ [] in
+          let broken = rw (c.has_pictures.ensures (runs_of before) ended.kept.pictures_are) at c.in_err-check.ensures in
           record {
             made = e.made;
             same = e.same;
-            plays =
-                end-broken _ _ c.args.depth before c.args.bit _ _ _ _ e.plays _
-                (plays-as _ _ (λ x. x) _ _ _ _ _ (needs-err ds (last_frames c.args.depth (runs_of before)) _ (sym met))
-                (answers-plays _ _ _ _ (named-by _ _ _ (check-err _ _ _ _ c.in_err-check.ensures))));
+            plays = unmet _ _ (picture_demand c.args.depth before c.args.bit ∷ []) _
+                (played _ _ (close_steps c.args.depth before) _ (end-begins _ _ c.args.depth before c.args.bit _) e.plays) broken;
           };
       no_memory = named-memory _ (named-by _ _ _ (check-err _ _ _ _ c.in_err-check.ensures));
     })
@@ -72,16 +75,14 @@ returns-in_err-finish_frames g c =
       ends = λ frames before k.
           let ended = c.in_ok-close.ensures.ended before k.slices in
           let e = c.in_ok-close.ensures.closes c.args.depth frames before k.slices k.decoder in
-          let met = rw (c.has_pictures.ensures (runs_of before) ended.kept.pictures_are) at c.in_ok-check.ensures in
-          let ds = picture_demand c.args.depth before c.args.bit ∷ [] in
+          let there = rw (c.has_pictures.ensures (runs_of before) ended.kept.pictures_are) at c.in_ok-check.ensures in
           let gap = ended-gap c.args.depth e.made (goes_on before) (runs_of before) _ e.keeps in
           record {
             made = e.made;
             same = e.same;
-            plays =
-                end-broken _ _ c.args.depth before c.args.bit _ _ _ _ e.plays _
-                (plays-as _ _ (λ x. x) _ _ _ _ _ (needs-ok ds (last_frames c.args.depth (runs_of before)) _ (sym met))
-                (c.in_err-finish_frames.ensures.plays c.args.depth e.made (after_all (runs_of before)) (length (runs_of before)) gap));
+            plays = last-stops _ _ (met _ _ (picture_demand c.args.depth before c.args.bit ∷ []) (last_frames c.args.depth (runs_of before))
+                (played _ _ (close_steps c.args.depth before) _ (end-begins _ _ c.args.depth before c.args.bit _) e.plays) there)
+                (c.in_err-finish_frames.ensures.plays c.args.depth e.made (after_all (runs_of before)) (length (runs_of before)) gap);
           };
       no_memory = λ m. write-alone _ c.in_err-finish_frames.ensures.no_memory m;
     })
@@ -91,18 +92,17 @@ returns g c = record {
   ends = λ frames before k.
       let ended = c.in_ok-close.ensures.ended before k.slices in
       let e = c.in_ok-close.ensures.closes c.args.depth frames before k.slices k.decoder in
-      let met = rw (c.has_pictures.ensures (runs_of before) ended.kept.pictures_are) at c.in_ok-check.ensures in
-      let ds = picture_demand c.args.depth before c.args.bit ∷ [] in
+      let there = rw (c.has_pictures.ensures (runs_of before) ended.kept.pictures_are) at c.in_ok-check.ensures in
       let gap = ended-gap c.args.depth e.made (goes_on before) (runs_of before) _ e.keeps in
       let written = c.frames_told.ensures c.args.depth (runs_of before)
       (c.in_ok-finish_frames.ensures.written c.args.depth e.made (after_all (runs_of before)) (length (runs_of before)) gap) in
       record {
         made = e.made;
         same = e.same;
-        plays =
-            end-gives _ _ c.args.depth before c.args.bit _ _ _ _ e.plays _ _
-            (plays-as _ _ (λ x. x) _ _ _ _ _ (needs-ok ds (last_frames c.args.depth (runs_of before)) _ (sym met))
-            (c.in_ok-finish_frames.ensures.plays c.args.depth e.made (after_all (runs_of before)) (length (runs_of before)) gap))
+        plays = end-gives _ _ c.args.depth before c.args.bit _
+            (met _ _ (picture_demand c.args.depth before c.args.bit ∷ []) (last_frames c.args.depth (runs_of before))
+            (played _ _ (close_steps c.args.depth before) _ (end-begins _ _ c.args.depth before c.args.bit _) e.plays) there)
+            (c.in_ok-finish_frames.ensures.plays c.args.depth e.made (after_all (runs_of before)) (length (runs_of before)) gap)
             (rw (k.units, ended.kept.pictures_are, written) refl);
       };
   no_memory = λ m. cc;

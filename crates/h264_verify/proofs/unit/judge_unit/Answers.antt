@@ -5,7 +5,7 @@ use Rattle.h264_verify.specs.Order.{header_demands}
 use Rattle.h264_verify.proofs.OutcomesPlayed.{named-by}
 use Rattle.h264_verify.proofs.UnitJoins.{within}
 use Rattle.h264_verify.proofs.WantOfMemory.{named-memory}
-use Rattle.h264_verify.proofs.SliceSteps.{err-named}
+use Rattle.h264_verify.proofs.Played.{err-named}
 use Rattle.h264_verify.proofs.SliceSets.{first-met}
 use Rattle.h264_verify.proofs.UnitParts.{is-unsound, stops-header, stops-told, stops-closing, turns-on, pauses-on}
 use Rattle.h264_verify.proofs.unit.judge_unit.Goals as goal
