@@ -7,5 +7,7 @@ mod Writing
 mod ToldReads
 mod Reopened
 mod Answered
+mod Endings
 mod Further
+mod StrictTold
 mod Kept

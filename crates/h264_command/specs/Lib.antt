@@ -1,7 +1,9 @@
 pub mod Commands
+pub mod Endings
 pub mod Explained
 pub mod Files
 pub mod Further
+pub mod FurtherTold
 pub mod Keeping
 pub mod More
 pub mod Texts

@@ -9,6 +9,7 @@ ghost use Rattle.h264_pages.specs.Surveyed.{IsTold, nothing_told};
 ghost use Rattle.h264_report.specs.Written.{OfBytes, is_no, trail_text};
 ghost use Rattle.h264_verify.specs.Account.{Account, calls_in};
 ghost use Rattle.h264_verify.specs.Units.{terms_of};
+ghost use Rattle.h264_command.specs.Endings.{IsFindingOf};
 ghost use Rattle.h264_command.specs.Files.{left_of, HasReadAll, IsUnread, TellsUnread};
 ghost use Rattle.h264_command.specs.Further.{AreJudged, BreakOne, IsFound};
 ghost use Rattle.h264_command.specs.More.{done_status, IsAnswerOf};
@@ -129,7 +130,9 @@ impl Found {
     }
 
     /// Where the answer stands.
-    pub fn finding(&self) -> Option<Finding> {
+    pub fn finding(&self) -> Option<Finding>
+        ensures { IsFindingOf self.now result }
+    {
         Finding::of(self.answer, &self.survey, &self.seen.start, self.seen.ended)
     }
 

@@ -3,8 +3,8 @@ use Rattle.h264_pages.specs.Pages.{text_on, quoted, text_field, answer_fields}
 use Rattle.h264_command.proofs.Texts.{object-closed}
 use Rattle.h264_command.proofs.telling.put_verdict_object.Goals as goal
 
-pub returns : goal.returns
-returns c whole =
+pub returns-clause-answer : goal.returns-clause-answer
+returns-clause-answer c whole =
     let closed = c.close_object.ensures whole in
     let filled = c.put_verdict_fields.ensures.answer closed.0 in
     let opened = c.open_object.ensures filled.0 in (
