@@ -5,6 +5,7 @@ pub mod Files
 pub mod Further
 pub mod FurtherTold
 pub mod Keeping
+pub mod Lists
 pub mod More
 pub mod Texts
 pub mod Surveys
