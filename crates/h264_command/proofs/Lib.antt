@@ -11,3 +11,4 @@ mod Endings
 mod Further
 mod StrictTold
 mod Kept
+mod PlainWords

@@ -27,6 +27,12 @@ AreFlags rows [] words = words ≡ []
 AreFlags rows (option ∷ options) words =
     (has : Bool) × IsFlag (one_of option rows) has × ((rest : List Text) × AreFlags rows options rest × (words ≡ flag_words option has ++ rest))
 
+-- Such words stand behind others.
+pub record HasFlags (rows : List Row) (options old new : List Text) : Type 0 where
+  pub part : List Text
+  pub are_flags : AreFlags rows options part
+  pub is : new ≡ old ++ part
+
 -- --OPTION=VALUE, where there is a value
 abbrev pub value_words : (option : Text) → (value : Option Text) → List Text
 value_words option None = []

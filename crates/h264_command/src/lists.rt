@@ -4,13 +4,15 @@
 //! as words that the plain one takes: options, and after `--` each file by its name.
 #![tactic(auto)]
 
-ghost use Rattle.std.specs.Prelude.{◌≡◌, ◌≢◌, List, [], ◌∷◌, ◌++◌, false, true, IfErr, IfNone, IfSome, IsSome, OnOk, codes, map, string_bytes, unwrap_or};
+ghost use Rattle.std.specs.Prelude.{◌≡◌, Bool, List, [], ◌∷◌, ◌++◌, false, true, IfErr, IfNone, IfOk, IfSome, OnOk, codes, map, option_map, string_bytes};
+ghost use Rattle.std.specs.Prelude.{unwrap_or};
 ghost use Rattle.clap.specs.Walk.{rows_of};
 ghost use Rattle.clap.specs.Words.{Text, all_of, first_of, found_of, one_of, takes};
 ghost use Rattle.h264_words.specs.Options.{IsFlag};
 ghost use Rattle.h264_words.specs.Words.{flags, program};
 ghost use Rattle.h264_command.specs.Commands.{has_fault_status};
-ghost use Rattle.h264_command.specs.Lists.{texts_in, names_given, all_values, AreFlags, HasMore, IsFront, IsPlainForm, IsUnread};
+ghost use Rattle.h264_command.specs.Lists.{texts_in, flag_words, value_words, all_values, named_by, names_given, HasFlags, HasMore, IsFront};
+ghost use Rattle.h264_command.specs.Lists.{IsPlainForm, IsUnread};
 ghost use Rattle.h264_command.specs.declared.lists.Unlisted.TheVariants as unlisted;
 
 use crate::command::FAULT;
@@ -179,6 +181,53 @@ fn add_listed<L: Lister>(
     Ok(())
 }
 
+/// How many of these names are that of standard input, as far as that is counted.
+fn count_inputs(given: &[&str]) -> usize {
+    let mut inputs = 0usize;
+    for name in given.iter() {
+        if *name == "-" {
+            inputs = inputs.saturating_add(1);
+        }
+    }
+    inputs
+}
+
+/// The name of a file that words give. Where standard input has a name of its own, that stands for it, and the lister is told it.
+fn given_name<'a, L: Lister>(
+    alloc: Global,
+    lister: &L,
+    input: Option<&'a str>,
+    name: &'a str,
+) -> Result<&'a str, Unlisted>
+    ensures { IfOk result (λ given. given.now ≡ named_by (option_map (λ s. s.now) input.entry) name.entry.now) }
+{
+    match input {
+        Some(input) if name == "-" => match lister.name_input(input) {
+            Ok(()) => Ok(input),
+            Err(cause) => Err(unread(alloc, input, cause)),
+        },
+        _ => Ok(name),
+    }
+}
+
+/// Adds these files. Where standard input has a name of its own, that stands for it.
+fn add_names<L: Lister>(
+    alloc: Global,
+    names: &mut Vec<String>,
+    lister: &L,
+    input: Option<&str>,
+    given: &[&str],
+) -> Result<(), Unlisted>
+    ensures { OnOk result (texts_in names.new.items ≡ texts_in names.old.items
+        ++ map (λ name. named_by (option_map (λ s. s.now) input.entry) name.now) given.now) }
+{
+    for name in given.iter() {
+        let name = given_name(alloc, lister, input, name)?;
+        add(names, String::from_str(alloc, name)?)?;
+    }
+    Ok(())
+}
+
 /// Adds the files that words name one by one. Where standard input has a name of its own, that stands for it.
 fn add_given<L: Lister>(
     alloc: Global,
@@ -190,30 +239,12 @@ fn add_given<L: Lister>(
 {
     let given = found.get_strs("FILE").unwrap_or(&[]);
     let input = found.get_str("name");
-    let mut inputs = 0usize;
-    for name in given.iter() {
-        if *name == "-" {
-            inputs = inputs.saturating_add(1);
-        }
-    }
-    if input.is_some() && inputs != 1 {
+    if input.is_some() && count_inputs(given) != 1 {
         return Err(Unlisted::Refused(
             "h264v: --name names standard input, which is given by one -\n",
         ));
     }
-    for name in given.iter() {
-        let name = match input {
-            Some(input) if *name == "-" => {
-                if let Err(cause) = lister.name_input(input) {
-                    return Err(unread(alloc, input, cause));
-                }
-                input
-            }
-            _ => *name,
-        };
-        add(names, String::from_str(alloc, name)?)?;
-    }
-    Ok(())
+    add_names(alloc, names, lister, input, given)
 }
 
 /// Adds the names of all files that words name.
@@ -249,6 +280,16 @@ fn add_files<L: Lister, E: Device>(
     Ok(())
 }
 
+/// Adds these texts as words.
+fn add_texts(alloc: Global, words: &mut Vec<String>, texts: &[&str]) -> Result<(), AllocError>
+    ensures { OnOk result (texts_in words.new.items ≡ texts_in words.old.items ++ map (λ t. t.now) texts.now) }
+{
+    for text in texts.iter() {
+        words.push(String::from_str(alloc, text)?)?;
+    }
+    Ok(())
+}
+
 /// Adds the labels that words name: those that are given, and all of them beside that.
 fn add_labels(
     alloc: Global,
@@ -258,19 +299,13 @@ fn add_labels(
     ensures { OnOk result (HasMore (texts_in names.old.items ++ unwrap_or (all_of (codes "FILE") (rows_of (found_of found.now))) [])
         (texts_in names.new.items)) }
 {
-    for label in found.get_strs("FILE").unwrap_or(&[]).iter() {
-        names.push(String::from_str(alloc, label)?)?;
-    }
-    for label in all_labels(alloc)?.iter() {
-        names.push(String::from_str(alloc, label)?)?;
-    }
-    Ok(())
+    add_texts(alloc, names, found.get_strs("FILE").unwrap_or(&[]))?;
+    add_texts(alloc, names, all_labels(alloc)?.as_slice())
 }
 
 /// Whether words name files by lists, or all labels.
 fn has_list(name: &str, found: &ArgMatches<'_>) -> bool
-    ensures labels { name.now ≡ codes "explain" → IsFlag (one_of (codes "all") (rows_of (found_of found.now))) result }
-    ensures input { name.now ≢ codes "explain" → IsSome (first_of (codes "name") (rows_of (found_of found.now))) → result ≡ true }
+    ensures { name.now ≡ codes "explain" → IsFlag (one_of (codes "all") (rows_of (found_of found.now))) result }
 {
     if name == "explain" {
         return found.get_flag("all");
@@ -284,19 +319,48 @@ fn has_list(name: &str, found: &ArgMatches<'_>) -> bool
             || found.get_str("glob").is_some())
 }
 
+/// Adds the word of an option without a value, where it was found.
+fn add_flag(
+    alloc: Global,
+    words: &mut Vec<String>,
+    found: &ArgMatches<'_>,
+    option: &str,
+) -> Result<(), AllocError>
+    ensures { OnOk result ((has : Bool) × IsFlag (one_of option.now (rows_of (found_of found.now))) has
+        × (texts_in words.new.items ≡ texts_in words.old.items ++ flag_words option.now has)) }
+{
+    if found.get_flag(option) {
+        words.push(format!(in alloc; "--{option}")?)?;
+    }
+    Ok(())
+}
+
 /// Adds the words of the options without a value that were found.
 fn add_flags(
     alloc: Global,
     words: &mut Vec<String>,
     found: &ArgMatches<'_>,
 ) -> Result<(), AllocError>
-    ensures { OnOk result ((part : List Text) × AreFlags (rows_of (found_of found.now)) flags part
-        × (texts_in words.new.items ≡ texts_in words.old.items ++ part)) }
+    ensures { OnOk result (HasFlags (rows_of (found_of found.now)) flags (texts_in words.old.items) (texts_in words.new.items)) }
 {
     for (option, ..) in FLAGS {
-        if found.get_flag(option) {
-            words.push(format!(in alloc; "--{option}")?)?;
-        }
+        add_flag(alloc, words, found, option)?;
+    }
+    Ok(())
+}
+
+/// Adds the word of an option with a value, where it was found.
+fn add_value(
+    alloc: Global,
+    words: &mut Vec<String>,
+    found: &ArgMatches<'_>,
+    option: &str,
+) -> Result<(), AllocError>
+    ensures { OnOk result (texts_in words.new.items ≡ texts_in words.old.items
+        ++ value_words option.now (first_of option.now (rows_of (found_of found.now)))) }
+{
+    if let Some(value) = found.get_str(option) {
+        words.push(format!(in alloc; "--{option}={value}")?)?;
     }
     Ok(())
 }
@@ -310,9 +374,7 @@ fn add_values(
     ensures { OnOk result (texts_in words.new.items ≡ texts_in words.old.items ++ all_values (rows_of (found_of found.now))) }
 {
     for (option, ..) in VALUES {
-        if let Some(value) = found.get_str(option) {
-            words.push(format!(in alloc; "--{option}={value}")?)?;
-        }
+        add_value(alloc, words, found, option)?;
     }
     Ok(())
 }
