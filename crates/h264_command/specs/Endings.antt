@@ -18,8 +18,8 @@ use Rattle.h264_pages.specs.declared.pages.page.Page.{Page}
 use Rattle.h264_report.specs.Written.{last_line}
 use Rattle.h264_words.specs.Words.{mode_of}
 use Rattle.h264_words.specs.declared.command_line.Task.TheVariants as tasks
-use Rattle.h264_command.specs.FurtherTold.{IsStrictText}
-use Rattle.h264_command.specs.Texts.{AreBoth, object_of}
+use Rattle.h264_command.specs.FurtherTold.{IsStrictText, object_of}
+use Rattle.h264_command.specs.Texts.{AreBoth}
 use Rattle.h264_command.specs.declared.job.Found.{Found}
 use Rattle.h264_command.specs.declared.job.Job.{Job}
 use Rattle.h264_command.specs.declared.strictly.FurtherRules.{FurtherRules}

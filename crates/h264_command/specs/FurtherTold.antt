@@ -1,6 +1,7 @@
 -- What `check --strict` tells of the further rules, in lines or in objects. To be read beside docs/OUTPUT.md.
 use Rattle.std.specs.Prelude.{◌≡◌, ℕ, ◌<◌, ⊤, ◌⊎◌, Bool, true, false, List, [], ◌∷◌, ◌++◌, length, flat_map, All, Contains, codes, Option, None, Some}
 use Rattle.std.specs.Option.{option_or}
+use Rattle.clap.specs.Words.{Text}
 use Rattle.h264_pages.specs.Pages.{numbered, number_field, text_field}
 use Rattle.h264_strict.specs.Strict.{found_of}
 use Rattle.h264_strict.specs.StrictRules.{label_of, clause_of, place_of}
@@ -12,7 +13,7 @@ use Rattle.h264_strict.specs.declared.strict_extent.Extent.{Extent}
 use Rattle.h264_strict.specs.declared.strict_extent.Extent.TheVariants as extents
 use Rattle.h264_strict.specs.declared.strict_rule.StrictRule.{StrictRule}
 use Rattle.h264_strict.specs.declared.strict_rule.TheConstants.{EVERY_STRICT_RULE}
-use Rattle.h264_command.specs.Texts.{object_of}
+use Rattle.h264_command.specs.Texts.{head_of}
 use Rattle.h264_command.specs.declared.strictly.Broken.{Broken}
 use Rattle.h264_command.specs.declared.strictly.FurtherRules.{FurtherRules}
 use Rattle.h264_command.specs.declared.strictly.StrictForm.{StrictForm}
@@ -70,6 +71,10 @@ broken_line b = numbered (codes "strict: bit ") b.places.first ++ (codes ": " ++
 abbrev pub broken_fields : Broken → List ℕ
 broken_fields b = text_field (codes "rule") (label_of b.rule) ++ (text_field (codes "clause") (clause_of b.rule)
     ++ (number_field (codes "bit") b.places.first ++ number_field (codes "places") b.places.count))
+
+-- an object of a file of this name, with its kind before these fields
+abbrev pub object_of : (name : Text) → (kind fields : List ℕ) → List ℕ
+object_of name kind fields = (head_of name ++ text_field (codes "kind") kind) ++ (fields ++ codes "}\n")
 
 abbrev pub broken_text : StrictForm → Broken → List ℕ
 broken_text Lines b = broken_line b

@@ -139,10 +139,6 @@ answers_aside tasks.Info = false
 answers_aside tasks.Report = true
 answers_aside tasks.Explain = false
 
--- an object of a file of this name, with its kind before these fields
-abbrev pub object_of : (name : Text) → (kind fields : List ℕ) → List ℕ
-object_of name kind fields = (head_of name ++ text_field (codes "kind") kind) ++ (fields ++ codes "}\n")
-
 -- This object opens so, and has the fields of an answer, and maybe others after them.
 abbrev pub verdict_object : (head : List ℕ) → Result Summary Stop → (more : List ℕ) → List ℕ
 verdict_object head answer more = head ++ (verdict_fields answer ++ (more ++ codes "}\n"))

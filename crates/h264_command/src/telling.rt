@@ -80,6 +80,7 @@ fn put_verdict_object(job: &Job<'_>, page: &mut Page, found: &Found)
     ensures answer { is_cut page.new ≡ false → (is_cut page.old ≡ false) × ((more : List ℕ)
         × (text_on page.new ≡ text_on page.old ++ verdict_object (head_of job.now.file.now) found.now.answer more)) }
 {
+    let guide = guide_on(found.answer, job.file);
     page.open_object(job.file, "verdict");
     put_verdict_fields(
         job.alloc,
@@ -87,7 +88,7 @@ fn put_verdict_object(job: &Job<'_>, page: &mut Page, found: &Found)
         found.answer,
         &found.survey,
         found.finding(),
-        guide_on(found.answer, job.file),
+        guide,
     );
     page.close_object();
 }

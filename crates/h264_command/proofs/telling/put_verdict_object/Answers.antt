@@ -29,8 +29,8 @@ returns-clause-whole c =
     some-added c.args.page.now last _ (IsVerdictObject c.args.job.now.file.now c.args.found.now) added (record {
       finding = c.finding.result;
       is_finding = c.finding.ensures;
-      guide = c.guide_on.result;
-      is_guide = guide-said c.args.job.now.file c.args.found.now.answer c.guide_on.result c.guide_on.ensures.said c.guide_on.ensures.file;
+      guide = c.guide_on-guide.result;
+      is_guide = guide-said c.args.job.now.file c.args.found.now.answer c.guide_on-guide.result c.guide_on-guide.ensures.said c.guide_on-guide.ensures.file;
       words = fields.0;
       is = refl;
     })
