@@ -1,5 +1,6 @@
 -- Plain words that are added one after another.
-use Rattle.std.proofs.Common.{◌≡◌, ℕ, ◌+◌, ◌<◌, List, [], ◌∷◌, ◌++◌, map, take, length, get_or, flat_map, Bool, true, false, Bor, Option, Some, None, Result, Ok, Err, OnOk, string_bytes, codes, refl, sym, ap, ◌∙◌, subst, append_assoc}
+use Rattle.std.proofs.Common.{◌≡◌, ℕ, ◌+◌, ◌<◌, List, [], ◌∷◌, ◌++◌, map, take, length, get_or, flat_map, Bool, true, false, Bor, Option, Some, None, Result}
+use Rattle.std.proofs.Common.{Ok, Err, OnOk, string_bytes, codes, refl, sym, ap, ◌∙◌, subst, append_assoc}
 use Rattle.std.specs.Prelude.{String, option_map, unwrap_or}
 use Rattle.std.proofs.lemmas.List.{append-nil, map-append, take_more}
 use Rattle.std.proofs.lemmas.List.Concat.{flat_map-append}
@@ -39,9 +40,15 @@ pub flags-more : (rows : List Row) (options words : List Text) (option : Text) (
 flags-more rows [] words option has none is =
     (has, is, ([], refl, ap (λ l. l ++ flag_words option has) none ∙ sym (append-nil (flag_words option has))))
 flags-more rows (o ∷ options) words option has some is =
-    let rest = some.2.0 in
-    (some.0, some.1, (rest ++ flag_words option has, flags-more rows options rest option has some.2.1 is,
-    ap (λ l. l ++ flag_words option has) some.2.2 ∙ append_assoc (flag_words o some.0) rest (flag_words option has)))
+    let rest = some.2.0 in (
+      some.0,
+      some.1,
+      (
+        rest ++ flag_words option has,
+        flags-more rows options rest option has some.2.1 is,
+        ap (λ l. l ++ flag_words option has) some.2.2 ∙ append_assoc (flag_words o some.0) rest (flag_words option has),
+      ),
+    )
 
 -- no options
 pub no-flags : (rows : List Row) (old : List Text) → HasFlags rows [] old old
@@ -54,7 +61,7 @@ pub one-flag : {X : Type 0} (rows : List Row) (name : X → Text) (all : List X)
 one-flag rows name all i d has old before new within so_far is more =
     let option = name (get_or all i d) in
     let options : map name (take (i + 1) all) ≡ map name (take i all) ++ option ∷ [] =
-        ap (map name) (take_more all i d within) ∙ map-append name (take i all) (get_or all i d ∷ []) in
+    ap (map name) (take_more all i d within) ∙ map-append name (take i all) (get_or all i d ∷ []) in
     record {
       part = so_far.part ++ flag_words option has;
       are_flags = subst (λ os. AreFlags rows os (so_far.part ++ flag_words option has)) (sym options)

@@ -1,5 +1,6 @@
 -- The order in which the further rules that are broken are told.
-use Rattle.std.proofs.Common.{◌≡◌, ◌⊎◌, inl, inr, ⊎_elim, ℕ, ◌<◌, ◌+◌, List, [], ◌∷◌, ◌++◌, length, get_or, take, Option, Some, None, IfSome, IfNone, refl, sym, ap, ◌∙◌, subst, arith}
+use Rattle.std.proofs.Common.{◌≡◌, ◌⊎◌, inl, inr, ⊎_elim, ℕ, ◌<◌, ◌+◌, List, [], ◌∷◌, ◌++◌, length, get_or, take, Option, Some, None, IfSome, IfNone, refl}
+use Rattle.std.proofs.Common.{sym, ap, ◌∙◌, subst, arith}
 use Rattle.std.specs.Prelude.{⊤, All, Contains, unwrap_or}
 use Rattle.std.proofs.lemmas.Bool.{cases_order}
 use Rattle.std.proofs.lemmas.List.{length_push}
@@ -87,9 +88,9 @@ same-broken further a b at_a at_b e =
 pub one-before : (further : FurtherRules) (a b : Broken) → IsBrokenAt further a → IsBrokenAt further b → (a ≡ b) ⊎ (IsBefore a b ⊎ IsBefore b a)
 one-before further a b at_a at_b = ⊎_elim
     (λ same. ⊎_elim
-        (λ one. inl (same-broken further a b at_a at_b one))
-        (λ two. inr (⊎_elim (λ l. inl (inr (same, l))) (λ l. inr (inr (sym same, l))) two))
-        (cases_order (place_of a.rule) (place_of b.rule)))
+    (λ one. inl (same-broken further a b at_a at_b one))
+    (λ two. inr (⊎_elim (λ l. inl (inr (same, l))) (λ l. inr (inr (sym same, l))) two))
+    (cases_order (place_of a.rule) (place_of b.rule)))
     (λ other. inr (⊎_elim (λ l. inl (inl l)) (λ l. inr (inl l)) other))
     (cases_order a.places.first b.places.first)
 

@@ -10,5 +10,12 @@ returns-else-eq-clause-plain g c =
     let front = c.in_ok-add_front.ensures in
     let before = texts_in c.add_front.new.words.items in
     let given = names_given (rows_of (found_of c.args.matches.1.now)) in
-    ok-then _ _ c.add_files.result (λ more. (front.0, front.1, (given ++ more.0, more.1 ∙ append_assoc before given more.0
-    ∙ ap (λ l. l ++ (given ++ more.0)) front.2))) c.add_files.ensures
+    ok-then _ _ c.add_files.result (λ more. (
+      front.0,
+      front.1,
+      (
+        given ++ more.0,
+        more.1 ∙ append_assoc before given more.0
+            ∙ ap (λ l. l ++ (given ++ more.0)) front.2,
+      ),
+    )) c.add_files.ensures

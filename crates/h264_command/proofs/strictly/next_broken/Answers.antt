@@ -19,10 +19,10 @@ loop-rule-preserved c =
     let at = sym c.places.ensures.at ∙ c.in-Some.is in
     elim c.if-is_between.branch [
       | then-is_between w ↦ let said = c.is_between.ensures.yes w.if-is_between.true in
-        rw w.next-is (next-taken further c.args.last c.loop-rule.next EVERY_STRICT_RULE i rules.ReservedBits broken c.loop-rule-test.true c.loop-rule.invariant refl at said.0
-        said.1)
+          rw w.next-is (next-taken further c.args.last c.loop-rule.next EVERY_STRICT_RULE i rules.ReservedBits broken c.loop-rule-test.true
+          c.loop-rule.invariant refl at said.0 said.1)
       | else-is_between w ↦ rw w.next-is (next-kept further c.args.last c.loop-rule.next EVERY_STRICT_RULE i rules.ReservedBits c.loop-rule-test.true
-        c.loop-rule.invariant (not-between further c.args.last c.loop-rule.next broken at (c.is_between.ensures.no w.if-is_between.false)))
+          c.loop-rule.invariant (not-between further c.args.last c.loop-rule.next broken at (c.is_between.ensures.no w.if-is_between.false)))
     ]
 
 pub returns-clause-next : goal.returns-clause-next
