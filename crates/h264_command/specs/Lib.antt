@@ -8,4 +8,5 @@ pub mod Keeping
 pub mod Lists
 pub mod More
 pub mod Texts
+pub mod Totals
 pub mod Surveys

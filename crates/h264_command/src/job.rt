@@ -1,7 +1,7 @@
 //! One file, judged as the options say.
 #![tactic(auto)]
 
-ghost use Rattle.std.specs.Prelude.{◌≡◌, ◌-◌, ◌<◌, ◌^◌, Bool, List, [], true, false, None, Err, IsErrOf, IsSome, IfSome, IfNone, string_bytes};
+ghost use Rattle.std.specs.Prelude.{◌≡◌, ◌-◌, ◌<◌, ◌^◌, ◌||◌, not, Bool, List, [], true, false, None, Err, IsErrOf, IsSome, IfSome, IfNone, string_bytes};
 ghost use Rattle.h264_base.specs.Call.{Call, HasRoom};
 ghost use Rattle.h264_base.specs.declared.stop.Stop.TheVariants.{Read, Write};
 ghost use Rattle.h264_lines.specs.Chosen.{TookChosen, pending_call};
@@ -46,7 +46,9 @@ pub struct Job<'a> {
 
 impl Job<'_> {
     /// Whether `check` tells the last elements before a no: in lines, unless an option leaves them out.
-    pub fn tells_elements(&self) -> bool {
+    pub fn tells_elements(&self) -> bool
+        ensures { result ≡ not ((self.now.options.brief || self.now.options.quiet) || self.now.options.json) }
+    {
         !(self.options.brief || self.options.quiet || self.options.json)
     }
 }

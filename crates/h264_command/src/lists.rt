@@ -4,7 +4,7 @@
 //! as words that the plain one takes: options, and after `--` each file by its name.
 #![tactic(auto)]
 
-ghost use Rattle.std.specs.Prelude.{◌≡◌, Bool, List, [], ◌∷◌, ◌++◌, false, true, IfErr, IfNone, IfOk, IfSome, OnOk, codes, map, option_map, string_bytes};
+ghost use Rattle.std.specs.Prelude.{◌≡◌, ℕ, Bool, List, [], ◌∷◌, ◌++◌, false, true, IfErr, IfNone, IfOk, IfSome, OnOk, codes, map, option_map, string_bytes};
 ghost use Rattle.std.specs.Prelude.{unwrap_or};
 ghost use Rattle.clap.specs.Walk.{rows_of};
 ghost use Rattle.clap.specs.Words.{Text, all_of, first_of, found_of, one_of, takes};
@@ -115,7 +115,9 @@ fn unread(alloc: Global, name: &str, cause: io::Error) -> Unlisted
 }
 
 /// The last part of a name, behind its last slash.
-fn last_part(name: &str) -> &str {
+fn last_part(name: &str) -> &str
+    ensures { (front : List ℕ) × (name.now ≡ front ++ result.now) }
+{
     match name.rsplit_once('/') {
         Some((_, last)) => last,
         None => name,
