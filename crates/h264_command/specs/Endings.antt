@@ -1,10 +1,10 @@
 -- What is written of a file at the end of its judgement: what explains the answer, what the further rules found, and the answer itself. To be read beside
 -- docs/OUTPUT.md.
-use Rattle.std.specs.Prelude.{◌≡◌, ◌≢◌, ℕ, ◌&&◌, Bool, true, false, List, [], ◌++◌, codes, reverse, length, find, string_bytes}
+use Rattle.std.specs.Prelude.{◌≡◌, ◌≢◌, ℕ, ◌-◌, ◌&&◌, Bool, true, false, List, [], ◌++◌, codes, reverse, length, find, slice_get, string_bytes}
 use Rattle.std.specs.Prelude.{Option, None, Some, IfSome, is_some, option_map, Result}
-use Rattle.circular_buffer.specs.Buffer.{last_item}
 use Rattle.h264_base.specs.declared.stop.Stop.{Stop}
 use Rattle.h264_base.specs.declared.summary.Summary.{Summary}
+use Rattle.h264_lines.specs.declared.trail.Element.{Element}
 use Rattle.h264_pages.specs.Explanations.{explanation}
 use Rattle.h264_pages.specs.Findings.{rule_in, macroblock_in, frame_num_in, picture_in, slice_in}
 use Rattle.h264_pages.specs.Pages.{is_cut, prefixed, text_on}
@@ -33,11 +33,15 @@ AddsSome old new Is = is_cut new ≡ false → (is_cut old ≡ false) × ((text 
 
 -- ---- where an answer stands
 
+-- the last of some elements
+abbrev pub last_element : List Element → Option Element
+last_element elements = slice_get elements (length elements - 1)
+
 -- This is where the answer on a file stands, and what was found there, by what was surveyed and by the input's first bytes.
 pub record IsFindingOf (found : Found) (finding : Option Finding) : Type 0 where
   pub bit : option_map (λ (f : Finding). f.bit) finding ≡ bit_in found.answer
   pub element : IfSome finding (λ f. f.element ≡ find (begins_at f.bit) (reverse found.survey.elements.items))
-  pub last : IfSome finding (λ f. f.last ≡ last_item found.survey.elements.items)
+  pub last : IfSome finding (λ f. f.last ≡ last_element found.survey.elements.items)
   pub picture : IfSome finding (λ f. f.picture ≡ picture_in (rule_in found.answer) (length found.survey.pictures.list.items) found.survey.slice)
   pub slice : IfSome finding (λ f. f.slice ≡ slice_in found.survey.slice found.survey.pictures.list.items)
   pub frame_num : IfSome finding (λ f. f.frame_num ≡ frame_num_in found.survey.slice)
@@ -45,7 +49,7 @@ pub record IsFindingOf (found : Found) (finding : Option Finding) : Type 0 where
   pub ends_in_unit : IfSome finding (λ f. f.ends_in_unit ≡ (found.seen.ended && is_some found.survey.unit))
   pub reason : rule_in found.answer ≡ None → IfSome finding (λ f. f.reason ≡ None)
   pub why : IfSome finding (λ f. (declared : Option Declared) × IsOfSetRead declared found.survey × (f.reason ≡
-      reason_of found.seen.start.bytes (rule_in found.answer) declared (last_item found.survey.elements.items)))
+      reason_of found.seen.start.bytes (rule_in found.answer) declared (last_element found.survey.elements.items)))
 
 -- This is what is said to a reader of an answer on a file of this name: of a no and of an outside, with the name.
 pub record IsGuideOn (name : Text) (answer : Result Summary Stop) (guide : Option Guide) : Type 0 where
