@@ -7,5 +7,8 @@ mod Writing
 mod ToldReads
 mod Reopened
 mod Answered
+mod Endings
 mod Further
+mod StrictTold
 mod Kept
+mod PlainWords

@@ -1,8 +1,12 @@
 pub mod Commands
+pub mod Endings
 pub mod Explained
 pub mod Files
 pub mod Further
+pub mod FurtherTold
 pub mod Keeping
+pub mod Lists
 pub mod More
 pub mod Texts
+pub mod Totals
 pub mod Surveys

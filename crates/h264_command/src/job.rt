@@ -1,7 +1,7 @@
 //! One file, judged as the options say.
 #![tactic(auto)]
 
-ghost use Rattle.std.specs.Prelude.{◌≡◌, ◌-◌, ◌<◌, ◌^◌, Bool, List, [], true, false, None, Err, IsErrOf, IsSome, IfSome, IfNone, string_bytes};
+ghost use Rattle.std.specs.Prelude.{◌≡◌, ◌-◌, ◌<◌, ◌^◌, ◌||◌, not, Bool, List, [], true, false, None, Err, IsErrOf, IsSome, IfSome, IfNone, string_bytes};
 ghost use Rattle.h264_base.specs.Call.{Call, HasRoom};
 ghost use Rattle.h264_base.specs.declared.stop.Stop.TheVariants.{Read, Write};
 ghost use Rattle.h264_lines.specs.Chosen.{TookChosen, pending_call};
@@ -9,6 +9,7 @@ ghost use Rattle.h264_pages.specs.Surveyed.{IsTold, nothing_told};
 ghost use Rattle.h264_report.specs.Written.{OfBytes, is_no, trail_text};
 ghost use Rattle.h264_verify.specs.Account.{Account, calls_in};
 ghost use Rattle.h264_verify.specs.Units.{terms_of};
+ghost use Rattle.h264_command.specs.Endings.{IsFindingOf};
 ghost use Rattle.h264_command.specs.Files.{left_of, HasReadAll, IsUnread, TellsUnread};
 ghost use Rattle.h264_command.specs.Further.{AreJudged, BreakOne, IsFound};
 ghost use Rattle.h264_command.specs.More.{done_status, IsAnswerOf};
@@ -45,7 +46,9 @@ pub struct Job<'a> {
 
 impl Job<'_> {
     /// Whether `check` tells the last elements before a no: in lines, unless an option leaves them out.
-    pub fn tells_elements(&self) -> bool {
+    pub fn tells_elements(&self) -> bool
+        ensures { result ≡ not ((self.now.options.brief || self.now.options.quiet) || self.now.options.json) }
+    {
         !(self.options.brief || self.options.quiet || self.options.json)
     }
 }
@@ -129,7 +132,9 @@ impl Found {
     }
 
     /// Where the answer stands.
-    pub fn finding(&self) -> Option<Finding> {
+    pub fn finding(&self) -> Option<Finding>
+        ensures { IsFindingOf self.now result }
+    {
         Finding::of(self.answer, &self.survey, &self.seen.start, self.seen.ended)
     }
 

@@ -4,10 +4,16 @@
 //! as words that the plain one takes: options, and after `--` each file by its name.
 #![tactic(auto)]
 
-ghost use Rattle.std.specs.Prelude.{◌≡◌, false, true, IfNone, IfSome, map, string_bytes};
-ghost use Rattle.clap.specs.Words.{takes};
-ghost use Rattle.h264_words.specs.Words.{program};
+ghost use Rattle.std.specs.Prelude.{◌≡◌, ℕ, Bool, List, [], ◌∷◌, ◌++◌, false, true, IfErr, IfNone, IfOk, IfSome, OnOk, codes, map, option_map, string_bytes};
+ghost use Rattle.std.specs.Prelude.{unwrap_or};
+ghost use Rattle.clap.specs.Walk.{rows_of};
+ghost use Rattle.clap.specs.Words.{Text, all_of, first_of, found_of, one_of, takes};
+ghost use Rattle.h264_words.specs.Options.{IsFlag};
+ghost use Rattle.h264_words.specs.Words.{flags, program};
 ghost use Rattle.h264_command.specs.Commands.{has_fault_status};
+ghost use Rattle.h264_command.specs.Lists.{texts_in, flag_words, value_words, all_values, named_by, names_given, HasFlags, HasMore, IsFront};
+ghost use Rattle.h264_command.specs.Lists.{IsPlainForm, IsUnread};
+ghost use Rattle.h264_command.specs.declared.lists.Unlisted.TheVariants as unlisted;
 
 use crate::command::FAULT;
 use crate::more::blame;
@@ -64,6 +70,8 @@ enum Unlisted {
 }
 
 impl From<AllocError> for Unlisted {
+    ghost from_gives = { λ _ e. e ≡ unlisted.Memory };
+
     fn from(_error: AllocError) -> Unlisted {
         Unlisted::Memory
     }
@@ -73,7 +81,10 @@ impl From<AllocError> for Unlisted {
 const FAILED: u8 = 4;
 
 /// Adds a name.
-fn add(names: &mut Vec<String>, name: String) -> Result<(), Unlisted> {
+fn add(names: &mut Vec<String>, name: String) -> Result<(), Unlisted>
+    ensures added { OnOk result (texts_in names.new.items ≡ texts_in names.old.items ++ string_bytes name ∷ []) }
+    ensures short { IfErr result (λ e. e ≡ unlisted.Memory) }
+{
     match names.push(name) {
         Ok(()) => Ok(()),
         Err(_) => Err(Unlisted::Memory),
@@ -94,7 +105,9 @@ fn is_refused(alloc: Global, words: &[String]) -> bool
 }
 
 /// The name of a list or a folder that can't be read, and why.
-fn unread(alloc: Global, name: &str, cause: io::Error) -> Unlisted {
+fn unread(alloc: Global, name: &str, cause: io::Error) -> Unlisted
+    ensures { IsUnread name.now result }
+{
     match String::from_str(alloc, name) {
         Ok(name) => Unlisted::Unread(name, cause),
         Err(_) => Unlisted::Memory,
@@ -102,7 +115,9 @@ fn unread(alloc: Global, name: &str, cause: io::Error) -> Unlisted {
 }
 
 /// The last part of a name, behind its last slash.
-fn last_part(name: &str) -> &str {
+fn last_part(name: &str) -> &str
+    ensures { (front : List ℕ) × (name.now ≡ front ++ result.now) }
+{
     match name.rsplit_once('/') {
         Some((_, last)) => last,
         None => name,
@@ -117,7 +132,9 @@ fn add_below<L: Lister, E: Device>(
     folder: &str,
     glob: Option<&str>,
     err: &mut E,
-) -> Result<(), Unlisted> {
+) -> Result<(), Unlisted>
+    ensures { OnOk result (HasMore (texts_in names.old.items) (texts_in names.new.items)) }
+{
     let below = match lister.below(folder) {
         Ok(below) => below,
         Err(cause) => return Err(unread(alloc, folder, cause)),
@@ -149,7 +166,9 @@ fn add_listed<L: Lister>(
     names: &mut Vec<String>,
     lister: &L,
     list: &str,
-) -> Result<(), Unlisted> {
+) -> Result<(), Unlisted>
+    ensures { OnOk result (HasMore (texts_in names.old.items) (texts_in names.new.items)) }
+{
     let listed = match lister.listed_in(list) {
         Ok(listed) => listed,
         Err(cause) => return Err(unread(alloc, list, cause)),
@@ -164,39 +183,70 @@ fn add_listed<L: Lister>(
     Ok(())
 }
 
-/// Adds the files that words name one by one. Where standard input has a name of its own, that stands for it.
-fn add_given<L: Lister>(
-    alloc: Global,
-    names: &mut Vec<String>,
-    lister: &L,
-    found: &ArgMatches<'_>,
-) -> Result<(), Unlisted> {
-    let given = found.get_strs("FILE").unwrap_or(&[]);
-    let input = found.get_str("name");
+/// How many of these names are that of standard input, as far as that is counted.
+fn count_inputs(given: &[&str]) -> usize {
     let mut inputs = 0usize;
     for name in given.iter() {
         if *name == "-" {
             inputs = inputs.saturating_add(1);
         }
     }
-    if input.is_some() && inputs != 1 {
+    inputs
+}
+
+/// The name of a file that words give. Where standard input has a name of its own, that stands for it, and the lister is told it.
+fn given_name<'a, L: Lister>(
+    alloc: Global,
+    lister: &L,
+    input: Option<&'a str>,
+    name: &'a str,
+) -> Result<&'a str, Unlisted>
+    ensures { IfOk result (λ given. given.now ≡ named_by (option_map (λ s. s.now) input.entry) name.entry.now) }
+{
+    match input {
+        Some(input) if name == "-" => match lister.name_input(input) {
+            Ok(()) => Ok(input),
+            Err(cause) => Err(unread(alloc, input, cause)),
+        },
+        _ => Ok(name),
+    }
+}
+
+/// Adds these files. Where standard input has a name of its own, that stands for it.
+fn add_names<L: Lister>(
+    alloc: Global,
+    names: &mut Vec<String>,
+    lister: &L,
+    input: Option<&str>,
+    given: &[&str],
+) -> Result<(), Unlisted>
+    ensures { OnOk result (texts_in names.new.items ≡ texts_in names.old.items
+        ++ map (λ name. named_by (option_map (λ s. s.now) input.entry) name.now) given.now) }
+{
+    for name in given.iter() {
+        let name = given_name(alloc, lister, input, name)?;
+        add(names, String::from_str(alloc, name)?)?;
+    }
+    Ok(())
+}
+
+/// Adds the files that words name one by one. Where standard input has a name of its own, that stands for it.
+fn add_given<L: Lister>(
+    alloc: Global,
+    names: &mut Vec<String>,
+    lister: &L,
+    found: &ArgMatches<'_>,
+) -> Result<(), Unlisted>
+    ensures { OnOk result (texts_in names.new.items ≡ texts_in names.old.items ++ names_given (rows_of (found_of found.now))) }
+{
+    let given = found.get_strs("FILE").unwrap_or(&[]);
+    let input = found.get_str("name");
+    if input.is_some() && count_inputs(given) != 1 {
         return Err(Unlisted::Refused(
             "h264v: --name names standard input, which is given by one -\n",
         ));
     }
-    for name in given.iter() {
-        let name = match input {
-            Some(input) if *name == "-" => {
-                if let Err(cause) = lister.name_input(input) {
-                    return Err(unread(alloc, input, cause));
-                }
-                input
-            }
-            _ => *name,
-        };
-        add(names, String::from_str(alloc, name)?)?;
-    }
-    Ok(())
+    add_names(alloc, names, lister, input, given)
 }
 
 /// Adds the names of all files that words name.
@@ -206,7 +256,9 @@ fn add_files<L: Lister, E: Device>(
     lister: &L,
     matches: (&str, &ArgMatches<'_>),
     err: &mut E,
-) -> Result<(), Unlisted> {
+) -> Result<(), Unlisted>
+    ensures { OnOk result (HasMore (texts_in names.old.items ++ names_given (rows_of (found_of matches.entry.1.now))) (texts_in names.new.items)) }
+{
     let (subcommand, found) = matches;
     let before = names.len();
     add_given(alloc, names, lister, found)?;
@@ -230,23 +282,33 @@ fn add_files<L: Lister, E: Device>(
     Ok(())
 }
 
+/// Adds these texts as words.
+fn add_texts(alloc: Global, words: &mut Vec<String>, texts: &[&str]) -> Result<(), AllocError>
+    ensures { OnOk result (texts_in words.new.items ≡ texts_in words.old.items ++ map (λ t. t.now) texts.now) }
+{
+    for text in texts.iter() {
+        words.push(String::from_str(alloc, text)?)?;
+    }
+    Ok(())
+}
+
 /// Adds the labels that words name: those that are given, and all of them beside that.
 fn add_labels(
     alloc: Global,
     names: &mut Vec<String>,
     found: &ArgMatches<'_>,
-) -> Result<(), AllocError> {
-    for label in found.get_strs("FILE").unwrap_or(&[]).iter() {
-        names.push(String::from_str(alloc, label)?)?;
-    }
-    for label in all_labels(alloc)?.iter() {
-        names.push(String::from_str(alloc, label)?)?;
-    }
-    Ok(())
+) -> Result<(), AllocError>
+    ensures { OnOk result (HasMore (texts_in names.old.items ++ unwrap_or (all_of (codes "FILE") (rows_of (found_of found.now))) [])
+        (texts_in names.new.items)) }
+{
+    add_texts(alloc, names, found.get_strs("FILE").unwrap_or(&[]))?;
+    add_texts(alloc, names, all_labels(alloc)?.as_slice())
 }
 
 /// Whether words name files by lists, or all labels.
-fn has_list(name: &str, found: &ArgMatches<'_>) -> bool {
+fn has_list(name: &str, found: &ArgMatches<'_>) -> bool
+    ensures { name.now ≡ codes "explain" → IsFlag (one_of (codes "all") (rows_of (found_of found.now))) result }
+{
     if name == "explain" {
         return found.get_flag("all");
     }
@@ -259,25 +321,80 @@ fn has_list(name: &str, found: &ArgMatches<'_>) -> bool {
             || found.get_str("glob").is_some())
 }
 
+/// Adds the word of an option without a value, where it was found.
+fn add_flag(
+    alloc: Global,
+    words: &mut Vec<String>,
+    found: &ArgMatches<'_>,
+    option: &str,
+) -> Result<(), AllocError>
+    ensures { OnOk result ((has : Bool) × IsFlag (one_of option.now (rows_of (found_of found.now))) has
+        × (texts_in words.new.items ≡ texts_in words.old.items ++ flag_words option.now has)) }
+{
+    if found.get_flag(option) {
+        words.push(format!(in alloc; "--{option}")?)?;
+    }
+    Ok(())
+}
+
+/// Adds the words of the options without a value that were found.
+fn add_flags(
+    alloc: Global,
+    words: &mut Vec<String>,
+    found: &ArgMatches<'_>,
+) -> Result<(), AllocError>
+    ensures { OnOk result (HasFlags (rows_of (found_of found.now)) flags (texts_in words.old.items) (texts_in words.new.items)) }
+{
+    for (option, ..) in FLAGS {
+        add_flag(alloc, words, found, option)?;
+    }
+    Ok(())
+}
+
+/// Adds the word of an option with a value, where it was found.
+fn add_value(
+    alloc: Global,
+    words: &mut Vec<String>,
+    found: &ArgMatches<'_>,
+    option: &str,
+) -> Result<(), AllocError>
+    ensures { OnOk result (texts_in words.new.items ≡ texts_in words.old.items
+        ++ value_words option.now (first_of option.now (rows_of (found_of found.now)))) }
+{
+    if let Some(value) = found.get_str(option) {
+        words.push(format!(in alloc; "--{option}={value}")?)?;
+    }
+    Ok(())
+}
+
+/// Adds the words of the options with a value that were found.
+fn add_values(
+    alloc: Global,
+    words: &mut Vec<String>,
+    found: &ArgMatches<'_>,
+) -> Result<(), AllocError>
+    ensures { OnOk result (texts_in words.new.items ≡ texts_in words.old.items ++ all_values (rows_of (found_of found.now))) }
+{
+    for (option, ..) in VALUES {
+        add_value(alloc, words, found, option)?;
+    }
+    Ok(())
+}
+
 /// Adds the plain words of a subcommand with these options, behind which the names of its files follow.
 fn add_front(
     alloc: Global,
     words: &mut Vec<String>,
     subcommand: &str,
     found: &ArgMatches<'_>,
-) -> Result<(), AllocError> {
+) -> Result<(), AllocError>
+    ensures { OnOk result ((front : List Text) × IsFront subcommand.now (rows_of (found_of found.now)) front
+        × (texts_in words.new.items ≡ texts_in words.old.items ++ front)) }
+{
     words.push(String::from_str(alloc, "h264v")?)?;
     words.push(String::from_str(alloc, subcommand)?)?;
-    for (option, ..) in FLAGS {
-        if found.get_flag(option) {
-            words.push(format!(in alloc; "--{option}")?)?;
-        }
-    }
-    for (option, ..) in VALUES {
-        if let Some(value) = found.get_str(option) {
-            words.push(format!(in alloc; "--{option}={value}")?)?;
-        }
-    }
+    add_flags(alloc, words, found)?;
+    add_values(alloc, words, found)?;
     words.push(String::from_str(alloc, "--")?)?;
     Ok(())
 }
@@ -294,22 +411,25 @@ fn list_in<'a>(alloc: Global, words: &'a [String]) -> Option<ArgMatches<'a>> {
     if has_one { Some(matches) } else { None }
 }
 
-/// Adds the plain words that stand for words with a list.
+/// Adds the plain words that stand for those of a subcommand with a list.
 fn follow<L: Lister, E: Device>(
     alloc: Global,
     words: &mut Vec<String>,
-    matches: &ArgMatches<'_>,
+    matches: (&str, &ArgMatches<'_>),
     lister: &L,
     err: &mut E,
-) -> Result<(), Unlisted> {
-    let Some((name, found)) = matches.subcommand() else {
-        return Ok(());
-    };
+) -> Result<(), Unlisted>
+    ensures plain { OnOk result ((front : List Text) × IsFront matches.entry.0.now (rows_of (found_of matches.entry.1.now)) front
+        × HasMore (texts_in words.old.items ++ front) (texts_in words.new.items)) }
+    // Labels are known, so that only memory may be wanting for them.
+    ensures labels { matches.entry.0.now ≡ codes "explain" → IfErr result (λ e. e ≡ unlisted.Memory) }
+{
+    let (name, found) = matches;
     add_front(alloc, words, name, found)?;
     if name == "explain" {
         Ok(add_labels(alloc, words, found)?)
     } else {
-        add_files(alloc, words, lister, (name, found), err)
+        add_files(alloc, words, lister, matches, err)
     }
 }
 
@@ -323,6 +443,7 @@ pub fn listed_words<L: Lister, E: Device>(
     ensures refused { IfSome result (λ _. takes program (map (λ w. string_bytes w) words.now) ≡ false) }
     ensures untold { IfNone result (err.new ≡ err.old) }
     ensures status { IfSome result (λ listed. has_fault_status listed ≡ true) }
+    ensures plain { IfSome result (λ listed. IsPlainForm listed) }
 {
     if !is_refused(alloc, words) {
         return None;
@@ -330,8 +451,11 @@ pub fn listed_words<L: Lister, E: Device>(
     let Some(matches) = list_in(alloc, words) else {
         return None;
     };
+    let Some(subcommand) = matches.subcommand() else {
+        return None;
+    };
     let mut plain: Vec<String> = Vec::new(alloc);
-    match follow(alloc, &mut plain, &matches, lister, err) {
+    match follow(alloc, &mut plain, subcommand, lister, err) {
         Ok(()) => Some(Listed::Words(plain)),
         Err(Unlisted::Memory) => Some(Listed::Memory),
         Err(Unlisted::Unread(name, cause)) => {

@@ -6,6 +6,7 @@ ghost use Rattle.std.specs.Prelude.{Err, None, IsErrOf, IsSome, IfOk, IfSome, If
 ghost use Rattle.clap.specs.Words.{subcommand_rows_of};
 ghost use Rattle.h264_base.specs.declared.stop.Stop.TheVariants.{Memory, Read, Write};
 ghost use Rattle.h264_lines.specs.Names.{shown};
+ghost use Rattle.h264_pages.specs.Pages.{Adds};
 ghost use Rattle.h264_lines.specs.Sent.{Sends};
 ghost use Rattle.h264_lines.specs.Told.{ended};
 ghost use Rattle.h264_report.specs.Written.{OfBytes};
@@ -20,6 +21,7 @@ ghost use Rattle.h264_command.specs.More.{AreDone, HasTaken, IsAnswerOf, IsPutAs
 ghost use Rattle.h264_command.specs.More.{files_span, is_whole, work};
 ghost use Rattle.h264_words.specs.Options.{asks_further, refusal_text};
 ghost use Rattle.h264_command.specs.Surveys.{IsSurveyed, surveys};
+ghost use Rattle.h264_command.specs.Totals.{total_line, total_object};
 ghost use Rattle.h264_command.specs.Texts.{IsEnd, IsFileText, IsTextOf, TakesText, answers_aside, opening_in, prefix_of};
 ghost use Rattle.h264_words.specs.Words.{mode_of, system_name};
 
@@ -98,24 +100,22 @@ impl Totals {
     }
 
     /// Adds the last line of several files.
-    fn put(&self, page: &mut Page) {
-        page.put("total: files ");
-        page.number(self.files);
-        page.put(" yes ");
-        page.number(self.yes);
-        page.put(" no ");
-        page.number(self.no);
-        page.put(" outside ");
-        page.number(self.outside);
-        page.put(" memory ");
-        page.number(self.memory);
-        page.put(" failed ");
-        page.number(self.failed);
+    fn put(&self, page: &mut Page)
+        ensures { Adds page.old page.new (total_line self.now) }
+    {
+        page.numbered("total: files ", self.files);
+        page.numbered(" yes ", self.yes);
+        page.numbered(" no ", self.no);
+        page.numbered(" outside ", self.outside);
+        page.numbered(" memory ", self.memory);
+        page.numbered(" failed ", self.failed);
         page.put("\n");
     }
 
     /// Adds the last object of several files.
-    fn put_object(&self, page: &mut Page) {
+    fn put_object(&self, page: &mut Page)
+        ensures { Adds page.old page.new (total_object self.now) }
+    {
         page.put("{\"kind\":\"total\"");
         page.number_field("files", self.files);
         page.number_field("yes", self.yes);

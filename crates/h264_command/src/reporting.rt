@@ -17,7 +17,7 @@ ghost use Rattle.h264_words.specs.Words.{mode_of};
 
 use crate::files::OpenFile;
 use crate::job::{Found, Job, JudgedFurther, Watch, judge, judge_further};
-use crate::strictly::{FurtherRules, put_strict_lines};
+use crate::strictly::{FurtherRules, StrictForm, put_strict};
 use h264_base::{Mode, Stop};
 use h264_lines::{
     Device, Form, LineSink, Listing, Pen, Sheet, WriteDevice, put_text, verdict_line,
@@ -54,7 +54,7 @@ fn put_report(job: &Job<'_>, page: &mut Page, found: &Found, kept: &Kept<'_>) {
     };
     let mut further = Page::new(job.alloc);
     if let Some(strict) = &found.strict {
-        put_strict_lines(&mut further, strict);
+        put_strict(&mut further, StrictForm::Lines, strict);
     }
     if further.is_short() || explanation.is_short() {
         page.give_up();

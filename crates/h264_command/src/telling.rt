@@ -1,20 +1,22 @@
 //! How the answer on a file is told: lines, or an object of JSON.
 #![tactic(auto)]
 
-ghost use Rattle.std.specs.Prelude.{◌≡◌, ◌⊎◌, ◌++◌, ℕ, List, true, false, Err, IfOk, IfSome, string_bytes};
+ghost use Rattle.std.specs.Prelude.{◌≡◌, ◌≢◌, ◌⊎◌, ◌++◌, ℕ, List, true, false, Err, IfOk, IfSome, string_bytes};
 ghost use Rattle.h264_base.specs.declared.mode.Mode.{Mode};
 ghost use Rattle.h264_base.specs.declared.stop.Stop.TheVariants.{Memory, Read, Write};
 ghost use Rattle.h264_lines.specs.Lines.{verdict_text};
 ghost use Rattle.h264_pages.specs.Pages.{text_on, is_cut, Adds};
 ghost use Rattle.h264_lines.specs.Sent.{Takes};
 ghost use Rattle.h264_report.specs.Written.{last_line};
+ghost use Rattle.h264_command.specs.Endings.{AddsSome, AreEarlierLines, IsAnswerText, IsEarlier, IsEndText, IsExplanation, IsIf, IsOfFurther, IsOfInfo};
+ghost use Rattle.h264_command.specs.Endings.{IsVerdictObject};
 ghost use Rattle.h264_command.specs.Further.{BreakOne, IsNoVerdict};
 ghost use Rattle.h264_command.specs.Texts.{change_fields, change_line, change_object, change_of, head_of, opening_in, size_text, verdict_object};
 ghost use Rattle.h264_command.specs.Texts.{EndsWith, EndsWithAnswer, EndsWithChange, TellsAnswer};
 ghost use Rattle.h264_words.specs.Words as words;
 
 use crate::job::{Done, Found, Job, mode_of};
-use crate::strictly::{put_strict_lines, put_strict_objects};
+use crate::strictly::{FurtherRules, StrictForm, put_strict};
 use h264_base::Stop;
 use h264_lines::head::Head;
 use h264_lines::{Device, put_text, shown, verdict_line};
@@ -25,8 +27,10 @@ use h264_report::{Ending, put_line};
 use h264_words::command_line::Task;
 use std::alloc::{AllocError, Global};
 
-/// Adds the lines before the last: what explains the answer, where that is asked, and what the further rules found.
-fn put_earlier_lines(job: &Job<'_>, page: &mut Page, found: &Found) {
+/// Adds what explains the answer, where that is asked.
+fn put_explained(job: &Job<'_>, page: &mut Page, found: &Found)
+    ensures { AddsSome page.old page.new (IsIf job.now.options.explain (IsExplanation job.now.file.now found.now)) }
+{
     if job.options.explain {
         put_explanation(
             job.alloc,
@@ -37,9 +41,23 @@ fn put_earlier_lines(job: &Job<'_>, page: &mut Page, found: &Found) {
             guide_on(found.answer, job.file),
         );
     }
-    if let Some(strict) = &found.strict {
-        put_strict_lines(page, strict);
+}
+
+/// Adds what the further rules found, where they are asked for.
+fn put_further(page: &mut Page, form: StrictForm<'_>, strict: &Option<FurtherRules>)
+    ensures { AddsSome page.old page.new (IsOfFurther form.entry strict.now) }
+{
+    if let Some(strict) = strict {
+        put_strict(page, form, strict);
     }
+}
+
+/// Adds the lines before the last: what explains the answer, where that is asked, and what the further rules found.
+fn put_earlier_lines(job: &Job<'_>, page: &mut Page, found: &Found)
+    ensures { AddsSome page.old page.new (AreEarlierLines job.now found.now) }
+{
+    put_explained(job, page, found);
+    put_further(page, StrictForm::Lines, &found.strict);
 }
 
 /// Adds the last line: the answer.
@@ -58,9 +76,11 @@ fn put_last_line(job: &Job<'_>, page: &mut Page, found: &Found)
 
 /// Adds the object of the answer.
 fn put_verdict_object(job: &Job<'_>, page: &mut Page, found: &Found)
-    ensures { is_cut page.new ≡ false → (is_cut page.old ≡ false) × ((more : List ℕ)
+    ensures whole { AddsSome page.old page.new (IsVerdictObject job.now.file.now found.now) }
+    ensures answer { is_cut page.new ≡ false → (is_cut page.old ≡ false) × ((more : List ℕ)
         × (text_on page.new ≡ text_on page.old ++ verdict_object (head_of job.now.file.now) found.now.answer more)) }
 {
+    let guide = guide_on(found.answer, job.file);
     page.open_object(job.file, "verdict");
     put_verdict_fields(
         job.alloc,
@@ -68,7 +88,7 @@ fn put_verdict_object(job: &Job<'_>, page: &mut Page, found: &Found)
         found.answer,
         &found.survey,
         found.finding(),
-        guide_on(found.answer, job.file),
+        guide,
     );
     page.close_object();
 }
@@ -160,23 +180,32 @@ fn put_change_object(job: &Job<'_>, page: &mut Page, frame: u64, first: Head, ot
     page.close_object();
 }
 
-/// Adds what is written before the answer: the last elements, what explains the answer, and what the further rules found.
-fn put_earlier(job: &Job<'_>, page: &mut Page, found: &Found) {
-    if !job.options.json || job.task == Task::Info {
+/// Adds the object of `info`.
+fn put_info_before(job: &Job<'_>, page: &mut Page, found: &Found)
+    ensures { AddsSome page.old page.new (IsOfInfo job.now found.now) }
+{
+    if job.task == Task::Info {
         page.put(found.before.as_str());
     }
-    if !job.options.json {
+}
+
+/// Adds what is written before the answer: the last elements, what explains the answer, and what the further rules found.
+fn put_earlier(job: &Job<'_>, page: &mut Page, found: &Found)
+    ensures { AddsSome page.old page.new (IsEarlier job.now found.now) }
+{
+    if job.options.json {
+        put_info_before(job, page, found);
+        put_further(page, StrictForm::Objects(job.file), &found.strict);
+    } else {
+        page.put(found.before.as_str());
         put_earlier_lines(job, page, found);
-        return;
-    }
-    if let Some(strict) = &found.strict {
-        put_strict_objects(page, job.file, strict);
     }
 }
 
 /// Adds the answer, as a line or as an object.
 fn put_answer_told(job: &Job<'_>, page: &mut Page, found: &Found)
-    ensures { is_cut page.new ≡ false → EndsWith job.now.task (opening_in job.now.options.json job.now.file.now job.now.prefix.now) found.now.answer
+    ensures whole { AddsSome page.old page.new (IsAnswerText job.now found.now) }
+    ensures answer { is_cut page.new ≡ false → EndsWith job.now.task (opening_in job.now.options.json job.now.file.now job.now.prefix.now) found.now.answer
         (text_on page.new) }
 {
     if job.options.json {
@@ -217,6 +246,7 @@ fn put_end(job: &Job<'_>, page: &mut Page, found: &Found)
     ensures change { is_cut page.new ≡ false → job.now.options.y4m ≡ true → found.now.answer ≡ Err Write →
         IfSome (change_of job.now.file.now found.now.survey.frames found.now.change) (λ change.
         EndsWithChange (opening_in job.now.options.json job.now.file.now job.now.prefix.now) change (text_on page.new)) }
+    ensures whole { found.now.answer ≢ Err Write → AddsSome page.old page.new (IsEndText job.now found.now) }
 {
     let mut earlier = Page::new(job.alloc);
     put_earlier(job, &mut earlier, found);
@@ -238,6 +268,8 @@ pub fn put_found<W: Device>(job: &Job<'_>, out: &mut W, found: &Found) -> Done
     ensures write { found.now.answer ≡ Err Write → result.ending.answer ≡ Err Write }
     ensures text { (end : List ℕ) × Takes result.ending.written (W.contents out.old) (W.contents out.new) end
         × TellsAnswer job.now.task job.now.options (opening_in job.now.options.json job.now.file.now job.now.prefix.now) result.ending.answer end }
+    ensures whole { (IsNoVerdict result.ending.answer → ⊥) → job.now.options.quiet ≡ false → (end : List ℕ)
+        × Takes result.ending.written (W.contents out.old) (W.contents out.new) end × IsEndText job.now found.now end }
     ensures handed_over { result.ending.written ≡ true → W.holds_back out.new ≡ false }
     ensures quiet { result.ending.written ≡ true → W.has_failed out.new ≡ W.has_failed out.old }
     ensures failed { result.ending.written ≡ false → W.has_failed out.new ≡ true }
