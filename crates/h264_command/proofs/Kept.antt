@@ -58,7 +58,8 @@ module _ {S : Type 0} (remaining : S → Option (List ℕ)) where
   gave-memory old new piece piece' n same gave =
       let past' = drop new.given new.memory.items in
       let given = gave-first (drop old.given old.memory.items) past' piece piece' (counted_bytes old.stored (remaining old.store)) old.refused.items n gave in
-      subst (λ k. Consumes (left_kept remaining old) (in_order past' (counted_bytes k.stored (remaining k.store)) k.refused.items) (take n piece')) (sym same) given
+      subst (λ k. Consumes (left_kept remaining old) (in_order past' (counted_bytes k.stored (remaining k.store)) k.refused.items) (take n piece'))
+      (sym same) given
 
   -- Nothing is left where memory has nothing, nothing is counted of the store, and nothing was refused.
   pub at-end : (k : KeptBytes S) → drop k.given k.memory.items ≡ [] → k.stored ≡ 0 → k.refused.items ≡ [] → IsAtEnd (left_kept remaining k)

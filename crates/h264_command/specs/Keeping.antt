@@ -1,5 +1,5 @@
 -- What is kept of an input, and given once more. A working form.
-use Rattle.std.specs.Prelude.{◌≡◌, ℕ, zero, suc, ◌+◌, Bool, true, false, List, [], ◌++◌, length, min, take, drop, Option, Some, None, option_map, ◌⊎◌}
+use Rattle.std.specs.Prelude.{◌≡◌, ℕ, zero, suc, ◌+◌, ◌≤◌, Bool, true, false, List, [], ◌++◌, length, min, take, drop, Option, Some, None, option_map, ◌⊎◌}
 use Rattle.std.specs.Io.KnownBytes.{Appends, Keeps}
 use Rattle.h264_command.specs.declared.keeping.Stage.{Stage}
 use Rattle.h264_command.specs.declared.keeping.Stage.TheVariants as stages
@@ -29,6 +29,10 @@ IsCounted n (Some xs) = length xs ≡ n
 -- Bytes in the order in which they are kept, where they are known: those in memory, those of a store, and those that it refused.
 abbrev pub in_order : (memory : List ℕ) (stored : Option (List ℕ)) (refused : List ℕ) → Option (List ℕ)
 in_order memory stored refused = option_map (λ xs. memory ++ (xs ++ refused)) stored
+
+-- No more is kept than may be.
+abbrev pub IsWithin : {S : Type 0} → KeptBytes S → Type 0
+IsWithin k = (length k.memory.items ≤ k.most.memory) × (k.stored ≤ k.most.store)
 
 module _ {S : Type 0} (remaining : S → Option (List ℕ)) where
   -- all bytes that are kept, by what is known of the store

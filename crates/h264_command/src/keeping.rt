@@ -4,7 +4,7 @@
 ghost use Rattle.std.specs.Prelude.{◌≡◌, ◌≢◌, ◌++◌, ◌⊎◌, [], take, drop, Ok, IfOk, IsOk, OnErr, MatchResult, true, false};
 ghost use Rattle.std.specs.Io.{ReadsAtMost};
 ghost use Rattle.std.specs.Io.KnownBytes.{Appends, Consumes, IsAtEnd, Keeps, ReadConsumes};
-ghost use Rattle.h264_command.specs.Keeping.{GaveAgain, IsCounted, IsKept, all_kept, left_kept, to_come};
+ghost use Rattle.h264_command.specs.Keeping.{GaveAgain, IsCounted, IsKept, IsWithin, all_kept, left_kept, to_come};
 ghost use Rattle.h264_command.specs.declared.keeping.Stage.TheVariants as stages;
 
 use crate::storing::{Bounds, KeptBytes, Store};
@@ -107,6 +107,7 @@ impl<R: Read + Drop, S: Store + Drop> KeptInput<R, S> {
           has_ended = self.new.has_ended;
           is_cut_short = self.new.is_cut_short;
         } }
+        ensures within { IsWithin self.old.kept → IsWithin self.new.kept }
         ensures most { self.new.kept.most ≡ self.old.kept.most }
         ensures given { self.new.kept.given ≡ self.old.kept.given }
     {
@@ -126,8 +127,8 @@ impl<R: Read + Drop, S: Store + Drop> KeptInput<R, S> {
     fn read_again(&mut self, piece: &mut [u8]) -> io::Result<usize>
         ensures bound { ReadsAtMost result piece.new }
         ensures fits { drop self.old.kept.given self.old.kept.memory.items ≢ [] → IsOk result }
-        ensures gave { drop self.old.kept.given self.old.kept.memory.items ≢ [] → IfOk result (λ n. GaveAgain (drop self.old.kept.given self.old.kept.memory.items)
-            (drop self.new.kept.given self.new.kept.memory.items) piece.old piece.new n) }
+        ensures gave { drop self.old.kept.given self.old.kept.memory.items ≢ [] → IfOk result (λ n.
+            GaveAgain (drop self.old.kept.given self.old.kept.memory.items) (drop self.new.kept.given self.new.kept.memory.items) piece.old piece.new n) }
         // Nothing is read after the end that was read.
         ensures ended { drop self.old.kept.given self.old.kept.memory.items ≡ [] → self.old.kept.stored ≡ 0 → self.old.kept.refused.items ≡ [] →
             self.old.has_ended ≡ true → result ≡ Ok 0 }

@@ -1,10 +1,10 @@
 //! Bytes that are kept in their order: so many in memory, and those after them in a store.
 #![tactic(auto)]
 
-ghost use Rattle.std.specs.Prelude.{◌≡◌, ◌≢◌, ◌<◌, ◌≤◌, ◌++◌, [], length, drop, take, Ok, IfOk, IfSome, IfNone, IsOk, OnErr, MatchResult};
+ghost use Rattle.std.specs.Prelude.{◌≡◌, ◌≢◌, ◌<◌, ◌≤◌, ◌+◌, ◌++◌, [], length, drop, take, Ok, IfOk, IfSome, IfNone, IsOk, OnErr, MatchResult};
 ghost use Rattle.std.specs.Io.{ReadsAtMost};
 ghost use Rattle.std.specs.Io.KnownBytes.{Appends, Consumes, IsAtEnd, Keeps, ReadConsumes};
-ghost use Rattle.h264_command.specs.Keeping.{GaveAgain, IsKept, count_read, counted_bytes, left_kept};
+ghost use Rattle.h264_command.specs.Keeping.{GaveAgain, IsKept, IsWithin, count_read, counted_bytes, left_kept};
 
 use std::alloc::Global;
 use std::io::{ErrorKind, Read};
@@ -84,6 +84,7 @@ impl<S: Store + Drop> KeptBytes<S> {
             (λ _. Keeps (R.remaining reader.old) (R.remaining reader.new)) }
         ensures unread { IfOk result (λ r. IfNone r (reader.new ≡ reader.old)) }
         ensures end { result ≡ Ok (Some 0) → IsAtEnd (R.remaining reader.new) }
+        ensures within { IsWithin self.old → IsWithin self.new }
         ensures others { self.new ≡ record self.old { memory = self.new.memory } }
     {
         let room = self.most.memory.saturating_sub(self.memory.len());
@@ -114,6 +115,7 @@ impl<S: Store + Drop> KeptBytes<S> {
             (λ _. Keeps (R.remaining reader.old) (R.remaining reader.new)) }
         ensures unread { IfOk result (λ r. IfNone r (reader.new ≡ reader.old)) }
         ensures end { result ≡ Ok (Some 0) → IsAtEnd (R.remaining reader.new) }
+        ensures within { IsWithin self.old → IsWithin self.new }
         ensures others { self.new ≡ record self.old { store = self.new.store; stored = self.new.stored; refused = self.new.refused } }
     {
         let room = self.most.store.saturating_sub(self.stored);
@@ -150,6 +152,7 @@ impl<S: Store + Drop> KeptBytes<S> {
             (λ _. Keeps (R.remaining reader.old) (R.remaining reader.new)) }
         ensures unread { IfOk result (λ r. IfNone r (reader.new ≡ reader.old)) }
         ensures end { result ≡ Ok (Some 0) → IsAtEnd (R.remaining reader.new) }
+        ensures within { IsWithin self.old → IsWithin self.new }
         ensures others { self.new ≡ record self.old {
           memory = self.new.memory;
           store = self.new.store;
@@ -192,6 +195,7 @@ impl<S: Store + Drop> KeptBytes<S> {
             (counted_bytes self.new.stored (S.remaining self.new.store)) (take n piece.new))
             (λ _. Keeps (counted_bytes self.old.stored (S.remaining self.old.store)) (counted_bytes self.new.stored (S.remaining self.new.store))) }
         ensures some { IfOk result (λ n. 0 < n) }
+        ensures count { IfOk result (λ n. self.new.stored + n ≡ self.old.stored) }
         ensures others { self.new ≡ record self.old { store = self.new.store; stored = self.new.stored } }
     {
         let count = piece.len().min(self.stored);
