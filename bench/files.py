@@ -3,9 +3,9 @@
 docs/OUTPUT.md says.
 
 Input above 4 GiB, in a sparse file; with --whole also input above 2^40 bytes, whose last ones are zeros that a library in front of the C library gives
-(faults.c; minutes to hours). A pipe that stalls, one that brings a byte at a time, and one of more bytes than memory keeps. A file that is cut short while it is read. A missing file, and a
-folder in its place. Output to a full disk and to a pipe that nobody reads: status 4, and no text but a cause. Signals: what was written by then ends in a
-whole line.
+(faults.c; minutes to hours). A pipe that stalls, one that brings a byte at a time, and one of more bytes than memory keeps. A file that is cut short while
+it is read. A missing file, and a folder in its place. Output to a full disk and to a pipe that nobody reads: status 4, and no text but a cause. Signals: what
+was written by then ends in a whole line.
 
 PROGRAM is h264v or h264v-quick. Needs a C compiler, and 4 GiB of room for names of blocks in a sparse file, but no room on the disk."""
 import os
@@ -198,7 +198,8 @@ def main(program, *words):
     with tempfile.TemporaryDirectory() as folder:
         trials = Trials(program, folder)
         all_of_them = [trials.pipes, trials.long_pipes, trials.shrinking, trials.unreadable]
-        all_of_them += [trials.full_disk, trials.closed_pipe, trials.whole_writes, trials.signals, trials.above_4_gib] + [trials.above_2_to_40] * ("--whole" in words)
+        all_of_them += [trials.full_disk, trials.closed_pipe, trials.whole_writes, trials.signals, trials.above_4_gib]
+        all_of_them += [trials.above_2_to_40] * ("--whole" in words)
         for trial in all_of_them:
             trial()
         return 1 if trials.failed else 0
