@@ -104,17 +104,25 @@ class Trials:
         for name, pieces, pause in (("a pipe that stalls", [stream[:17], stream[17:]], 1), ("a byte at a time", [bytes([it]) for it in stream], 0.01)):
             self.told(name, all(self.piped(it, pieces, pause) == self.answer(it, path) for it in COMMANDS))
 
+    def from_pipe(self, path, faults):
+        """The answer of check to a file that comes by a pipe."""
+        with open(path, "rb") as file, subprocess.Popen(["cat"], stdin=file, stdout=subprocess.PIPE) as pipe:
+            it = self.ran("check", "-", faults, stdin=pipe.stdout)
+        return it.returncode, it.stdout
+
     def long_pipes(self):
-        """A pipe of which memory does not hold all: the answer to the file, also where no temporary file can be made, and nothing is left of one."""
-        right, room = True, f"{self.folder}/room"
+        """A pipe of which memory does not hold all: the answer to the file, also where no temporary file can be made or the disk is full, and nothing is left
+        of one. Where it can't be read, a no is no answer."""
+        right, room, missing = True, f"{self.folder}/room", f"{self.folder}/missing"
         os.mkdir(room)
         for end in (OTHER_PICTURE, OTHER_PICTURE[:-1]):
             path = f"{self.folder}/long"
             pathlib.Path(path).write_bytes(PICTURE + bytes(LONG_PIPE) + end)
-            for place in (room, f"{self.folder}/missing"):
-                with open(path, "rb") as file, subprocess.Popen(["cat"], stdin=file, stdout=subprocess.PIPE) as pipe:
-                    it = self.ran("check", "-", {"TMPDIR": place}, stdin=pipe.stdout)
-                right = right and (it.returncode, it.stdout) == self.answer("check", path) and not os.listdir(room)
+            answer = self.answer("check", path)
+            for faults in ({"TMPDIR": room}, {"TMPDIR": missing}, {"TMPDIR": room, "FAIL_PWRITE": 1}, {"TMPDIR": room, "FAIL_PWRITE": 3}):
+                right = right and self.from_pipe(path, faults) == answer and not os.listdir(room)
+            unread = self.from_pipe(path, {"TMPDIR": room, "FAIL_PREAD": 2})
+            right = right and unread == (answer if answer[0] == 0 else (DEVICE, b"read failed\n"))
         self.told("a pipe of more than memory keeps", right)
 
     def shrinking(self):
