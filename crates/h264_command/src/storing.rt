@@ -240,6 +240,7 @@ impl<S: Store + Drop> Read for KeptBytes<S> {
         ensures bound { ReadsAtMost result piece.new }
         ensures bytes { ReadConsumes (left_kept S.remaining self.old) (left_kept S.remaining self.new) result piece.new }
         ensures fits { drop self.old.given self.old.memory.items ≢ [] → IsOk result }
+        ensures unstored { self.old.stored ≡ 0 → IsOk result }
         ensures gave { drop self.old.given self.old.memory.items ≢ [] → IfOk result (λ n.
             GaveAgain (drop self.old.given self.old.memory.items) (drop self.new.given self.new.memory.items) piece.old piece.new n) }
         // Nothing is given but what was kept.
