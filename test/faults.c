@@ -1,6 +1,7 @@
 /* Stands in front of the C library's calls, and lets one of them, or each, go wrong as the environment says:
        REFUSE=N            the Nth allocation is refused, counted from 1
        FAIL_READ=N         the Nth read fails with EIO; FAIL_WRITE=N the Nth write, to a standard stream or a file
+       FAIL_PREAD=N        the Nth read of a temporary file fails with EIO; FAIL_PWRITE=N the Nth write, with ENOSPC
        SHORT_READ=1        each read gives one byte; SHORT_WRITE=1 each write takes one
        INTERRUPT_READ=1    each read is interrupted (EINTR) before it is done; INTERRUPT_WRITE=1 each write
        SHRINK_FILE=NAME    the file is cut to SHRINK_TO bytes before the read of number SHRINK_AT
@@ -135,4 +136,29 @@ ssize_t writev(int to, const struct iovec *parts, int count) {
 
 ssize_t __write(int to, const void *bytes, size_t size) {
     return write(to, bytes, size);
+}
+
+/* Reads and writes at a place, as those of a temporary file are. */
+ssize_t pread64(int from, void *to, size_t size, off64_t place) {
+    static ssize_t (*real)(int, void *, size_t, off64_t);
+    static long calls;
+    if (!real) real = dlsym(RTLD_NEXT, "pread64");
+    if (is_due("FAIL_PREAD", &calls)) { errno = EIO; return -1; }
+    return real(from, to, size && given("SHORT_READ") ? 1 : size, place);
+}
+
+ssize_t pwrite64(int to, const void *bytes, size_t size, off64_t place) {
+    static ssize_t (*real)(int, const void *, size_t, off64_t);
+    static long calls;
+    if (!real) real = dlsym(RTLD_NEXT, "pwrite64");
+    if (is_due("FAIL_PWRITE", &calls)) { errno = ENOSPC; return -1; }
+    return real(to, bytes, size && given("SHORT_WRITE") ? 1 : size, place);
+}
+
+ssize_t pread(int from, void *to, size_t size, off_t place) {
+    return pread64(from, to, size, place);
+}
+
+ssize_t pwrite(int to, const void *bytes, size_t size, off_t place) {
+    return pwrite64(to, bytes, size, place);
 }

@@ -3,9 +3,9 @@
 docs/OUTPUT.md says.
 
 Input above 4 GiB, in a sparse file; with --whole also input above 2^40 bytes, whose last ones are zeros that a library in front of the C library gives
-(faults.c; minutes to hours). A pipe that stalls, and one that brings a byte at a time. A file that is cut short while it is read. A missing file, and a
-folder in its place. Output to a full disk and to a pipe that nobody reads: status 4, and no text but a cause. Signals: what was written by then ends in a
-whole line.
+(faults.c; minutes to hours). A pipe that stalls, one that brings a byte at a time, and one of more bytes than memory keeps. A file that is cut short while
+it is read. A missing file, and a folder in its place. Output to a full disk and to a pipe that nobody reads: status 4, and no text but a cause. Signals: what
+was written by then ends in a whole line.
 
 PROGRAM is h264v or h264v-quick. Needs a C compiler, and 4 GiB of room for names of blocks in a sparse file, but no room on the disk."""
 import argparse
@@ -25,10 +25,12 @@ GIBIBYTE = 1 << 30
 LONGEST_INPUT = 1 << 40
 SECONDS = 600
 PICTURE = bytes.fromhex("00000001 6742C00ADA71 00000001 68CE3880 000001 65888493C0")
+OTHER_PICTURE = bytes.fromhex("00000001 6742C00ADA71 00000001 68CE3880 000001 65888224F0")
 SKIPPED = bytes.fromhex("000001 619A22A0")
 LINE_END = 10
-# How many bytes the program reads at a time.
+# How many bytes the program reads at a time, and more than it keeps of a pipe in memory.
 FIRST_PIECE = 4096
+LONG_PIPE = 20 << 20
 
 
 class Trials:
@@ -67,7 +69,7 @@ class Trials:
             it.write(PICTURE)
             it.truncate(4 * GIBIBYTE)
             it.seek(4 * GIBIBYTE)
-            it.write(PICTURE.replace(b"\x65\x88\x84\x93\xc0", b"\x65\x88\x82\x24\xf0"))
+            it.write(OTHER_PICTURE)
         begun = time.time()
         status, out = self.answer("units", path)
         speed = 4 * GIBIBYTE / (time.time() - begun)
@@ -102,6 +104,27 @@ class Trials:
         pathlib.Path(path).write_bytes(stream)
         for name, pieces, pause in (("a pipe that stalls", [stream[:17], stream[17:]], 1), ("a byte at a time", [bytes([it]) for it in stream], 0.01)):
             self.told(name, all(self.piped(it, pieces, pause) == self.answer(it, path) for it in COMMANDS))
+
+    def from_pipe(self, path, faults):
+        """The answer of check to a file that comes by a pipe."""
+        with open(path, "rb") as file, subprocess.Popen(["cat"], stdin=file, stdout=subprocess.PIPE) as pipe:
+            it = self.ran("check", "-", faults, stdin=pipe.stdout)
+        return it.returncode, it.stdout
+
+    def long_pipes(self):
+        """A pipe of which memory does not hold all: the answer to the file, also where no temporary file can be made or the disk is full, and nothing is left
+        of one. Where it can't be read, a no is no answer."""
+        right, room, missing = True, f"{self.folder}/room", f"{self.folder}/missing"
+        os.mkdir(room)
+        for end in (OTHER_PICTURE, OTHER_PICTURE[:-1]):
+            path = f"{self.folder}/long"
+            pathlib.Path(path).write_bytes(PICTURE + bytes(LONG_PIPE) + end)
+            answer = self.answer("check", path)
+            for faults in ({"TMPDIR": room}, {"TMPDIR": missing}, {"TMPDIR": room, "FAIL_PWRITE": 1}, {"TMPDIR": room, "FAIL_PWRITE": 3}):
+                right = right and self.from_pipe(path, faults) == answer and not os.listdir(room)
+            unread = self.from_pipe(path, {"TMPDIR": room, "FAIL_PREAD": 2})
+            right = right and unread == (answer if answer[0] == 0 else (DEVICE, b"read failed\n"))
+        self.told("a pipe of more than memory keeps", right)
 
     def shrinking(self):
         """A file that is cut to half before its second read, so that its end comes early: the answer to what was read."""
@@ -187,8 +210,9 @@ def main():
     asked = words.parse_args()
     with tempfile.TemporaryDirectory() as folder:
         trials = Trials(asked.program, folder)
-        all_of_them = [trials.pipes, trials.shrinking, trials.unreadable, trials.full_disk, trials.closed_pipe, trials.whole_writes, trials.signals]
-        all_of_them += [trials.above_4_gib] + [trials.above_2_to_40] * asked.whole
+        all_of_them = [trials.pipes, trials.long_pipes, trials.shrinking, trials.unreadable]
+        all_of_them += [trials.full_disk, trials.closed_pipe, trials.whole_writes, trials.signals, trials.above_4_gib]
+        all_of_them += [trials.above_2_to_40] * asked.whole
         for trial in all_of_them:
             trial()
         return 1 if trials.failed else 0

@@ -1,5 +1,6 @@
-//! The words of the command line, as bytes.
+//! The words of the command line, as bytes, and the variables of the environment.
 use super::runtime::HostRuntime;
+use std::env::VarError;
 
 /// Why a word is not given.
 pub enum FillError {
@@ -23,4 +24,9 @@ impl Env for HostRuntime {
         room.copy_from_slice(word);
         Ok(word.len())
     }
+}
+
+/// The value of a variable.
+pub fn var(_: &HostRuntime, name: &str) -> Result<std::string::String, VarError> {
+    std::env::var(name)
 }

@@ -5,6 +5,7 @@ pub use std::fs::Metadata;
 use std::fs::{Permissions, ReadDir};
 use std::io::{Error, ErrorKind, Read, Result, Write};
 use std::os::unix::ffi::OsStrExt;
+use std::os::unix::fs::{FileExt, OpenOptionsExt};
 use std::path::Path;
 
 /// How many bytes are asked for at a time where a whole file is read.
@@ -49,6 +50,16 @@ impl Write for File {
     }
 }
 
+impl FileExt for File {
+    fn read_at(&self, piece: &mut [u8], place: u64) -> Result<usize> {
+        self.0.read_at(piece, place)
+    }
+
+    fn write_at(&self, bytes: &[u8], place: u64) -> Result<usize> {
+        self.0.write_at(bytes, place)
+    }
+}
+
 /// How a file is opened.
 pub struct OpenOptions(std::fs::OpenOptions);
 
@@ -57,23 +68,40 @@ impl OpenOptions {
         OpenOptions(std::fs::OpenOptions::new())
     }
 
-    pub fn write(mut self, yes: bool) -> OpenOptions {
+    pub fn read(&mut self, yes: bool) -> &mut OpenOptions {
+        self.0.read(yes);
+        self
+    }
+
+    pub fn write(&mut self, yes: bool) -> &mut OpenOptions {
         self.0.write(yes);
         self
     }
 
-    pub fn append(mut self, yes: bool) -> OpenOptions {
+    pub fn append(&mut self, yes: bool) -> &mut OpenOptions {
         self.0.append(yes);
         self
     }
 
-    pub fn create_new(mut self, yes: bool) -> OpenOptions {
+    pub fn create_new(&mut self, yes: bool) -> &mut OpenOptions {
         self.0.create_new(yes);
         self
     }
 
-    pub fn open(self, _: &HostRuntime, name: &str) -> Result<File> {
+    pub fn open(&self, _: &HostRuntime, name: &str) -> Result<File> {
         Ok(File(self.0.open(name)?))
+    }
+}
+
+impl OpenOptionsExt for OpenOptions {
+    fn mode(&mut self, mode: u32) -> &mut OpenOptions {
+        self.0.mode(mode);
+        self
+    }
+
+    fn custom_flags(&mut self, flags: i32) -> &mut OpenOptions {
+        self.0.custom_flags(flags);
+        self
     }
 }
 

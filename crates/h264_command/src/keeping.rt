@@ -3,10 +3,11 @@
 
 ghost use Rattle.std.specs.Prelude.{◌≡◌, ◌≢◌, ◌++◌, ◌⊎◌, [], take, drop, Ok, IfOk, IsOk, OnErr, MatchResult, true, false};
 ghost use Rattle.std.specs.Io.{ReadsAtMost};
-ghost use Rattle.std.specs.Io.KnownBytes.{Consumes, IsAtEnd, Keeps, ReadConsumes};
-ghost use Rattle.h264_command.specs.Keeping.{GaveAgain, to_come};
+ghost use Rattle.std.specs.Io.KnownBytes.{Appends, Consumes, IsAtEnd, Keeps, ReadConsumes};
+ghost use Rattle.h264_command.specs.Keeping.{GaveAgain, IsCounted, IsKept, IsWithin, all_kept, left_kept, to_come};
 ghost use Rattle.h264_command.specs.declared.keeping.Stage.TheVariants as stages;
 
+use crate::storing::{Bounds, KeptBytes, Store};
 use std::alloc::Global;
 use std::cell::RefCell;
 use std::io;
@@ -25,39 +26,29 @@ enum Stage {
 
 /// An input, and what was kept of it.
 #[derive(Drop)]
-pub struct KeptInput<R: Read + Drop> {
-    alloc: Global,
+pub struct KeptInput<R: Read + Drop, S: Store + Drop> {
     reader: R,
     stage: Stage,
-    /// What was kept.
-    bytes: Vec<u8>,
-    /// How many of these bytes were given once more.
-    given: usize,
-    /// How many bytes are kept at most.
-    most: usize,
+    kept: KeptBytes<S>,
     /// Whether the input's end was read while it was kept.
     has_ended: bool,
     /// Whether the last reading ended since no more could be kept.
     is_cut_short: bool,
 }
 
-impl<R: Read + Drop> KeptInput<R> {
-    /// An input of which nothing is kept.
-    pub fn new(alloc: Global, reader: R, most: usize) -> KeptInput<R>
+impl<R: Read + Drop, S: Store + Drop> KeptInput<R, S> {
+    /// An input of which nothing is kept, and what is to keep it.
+    pub fn new(reader: R, kept: KeptBytes<S>) -> KeptInput<R, S>
         ensures reader { result.reader ≡ reader }
+        ensures kept { result.kept ≡ kept }
         ensures given { result.stage ≡ stages.Given }
-        ensures bytes { result.bytes.items ≡ [] }
-        ensures most { result.most ≡ most }
         ensures unended { result.has_ended ≡ false }
         ensures whole { result.is_cut_short ≡ false }
     {
         KeptInput {
-            alloc,
             reader,
             stage: Stage::Given,
-            bytes: Vec::new(alloc),
-            given: 0,
-            most,
+            kept,
             has_ended: false,
             is_cut_short: false,
         }
@@ -72,12 +63,12 @@ impl<R: Read + Drop> KeptInput<R> {
 
     /// Has what was kept given once more, and after it what is left. Whether anything was to be kept.
     pub fn begin_again(&mut self) -> bool
-        ensures start { self.new ≡ record self.old { stage = self.new.stage; given = 0; is_cut_short = false } }
+        ensures start { self.new ≡ record self.old { stage = self.new.stage; kept = record self.old.kept { given = 0 }; is_cut_short = false } }
         ensures again { result ≡ true → (self.old.stage ≡ stages.Kept) × (self.new.stage ≡ stages.Again) }
         ensures none { result ≡ false → (self.old.stage ≢ stages.Kept) × (self.new.stage ≡ self.old.stage) }
     {
         self.is_cut_short = false;
-        self.given = 0;
+        self.kept.begin_again();
         match self.stage {
             Stage::Kept => {
                 self.stage = Stage::Again;
@@ -98,8 +89,13 @@ impl<R: Read + Drop> KeptInput<R> {
     /// Reads on, and keeps what is read. Where no more can be kept, nothing is read, and the reading ends.
     fn read_kept(&mut self, piece: &mut [u8]) -> io::Result<usize>
         ensures bound { ReadsAtMost result piece.new }
-        ensures kept { IfOk result (λ n. self.new.bytes.items ≡ self.old.bytes.items ++ take n piece.new) }
-        ensures none { OnErr result (self.new.bytes.items ≡ self.old.bytes.items) }
+        ensures kept { IfOk result (λ n. IsKept S.remaining self.old.kept self.new.kept (take n piece.new)) }
+        ensures none { OnErr result (IsKept S.remaining self.old.kept self.new.kept []) }
+        // Where the store's bytes are known and counted, what is read goes to the end of what is kept.
+        ensures order { IfOk result (λ n. IsCounted self.old.kept.stored (S.remaining self.old.kept.store) →
+            Appends (all_kept S.remaining self.old.kept) (all_kept S.remaining self.new.kept) (take n piece.new)) }
+        ensures counted { IsCounted self.old.kept.stored (S.remaining self.old.kept.store) →
+            IsCounted self.new.kept.stored (S.remaining self.new.kept.store) }
         // They are the reader's.
         ensures read { MatchResult result (λ n. Consumes (R.remaining self.old.reader) (R.remaining self.new.reader) (take n piece.new))
             (λ _. Keeps (R.remaining self.old.reader) (R.remaining self.new.reader)) }
@@ -107,68 +103,52 @@ impl<R: Read + Drop> KeptInput<R> {
         ensures ended { self.old.has_ended ≡ false → self.new.has_ended ≡ true → IsAtEnd (R.remaining self.new.reader) }
         ensures others { self.new ≡ record self.old {
           reader = self.new.reader;
-          bytes = self.new.bytes;
+          kept = self.new.kept;
           has_ended = self.new.has_ended;
           is_cut_short = self.new.is_cut_short;
         } }
+        ensures within { IsWithin self.old.kept → IsWithin self.new.kept }
+        ensures most { self.new.kept.most ≡ self.old.kept.most }
+        ensures given { self.new.kept.given ≡ self.old.kept.given }
     {
-        let room = self.most.saturating_sub(self.bytes.len());
-        let count = piece.len().min(room);
-        if count == 0 || self.bytes.reserve(count).is_err() {
-            self.is_cut_short = true;
-            return Ok(0);
+        match self.kept.read_from(&mut self.reader, piece)? {
+            Some(n) => {
+                self.has_ended = n == 0;
+                Ok(n)
+            }
+            None => {
+                self.is_cut_short = true;
+                Ok(0)
+            }
         }
-        let n = self.reader.read(&mut piece[..count])?;
-        self.has_ended = n == 0;
-        match self.bytes.extend_from_slice(&piece[..n]) {
-            Ok(()) => Ok(n),
-            Err(_) => unreachable!(),
-        }
-    }
-
-    /// Gives what was kept once more: how many bytes.
-    fn give(&mut self, piece: &mut [u8]) -> usize
-        ensures gave { GaveAgain (drop self.old.given self.old.bytes.items) (drop self.new.given self.new.bytes.items) piece.old piece.new result }
-        ensures others { self.new ≡ record self.old { given = self.new.given } }
-    {
-        let left = self.bytes.len().saturating_sub(self.given);
-        let n = left.min(piece.len());
-        if n == 0 {
-            return 0;
-        }
-        let end = self.given + n;
-        piece[..n].copy_from_slice(&self.bytes[self.given..end]);
-        self.given = end;
-        n
     }
 
     /// Gives what was kept once more, and after it what is left.
     fn read_again(&mut self, piece: &mut [u8]) -> io::Result<usize>
         ensures bound { ReadsAtMost result piece.new }
-        ensures fits { drop self.old.given self.old.bytes.items ≢ [] → IsOk result }
-        ensures gave { drop self.old.given self.old.bytes.items ≢ [] → IfOk result (λ n.
-            GaveAgain (drop self.old.given self.old.bytes.items) (drop self.new.given self.new.bytes.items) piece.old piece.new n) }
+        ensures fits { drop self.old.kept.given self.old.kept.memory.items ≢ [] → IsOk result }
+        ensures gave { drop self.old.kept.given self.old.kept.memory.items ≢ [] → IfOk result (λ n.
+            GaveAgain (drop self.old.kept.given self.old.kept.memory.items) (drop self.new.kept.given self.new.kept.memory.items) piece.old piece.new n) }
         // Nothing is read after the end that was read.
-        ensures ended { drop self.old.given self.old.bytes.items ≡ [] → self.old.has_ended ≡ true → result ≡ Ok 0 }
+        ensures ended { drop self.old.kept.given self.old.kept.memory.items ≡ [] → self.old.kept.stored ≡ 0 → self.old.kept.refused.items ≡ [] →
+            self.old.has_ended ≡ true → result ≡ Ok 0 }
         ensures bytes { self.old.stage ≡ stages.Again → ReadConsumes
-            (to_come self.old.stage self.old.has_ended (drop self.old.given self.old.bytes.items) (R.remaining self.old.reader))
-            (to_come self.new.stage self.new.has_ended (drop self.new.given self.new.bytes.items) (R.remaining self.new.reader)) result piece.new }
+            (to_come self.old.stage self.old.has_ended (left_kept S.remaining self.old.kept) (R.remaining self.old.reader))
+            (to_come self.new.stage self.new.has_ended (left_kept S.remaining self.new.kept) (R.remaining self.new.reader)) result piece.new }
         ensures end { self.new.has_ended ≡ self.old.has_ended }
-        ensures most { self.new.most ≡ self.old.most }
+        ensures most { self.new.kept.most ≡ self.old.kept.most }
     {
-        let n = self.give(piece);
+        let n = self.kept.read(piece)?;
         if n > 0 || piece.is_empty() || self.has_ended {
             return Ok(n);
         }
         self.stage = Stage::Given;
-        self.bytes = Vec::new(self.alloc);
-        self.given = 0;
         self.reader.read(piece)
     }
 }
 
-impl<R: Read + Drop> Read for KeptInput<R> {
-    ghost remaining = { λ s. to_come s.stage s.has_ended (drop s.given s.bytes.items) (R.remaining s.reader) };
+impl<R: Read + Drop, S: Store + Drop> Read for KeptInput<R, S> {
+    ghost remaining = { λ s. to_come s.stage s.has_ended (left_kept S.remaining s.kept) (R.remaining s.reader) };
 
     fn read(&mut self, piece: &mut [u8]) -> io::Result<usize> {
         match self.stage {
@@ -181,11 +161,11 @@ impl<R: Read + Drop> Read for KeptInput<R> {
 
 /// A reader of the input that was opened last.
 #[derive(Drop)]
-pub struct SharedInput<'a, R: Read + Drop> {
-    input: &'a RefCell<Option<KeptInput<R>>>,
+pub struct SharedInput<'a, R: Read + Drop, S: Store + Drop> {
+    input: &'a RefCell<Option<KeptInput<R, S>>>,
 }
 
-impl<R: Read + Drop> Read for SharedInput<'_, R> {
+impl<R: Read + Drop, S: Store + Drop> Read for SharedInput<'_, R, S> {
     fn read(&mut self, piece: &mut [u8]) -> io::Result<usize> {
         let mut input = self.input.try_borrow_mut()?;
         match &mut *input {
@@ -197,19 +177,20 @@ impl<R: Read + Drop> Read for SharedInput<'_, R> {
 
 /// Keeps what is read of the input that was opened last, where that is asked.
 #[derive(Drop)]
-pub struct Keeper<'a, R: Read + Drop> {
+pub struct Keeper<'a, R: Read + Drop, S: Store + Drop> {
     pub alloc: Global,
     /// The input; none before the first is opened.
-    pub input: &'a RefCell<Option<KeptInput<R>>>,
+    pub input: &'a RefCell<Option<KeptInput<R, S>>>,
     /// How many bytes are kept at most.
-    pub most: usize,
+    pub most: Bounds,
 }
 
-impl<'a, R: Read + Drop> Keeper<'a, R> {
-    /// A reader of this input, of which nothing is kept yet.
-    pub fn open(&self, reader: R) -> io::Result<SharedInput<'a, R>> {
+impl<'a, R: Read + Drop, S: Store + Drop> Keeper<'a, R, S> {
+    /// A reader of this input, of which nothing is kept yet, and a store for what memory is not to hold of it.
+    pub fn open(&self, reader: R, store: S) -> io::Result<SharedInput<'a, R, S>> {
+        let kept = KeptBytes::new(self.alloc, self.most, store);
         let mut input = self.input.try_borrow_mut()?;
-        *input = Some(KeptInput::new(self.alloc, reader, self.most));
+        *input = Some(KeptInput::new(reader, kept));
         Ok(SharedInput { input: self.input })
     }
 
@@ -228,7 +209,7 @@ impl<'a, R: Read + Drop> Keeper<'a, R> {
     }
 
     /// A reader of what was kept of the input, and of what is left of it. None where nothing was to be kept.
-    pub fn open_again(&self) -> io::Result<Option<SharedInput<'a, R>>> {
+    pub fn open_again(&self) -> io::Result<Option<SharedInput<'a, R, S>>> {
         let mut input = self.input.try_borrow_mut()?;
         match &mut *input {
             Some(input) => {

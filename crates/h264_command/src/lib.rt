@@ -19,5 +19,6 @@ mod more;
 mod outcome;
 pub mod program;
 mod reporting;
+pub mod storing;
 mod strictly;
 mod telling;

@@ -7,6 +7,7 @@ mod folders;
 mod output;
 mod progress;
 mod system;
+mod temporary;
 
 use h264_command::files::OpenedFiles;
 use h264_command::handing::SharedWriter;

@@ -75,7 +75,7 @@ pub fn is_link_of_the_system(rt: &HostRuntime, name: &str) -> bool {
     }
 }
 
-/// How many names are tried for a file that is not whole.
+/// How many names are tried for a new file.
 const MOST_NAMES: u32 = 1000;
 
 /// The folder of a name, with the slash after it; none where it has none.
@@ -86,24 +86,26 @@ fn folder_of(name: &str) -> &str {
     }
 }
 
-/// A new file beside a name, with its own name.
-fn new_beside(rt: &HostRuntime, name: &str) -> io::Result<(File, String)> {
+/// A new file in a folder, which ends with a slash, with its own name.
+pub fn new_in(rt: &HostRuntime, folder: &str, options: &OpenOptions) -> io::Result<(File, String)> {
     let alloc: Global = rt.alloc();
-    let folder = folder_of(name);
     let process = process::id(rt.process());
     for number in 0..MOST_NAMES {
         let path = format!(in alloc; "{folder}.h264v-{process}-{number}")?;
-        match OpenOptions::new()
-            .write(true)
-            .create_new(true)
-            .open(rt, path.as_str())
-        {
+        match options.open(rt, path.as_str()) {
             Ok(file) => return Ok((file, path)),
             Err(error) if error.kind() == ErrorKind::AlreadyExists => {}
             Err(error) => return Err(error),
         }
     }
     Err(io::Error::from(ErrorKind::AlreadyExists))
+}
+
+/// A new file beside a name, with its own name.
+fn new_beside(rt: &HostRuntime, name: &str) -> io::Result<(File, String)> {
+    let mut options = OpenOptions::new();
+    options.write(true).create_new(true);
+    new_in(rt, folder_of(name), &options)
 }
 
 /// What has this name now, where anything has.

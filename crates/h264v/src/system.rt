@@ -3,10 +3,12 @@
 
 use crate::folders::{below, names_of};
 use crate::output::{SystemOutput, is_link_of_the_system, make_output};
+use crate::temporary::TemporaryFile;
 use h264_command::files::{Maker, Opener};
 use h264_command::handing::{HandingReader, SharedWriter};
 use h264_command::keeping::{Keeper, KeptInput, SharedInput};
 use h264_command::lists::{Below, Lister};
+use h264_command::storing::Bounds;
 use h264_words::words::{Words, has_odd_byte, words_of};
 use std::alloc::Global;
 use std::cell::RefCell;
@@ -26,26 +28,36 @@ impl Words for SystemWords<'_> {
     }
 }
 
-/// How many bytes are kept at most of a file that the system gives once, as a pipe. A judgement of so many takes about a second.
-const MOST_KEPT: usize = 16 * 1024 * 1024;
+/// How many bytes are kept at most of a file that the system gives once, as a pipe. Those of the store are an hour of 9 Mbit/s.
+const MOST_KEPT: Bounds = Bounds {
+    memory: 16 * 1024 * 1024,
+    store: 4 * 1024 * 1024 * 1024,
+};
+
+/// A reader of the file that was opened last.
+type SystemInput<'a, 'r> = SharedInput<'a, File, TemporaryFile<'r>>;
 
 /// The file that was opened last, and what is kept of it.
-pub type Opened = RefCell<Option<KeptInput<File>>>;
+pub type Opened<'r> = RefCell<Option<KeptInput<File, TemporaryFile<'r>>>>;
 
 /// The files of the system. Each hands over what waits for standard output before it is read.
 #[derive(Drop)]
-pub struct SystemFiles<'a, W: Write + Drop> {
-    rt: &'a HostRuntime,
+pub struct SystemFiles<'a, 'r, W: Write + Drop> {
+    rt: &'r HostRuntime,
     /// Standard output.
     out: &'a RefCell<W>,
     /// The name that stands for standard input, where it has one of its own.
     input: RefCell<Option<String>>,
-    keeper: Keeper<'a, File>,
+    keeper: Keeper<'a, File, TemporaryFile<'r>>,
 }
 
-impl<'a, W: Write + Drop> SystemFiles<'a, W> {
+impl<'a, 'r, W: Write + Drop> SystemFiles<'a, 'r, W> {
     /// The files, and standard output.
-    pub fn new(rt: &'a HostRuntime, out: &'a RefCell<W>, opened: &'a Opened) -> SystemFiles<'a, W> {
+    pub fn new(
+        rt: &'r HostRuntime,
+        out: &'a RefCell<W>,
+        opened: &'a Opened<'r>,
+    ) -> SystemFiles<'a, 'r, W> {
         SystemFiles {
             rt,
             out,
@@ -59,10 +71,7 @@ impl<'a, W: Write + Drop> SystemFiles<'a, W> {
     }
 
     /// A reader of this input.
-    fn handing(
-        &self,
-        reader: SharedInput<'a, File>,
-    ) -> HandingReader<'a, SharedInput<'a, File>, W> {
+    fn handing(&self, reader: SystemInput<'a, 'r>) -> HandingReader<'a, SystemInput<'a, 'r>, W> {
         HandingReader {
             reader,
             out: SharedWriter { writer: self.out },
@@ -120,17 +129,17 @@ fn is_lasting_file(rt: &HostRuntime, name: &str) -> bool {
     }
 }
 
-impl<'a, W: Write + Drop> Opener for SystemFiles<'a, W> {
-    type File = HandingReader<'a, SharedInput<'a, File>, W>;
+impl<'a, 'r, W: Write + Drop> Opener for SystemFiles<'a, 'r, W> {
+    type File = HandingReader<'a, SystemInput<'a, 'r>, W>;
 
-    fn open(&mut self, name: &str) -> io::Result<HandingReader<'a, SharedInput<'a, File>, W>> {
+    fn open(&mut self, name: &str) -> io::Result<HandingReader<'a, SystemInput<'a, 'r>, W>> {
         let name = if self.names_input(name) {
             STANDARD_INPUT
         } else {
             name
         };
         let file = open_input(self.rt, name)?;
-        Ok(self.handing(self.keeper.open(file)?))
+        Ok(self.handing(self.keeper.open(file, TemporaryFile::new(self.rt))?))
     }
 
     fn keep(&self, name: &str) -> bool {
@@ -138,10 +147,7 @@ impl<'a, W: Write + Drop> Opener for SystemFiles<'a, W> {
         is_lasting || self.keeper.keep()
     }
 
-    fn open_again(
-        &mut self,
-        name: &str,
-    ) -> io::Result<HandingReader<'a, SharedInput<'a, File>, W>> {
+    fn open_again(&mut self, name: &str) -> io::Result<HandingReader<'a, SystemInput<'a, 'r>, W>> {
         match self.keeper.open_again()? {
             Some(reader) => Ok(self.handing(reader)),
             None => self.open(name),
@@ -153,7 +159,7 @@ impl<'a, W: Write + Drop> Opener for SystemFiles<'a, W> {
     }
 }
 
-impl<W: Write + Drop> Lister for SystemFiles<'_, W> {
+impl<W: Write + Drop> Lister for SystemFiles<'_, '_, W> {
     fn listed_in(&self, list: &str) -> io::Result<Vec<String>> {
         let name = if list == "-" { STANDARD_INPUT } else { list };
         let mut bytes: Vec<u8> = Vec::new(self.rt.alloc());
@@ -172,18 +178,18 @@ impl<W: Write + Drop> Lister for SystemFiles<'_, W> {
     }
 }
 
-impl<'a, W: Write + Drop> Maker for SystemFiles<'a, W> {
-    type Output = SystemOutput<'a>;
+impl<'r, W: Write + Drop> Maker for SystemFiles<'_, 'r, W> {
+    type Output = SystemOutput<'r>;
 
-    fn make(&mut self, name: &str) -> io::Result<SystemOutput<'a>> {
+    fn make(&mut self, name: &str) -> io::Result<SystemOutput<'r>> {
         make_output(self.rt, name)
     }
 
-    fn finish(&mut self, output: SystemOutput<'a>) -> io::Result<()> {
+    fn finish(&mut self, output: SystemOutput<'r>) -> io::Result<()> {
         output.finish()
     }
 
-    fn abandon(&mut self, output: SystemOutput<'a>) {
+    fn abandon(&mut self, output: SystemOutput<'r>) {
         output.abandon();
     }
 

@@ -28,6 +28,8 @@ mod pieces_tests;
 #[cfg(test)]
 mod set_tests;
 #[cfg(test)]
+mod stores;
+#[cfg(test)]
 mod target_tests;
 #[cfg(test)]
 mod tests;

@@ -5,11 +5,13 @@ use crate::check_tests::{RULES, SAMPLES, SLICE_DATA};
 use crate::frame_tests::{COMPUTED, CROPPED, FRAMES};
 use crate::header_tests::{MARKINGS, PICTURES};
 use crate::set_tests::{SETS_0, SETS_1, SETS_2, SETS_3};
+use crate::stores::{NOTHING, Queue, Storing};
 use crate::target_tests::{FOR_BASELINE, FOR_MAIN_IP};
 use h264_command::files::{Maker, OpenedFiles, Opener};
 use h264_command::keeping::{Keeper, SharedInput};
 use h264_command::lists::{Below, Lister};
 use h264_command::program::run_words;
+use h264_command::storing::Bounds;
 use h264_lines::{WriteDevice, shown};
 use h264_pages::survey::NoMeter;
 use h264_words::glob::is_match;
@@ -28,8 +30,10 @@ use std::test::Fail;
 pub struct Devices {
     /// How often the stream can be opened, where it can be read again.
     pub openings: Option<usize>,
-    /// How many of its bytes can be kept, where it can be read once and is kept.
+    /// How many of its bytes can be kept in memory, where it can be read once and is kept.
     pub most_kept: Option<usize>,
+    /// The store for what memory is not to hold.
+    pub storing: Storing,
     pub read_size: usize,
     /// The number of the opening in which a read fails.
     pub failing_opening: usize,
@@ -43,6 +47,7 @@ pub struct Devices {
 pub const WELL: Devices = Devices {
     openings: None,
     most_kept: None,
+    storing: NOTHING,
     read_size: usize::MAX,
     failing_opening: 0,
     failing_read: usize::MAX,
@@ -84,15 +89,15 @@ struct OneStream<'a, 'b> {
     devices: Devices,
     /// How often it was opened.
     opened: usize,
-    keeper: Keeper<'a, Pieces<'b>>,
+    keeper: Keeper<'a, Pieces<'b>, Queue>,
     /// The output that was finished.
     finished: &'a RefCell<Option<Vec<u8>>>,
 }
 
 impl<'a, 'b> Opener for OneStream<'a, 'b> {
-    type File = SharedInput<'a, Pieces<'b>>;
+    type File = SharedInput<'a, Pieces<'b>, Queue>;
 
-    fn open(&mut self, name: &str) -> io::Result<SharedInput<'a, Pieces<'b>>> {
+    fn open(&mut self, name: &str) -> io::Result<SharedInput<'a, Pieces<'b>, Queue>> {
         let opening = self.opened;
         self.opened = self.opened.saturating_add(1);
         let can_open = self.devices.openings.is_none_or(|most| opening < most);
@@ -100,7 +105,7 @@ impl<'a, 'b> Opener for OneStream<'a, 'b> {
             return Err(io::Error::from(ErrorKind::NotFound));
         }
         let fails = opening == self.devices.failing_opening;
-        self.keeper.open(Pieces {
+        let pieces = Pieces {
             rest: self.bytes,
             reads: 0,
             size: self.devices.read_size,
@@ -109,14 +114,16 @@ impl<'a, 'b> Opener for OneStream<'a, 'b> {
             } else {
                 usize::MAX
             },
-        })
+        };
+        let store = Queue::new(self.alloc, self.devices.storing);
+        self.keeper.open(pieces, store)
     }
 
     fn keep(&self, _name: &str) -> bool {
         self.devices.openings.is_some() || self.devices.most_kept.is_some() && self.keeper.keep()
     }
 
-    fn open_again(&mut self, name: &str) -> io::Result<SharedInput<'a, Pieces<'b>>> {
+    fn open_again(&mut self, name: &str) -> io::Result<SharedInput<'a, Pieces<'b>, Queue>> {
         match self.keeper.open_again()? {
             Some(reader) => Ok(reader),
             None => self.open(name),
@@ -273,7 +280,10 @@ fn run_over(alloc: Global, words: &[String], bytes: &[u8], devices: Devices) -> 
     let keeper = Keeper {
         alloc,
         input: &opened,
-        most: devices.most_kept.unwrap_or(0),
+        most: Bounds {
+            memory: devices.most_kept.unwrap_or(0),
+            store: devices.storing.most,
+        },
     };
     let mut files = OpenedFiles::new(OneStream {
         alloc,
