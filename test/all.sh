@@ -39,8 +39,8 @@ completes() {
 
 # Whether the program lists the labels that shells complete.
 lists_labels() {
-  "$work/h264v-quick" explain --all --json 2>/dev/null | sed 's/.*"label":"\([^"]*\)".*/\1/' >"$work/listed"
-  python3 -B -c 'import sys; sys.path.insert(0, "tools"); import words; print(*words.labels(), sep="\n")' | diff "$work/listed" -
+  "$work/h264v-quick" explain --all --json 2>/dev/null | sed 's/.*"label":"\([^"]*\)".*/\1/' | sort >"$work/listed"
+  python3 -B -c 'import sys; sys.path.insert(0, "tools"); import words; print(*words.labels(), sep="\n")' | sort | diff "$work/listed" -
 }
 
 step 'rules and their entries' tools/rules.py --check
@@ -60,7 +60,7 @@ step 'examples' test/examples.sh "$work/h264v-quick"
 # A processor that valgrind knows.
 step 'the plain library' env CPU=x86-64-v2 ./quick.sh --library "$work/prefix"
 step 'Python' env H264V_PROGRAM="$work/h264v-quick" python/test.sh "$work/prefix"
-step 'C' examples/c/run.sh "$work/prefix"
+step 'C' examples/c/run.sh --plain "$work/prefix"
 step 'C, Python and units beside the program' test/compare_library.py "$work/h264v-quick" "$work/prefix/lib/libh264v.so" samples
 echo "$passed passed, $failed failed"
 [ $failed = 0 ]

@@ -3,11 +3,14 @@
 # under valgrind. calls.c is the library's test: each function as the header says. It stands here, and not in crates/h264_c, since a
 # decoder's handle can be made by h264v_open alone: no code that is proved may make one of a pointer.
 #
-#   examples/c/run.sh [PREFIX]
+#   examples/c/run.sh [--plain] [PREFIX]
 #
-# PREFIX is where install.sh put the library, ~/.local where it is left out. test/compare_library.py compares frames with the
+# PREFIX is where install.sh put the library, ~/.local where it is left out. With --plain it is one that quick.sh put there, of which refused allocations
+# are not tried: Rust's own library keeps some blocks. test/compare_library.py compares frames with the
 # program's. Needs cc, pkg-config and valgrind.
 set -eu
+plain=
+[ "${1:-}" != --plain ] || { plain=--plain; shift; }
 prefix=${1:-$HOME/.local}
 here=$(cd "$(dirname "$0")" && pwd)
 samples=$here/../../samples
@@ -76,6 +79,10 @@ echo "four threads decoded at once, without a race"
 cc -std=c11 -O2 -I"$prefix/include" "$here/decode.c" "$prefix/lib/libh264v.a" -o "$work/decode-static"
 wants 0 "$work/decode-static" "$samples/one_frame.264"
 
+if [ -n "$plain" ]; then
+  echo "a plain build: refused allocations are not tried"
+  exit 0
+fi
 "$work/refusals-plain" "$samples/one_frame.264" "$samples/vector_too_long.264" || {
   echo "run.sh: a refused allocation is not answered as it should be" >&2
   exit 1
