@@ -9,7 +9,7 @@
 # An installation that was broken off goes on with the crate where it stopped: what was proved stays in ${XDG_CACHE_HOME:-~/.cache}/h264v-build until
 # all is installed.
 #
-# Needs the kit's rt on the path, python3, 8 GB of memory for each processor or two, and 3 GB of disk in that folder. JOBS=N sets how many
+# Needs the kit's rt on the path, python3, 8 GB of memory for each processor or two, and disk in that folder: 29 of the crates took 1.7 GB. JOBS=N sets how many
 # processors it takes, CPU=x86-64-v2 the processor that it builds for, BUILD=FOLDER the folder in which it makes h264v-build, and KEEP=1 leaves that one.
 # The library needs ar and cc.
 set -eu
