@@ -1,21 +1,21 @@
 #!/usr/bin/env python3
-"""wrong_bodies.py [--jobs N] [--alone] [--part K/N] [--stale REV] [FOLDER] [CRATE..]: tries the edits of wrong-bodies/CRATE/. Each has to be
+"""wrong_bodies.py [--jobs N] [--kept FOLDER] [--alone] [--part K/N] [--stale REV] [CRATE..]: tries the edits of wrong-bodies/CRATE/. Each has to be
 refused by the prover.
 
 Edits of functions that do not call one another are tried together, in one check of a copy of the crate. An edit is refused there where the check does
 not prove a function that the edit changes, and says so of that function itself: not because of one that it calls. Where that check does not tell, or
-the crate as it stands is not proved, the edit is tried alone, as the gate tries those of must-fail/. With --alone each is. With --part K/N, K from 1, it takes the K-th of N parts of a crate's batches, so that several
+the crate as it stands is not proved, the edit is tried alone. With --alone each is. With --part K/N, K from 1, it takes the K-th of N parts of a crate's batches, so that several
 runs share a large crate. Standard error is told of each batch when it is done.
 
-FOLDER is a folder with the repository's crates/ and what `rt all check` left in their out/; the repository itself where it is left out. With no CRATE it
-tries the edits of every crate that has some. It prints a line for each edit that is not refused, or only for a name in a proof or by a limit of the prover, and a count for each crate. Status 1 where an edit was not refused.
+Each check is one over the statements of the crates below, which FOLDER keeps (proof/check.py). With no CRATE it tries the edits of every crate that has some. It prints a line for each
+edit that is not refused, or only for a name in a proof or by a limit of the prover, and a count for each crate. Status 1 where an edit was not refused.
 
 With --stale REV nothing is proved. It names the edits that cannot be applied to the files as they are, since an old text does not stand there once, and
 those to be tried again, since something changed after REV: the edit, a function that it turns with its contract, or a file of the crate's specs/ that the
 function's file cites, also through others of that crate. Definitions of lower crates are not looked at. Status 1 where an edit cannot be applied.
 """
 import argparse
-import os
+import enum
 import pathlib
 import re
 import shutil
@@ -24,17 +24,28 @@ import sys
 import tempfile
 import time
 
+from check import STATEMENTS, Checks
+
 TOP = pathlib.Path(__file__).resolve().parent.parent
 FUNCTION = re.compile(r"^( *)(?:pub(?:\([a-z]+\))? )?(?:const )?(?:unsafe )?(?:extern \"C\" )?fn (\w+)")
 CALLED = re.compile(r"\b([a-z_]\w*)(?:::<[^()]*>)?\(")
+WORK = pathlib.Path("out", "checked")
 # what a check says of a function, and of a line of a function's proof
 OF_FUNCTION = re.compile(r"(?m)^(?:so far: )?fn \w+::([\w:<>+' ]*?): (not proved|no proof)(.*)$")
 OF_PROOF = re.compile(r"(?m)^(?:so far: )?(?:\./)?proofs/(\S+)/\w+\.antt:\d+:\d+: error(.*)$")
 OF_NAME = re.compile(r"has no field|is not in scope|has no `|was not admitted")
 # what is wrong with the text itself, of which no contract says anything
-OF_TEXT = re.compile(r"(?m)^(?:so far: )?(?:\./)?(?:src|specs)/\S+:\d+:\d+: error|\berror\[[\w-]+\]|[Rr]un the lower steps again")
-REFUSED = "refused, as it must be"
-FOR_A_NAME = f"{REFUSED} (only because"
+OF_TEXT = re.compile(r"(?m)^(?:so far: )?(?:\./)?(?:src|specs)/\S+:\d+:\d+: error|\berror\[[\w-]+\]")
+
+
+class Told(enum.Enum):
+    """What a check says of an edit."""
+
+    REFUSED = "refused"
+    FOR_A_NAME = "refused only for a name in a proof"
+    PROVED = "NOT REFUSED: it is proved"
+    UNREAD = "BAD EDIT: the new text does not compile"
+    UNKNOWN = "NOT TRIED: the check came to no verdict"
 
 
 class Edit:
@@ -129,26 +140,26 @@ def batches_of(edits, sources):
     return [[edit for edit, _, _ in batch] for batch in batches]
 
 
-def copied(folder, crate, room):
-    """A copy of the crates in which this one may change: the other files are links."""
-    linked = subprocess.run(["cp", "-al", folder / "crates", room / "crates"], stderr=subprocess.DEVNULL)
+def copied(crate, room):
+    """A copy of a crate that may change, with what its check kept."""
+    place, source = room / crate, TOP / "crates" / crate
+    for part in ("src", "specs", "proofs"):
+        if (source / part).is_dir():
+            shutil.copytree(source / part, place / part)
+    work = place / WORK
+    work.parent.mkdir()
+    linked = subprocess.run(["cp", "-al", source / WORK, work], stderr=subprocess.DEVNULL)
     if linked.returncode:
-        # The two lie on different disks, or a check writes there meanwhile.
-        shutil.rmtree(room / "crates", ignore_errors=True)
-        subprocess.run(["cp", "-a", folder / "crates", room], check=True)
-    for name in ("crates.txt", "HANDLES"):
-        shutil.copy(folder / name, room / name)
-    for part in ("src", "specs", "proofs", "must-fail"):
-        shutil.rmtree(room / "crates" / crate / part, ignore_errors=True)
-        if (folder / "crates" / crate / part).is_dir():
-            shutil.copytree(folder / "crates" / crate / part, room / "crates" / crate / part)
+        # The two lie on different disks.
+        shutil.rmtree(work, ignore_errors=True)
+        shutil.copytree(source / WORK, work)
     # A check replaces what it keeps, and writes into these alone.
-    for file in (room / "crates" / crate / "out").rglob("*"):
+    for file in work.rglob("*"):
         if file.is_file() and file.suffix != ".oantt":
             data = file.read_bytes()
             file.unlink()
             file.write_bytes(data)
-    return room / "crates" / crate
+    return place
 
 
 def edited(text, pairs):
@@ -158,6 +169,13 @@ def edited(text, pairs):
         parts += [text[at:start], new]
         at = start + len(old)
     return "".join(parts) + text[at:]
+
+
+def edited_in_turn(text, pairs):
+    """A text in which each old text gives way to a new one, in what the pairs before made."""
+    for old, new in pairs:
+        text = text.replace(old, new, 1)
+    return text
 
 
 def is_path_of(path, function):
@@ -182,26 +200,38 @@ def said_of(text):
     return own, beyond_names
 
 
-def checked(place, jobs):
-    """A check of a crate."""
-    return subprocess.run(["rt", "check", "--jobs", jobs], cwd=place, stdout=subprocess.PIPE, stderr=subprocess.STDOUT, text=True, errors="replace")
+def checked(checks, crate, place):
+    """A check of a crate as it stands in a folder."""
+    work = place / WORK
+    work.mkdir(parents=True, exist_ok=True)
+    return subprocess.run(checks.command(crate, work), cwd=place, stdout=subprocess.PIPE, stderr=subprocess.STDOUT, text=True, errors="replace")
 
 
-def is_proved(folder, crate, jobs):
+def checked_with(checks, crate, edits, sources):
+    """A check of a copy of a crate with some edits, whose texts do not meet."""
+    with tempfile.TemporaryDirectory(prefix="wrong-bodies-") as room:
+        place = copied(crate, pathlib.Path(room))
+        for file in {file for edit in edits for file, _, _ in edit.pairs}:
+            pairs = [(old, new) for edit in edits for name, old, new in edit.pairs if name == file]
+            text = (place / file).read_text()
+            (place / file).write_text(edited(text, pairs) if len(edits) > 1 else edited_in_turn(text, pairs))
+        return checked(checks, crate, place)
+
+
+def is_proved(checks, crate):
     """Whether the crate as it stands is proved."""
-    with tempfile.TemporaryDirectory(prefix="wrong-bodies-") as room:
-        return not checked(copied(folder, crate, pathlib.Path(room)), jobs).returncode
+    return checks.below(crate) and not checked(checks, crate, TOP / "crates" / crate).returncode
 
 
-def told_together(folder, crate, batch, sources, jobs):
+def is_verdict(ran):
+    """Whether a check read the text and says that it is not proved."""
+    return ran.returncode == 1 and "logic=not-proved" in ran.stdout and not OF_TEXT.search(ran.stdout)
+
+
+def told_together(checks, crate, batch, sources):
     """Tries edits together: those that are refused, and of these the ones that are refused for a name alone."""
-    with tempfile.TemporaryDirectory(prefix="wrong-bodies-") as room:
-        place = copied(folder, crate, pathlib.Path(room))
-        for file in {file for edit in batch for file, _, _ in edit.pairs}:
-            pairs = [(old, new) for edit in batch for name, old, new in edit.pairs if name == file]
-            (place / file).write_text(edited(sources.texts[file], pairs))
-        ran = checked(place, jobs)
-    if ran.returncode != 1 or "logic=not-proved" not in ran.stdout or OF_TEXT.search(ran.stdout):
+    ran = checked_with(checks, crate, batch, sources)
+    if not is_verdict(ran):
         return [], []
     own, beyond_names = said_of(ran.stdout)
     refused = [it for it in batch if any(is_path_of(path, function) for path in own for function in it.functions)]
@@ -209,17 +239,19 @@ def told_together(folder, crate, batch, sources, jobs):
     return refused, named
 
 
-def told_alone(folder, crate, edits):
-    """Tries edits one by one with `rt must-fail`, and gives its line for each, by the edit's name."""
-    with tempfile.TemporaryDirectory(prefix="wrong-bodies-") as room:
-        place = copied(folder, crate, pathlib.Path(room))
-        shutil.rmtree(place / "must-fail", ignore_errors=True)
-        (place / "must-fail").mkdir()
-        for edit in edits:
-            shutil.copy(edit.path, place / "must-fail")
-        ran = subprocess.run(["rt", "must-fail", crate], cwd=room, stdout=subprocess.PIPE, stderr=subprocess.STDOUT, text=True, errors="replace")
-    lines = re.findall(rf"must-fail {crate}/(\S+)\.edit: (.*)", ran.stdout)
-    return dict(lines)
+def told_alone(checks, crate, edit, sources):
+    """What a check says of one edit."""
+    if why_not_applied(edit, sources):
+        return Told.UNREAD
+    ran = checked_with(checks, crate, [edit], sources)
+    if ran.returncode == 0:
+        return Told.PROVED
+    if OF_TEXT.search(ran.stdout):
+        return Told.UNREAD
+    own, beyond_names = said_of(ran.stdout)
+    if not is_verdict(ran) or not own:
+        return Told.UNKNOWN
+    return Told.REFUSED if own & beyond_names else Told.FOR_A_NAME
 
 
 def part_of(edits, sources, is_together, part):
@@ -230,31 +262,29 @@ def part_of(edits, sources, is_together, part):
     return alone[which - 1 :: parts], batches[which - 1 :: parts]
 
 
-def tried(folder, crate, asked):
+def tried(checks, crate, asked):
     """Tries the edits of a crate: how many there are, how many were refused, and how many of these only for a name."""
-    began, jobs = time.time(), asked.jobs
-    sources = Sources(folder / "crates" / crate)
+    began, sources = time.time(), Sources(TOP / "crates" / crate)
     edits = [Edit(it, sources) for it in sorted((TOP / "wrong-bodies" / crate).glob("*.edit"))]
-    alone, batches = part_of(edits, sources, not asked.alone and is_proved(folder, crate, jobs), asked.part)
+    alone, batches = part_of(edits, sources, is_proved(checks, crate) and not asked.alone, asked.part)
     edits = [*alone, *(edit for batch in batches for edit in batch)]
     refused, named = set(), set()
     for at, batch in enumerate(batches, 1):
-        some, by_name = told_together(folder, crate, batch, sources, jobs)
+        some, by_name = told_together(checks, crate, batch, sources)
         refused |= {it.name for it in some}
         named |= {it.name for it in by_name}
         print(f"{crate}: batch {at} of {len(batches)}: {len(some)} of {len(batch)} refused", file=sys.stderr, flush=True)
     left = [it for it in edits if it.name not in refused]
-    told = told_alone(folder, crate, left) if left else {}
     for edit in left:
-        line = told.get(edit.name, "NOT TRIED")
-        if line.startswith(REFUSED):
+        told = told_alone(checks, crate, edit, sources)
+        if told in (Told.REFUSED, Told.FOR_A_NAME):
             refused.add(edit.name)
-        if line.startswith(FOR_A_NAME):
+        if told is Told.FOR_A_NAME:
             named.add(edit.name)
-        elif not line.startswith(REFUSED) or line.startswith(f"{REFUSED} (only"):
-            print(f"{crate}/{edit.name}: {line[:200]}", flush=True)
+        elif told is not Told.REFUSED:
+            print(f"{crate}/{edit.name}: {told.value}", flush=True)
     for name in sorted(named):
-        print(f"{crate}/{name}: refused only for a name in a proof", flush=True)
+        print(f"{crate}/{name}: {Told.FOR_A_NAME.value}", flush=True)
     seconds = time.time() - began
     print(f"{crate}: {len(edits)} edits, {len(left)} tried alone; {len(refused)} refused, {len(named)} only for a name; {seconds:.0f} s", flush=True)
     return len(edits), len(refused), len(named)
@@ -337,23 +367,21 @@ def stale(crates, revision):
 
 def main():
     words = argparse.ArgumentParser(description=__doc__, formatter_class=argparse.RawDescriptionHelpFormatter)
-    words.add_argument("--jobs", default="1", help="how many functions a check proves at once")
+    words.add_argument("--jobs", type=int, default=1, help="how many functions a check proves at once")
+    words.add_argument("--kept", default=STATEMENTS, metavar="FOLDER", help="where the statements of crates are kept")
     words.add_argument("--alone", action="store_true", help="each edit in a check of its own")
     words.add_argument("--part", default="1/1", metavar="K/N", help="the K-th of N parts of each crate's edits")
     words.add_argument("--stale", metavar="REV", help="proves nothing, and names the edits that a change since REV made stale")
-    words.add_argument("names", nargs="*", metavar="FOLDER or CRATE")
+    words.add_argument("crates", nargs="*", metavar="CRATE")
     asked = words.parse_args()
-    folders = [it for it in asked.names if os.path.isdir(f"{it}/crates")]
-    crates = [it for it in asked.names if it not in folders] or sorted(it.name for it in (TOP / "wrong-bodies").iterdir() if it.is_dir())
-    if len(folders) > 1:
-        sys.exit(f"one folder at a time: {' '.join(folders)}")
-    folder = pathlib.Path(folders[0]).resolve() if folders else TOP
-    unknown = [it for it in crates if not (TOP / "wrong-bodies" / it).is_dir() or not (folder / "crates" / it).is_dir()]
+    crates = asked.crates or sorted(it.name for it in (TOP / "wrong-bodies").iterdir() if it.is_dir())
+    unknown = [it for it in crates if not (TOP / "wrong-bodies" / it).is_dir() or not (TOP / "crates" / it).is_dir()]
     if unknown:
         sys.exit(f"no crate with wrong bodies: {unknown[0]}")
     if asked.stale:
         sys.exit(stale(crates, asked.stale) != 0)
-    counts = [tried(folder, it, asked) for it in crates]
+    checks = Checks(asked.kept, asked.jobs)
+    counts = [tried(checks, it, asked) for it in crates]
     edits, refused, named = (sum(it) for it in zip(*counts))
     print(f"{edits} tried, {refused} refused ({named} of them only for a name in a proof), {edits - refused} not")
     sys.exit(edits != refused)
