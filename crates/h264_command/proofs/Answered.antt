@@ -14,12 +14,12 @@ use Rattle.h264_lines.specs.declared.reading.Reading.{Reading}
 use Rattle.h264_pages.specs.Surveyed.{HasSurveyed, IsTold, nothing_told}
 use Rattle.h264_pages.specs.declared.survey.notes.Survey.{Survey}
 use Rattle.h264_pages.specs.declared.survey.surveyed.Surveyed.{Surveyed}
-use Rattle.h264_verify.proofs.AccountTaken.{accounts}
+use Rattle.h264_verify.proofs.laws.AccountTaken.{accounts}
 use Rattle.h264_report.proofs.Accounts.{of-bytes, of-map}
 use Rattle.h264_pages.proofs.Surveying.{none-surveyed}
 use Rattle.h264_verify.specs.Modes.{purpose_for}
 use Rattle.h264_verify.specs.Telling.{Family, IsFamilyFor}
-use Rattle.h264_verify.proofs.FamiliesByPurpose.{with-family}
+use Rattle.h264_verify.proofs.samples.FamiliesByPurpose.{with-family}
 use Rattle.h264_verify.specs.Units.{terms_of}
 use Rattle.h264_verify.specs.Verdict.{Judged}
 use Rattle.h264_base.specs.declared.summary.Summary.{Summary}

@@ -7,7 +7,7 @@ use Rattle.h264_base.specs.declared.mode.Mode.{Mode}
 use Rattle.h264_base.specs.declared.mode.Target.{Target}
 use Rattle.h264_base.specs.declared.stop.Stop.{Stop}
 use Rattle.h264_base.specs.declared.stop.Stop.TheVariants.{No, Outside, Memory, Read, Write}
-use Rattle.h264_verify.proofs.AccountTaken.{accounts}
+use Rattle.h264_verify.proofs.laws.AccountTaken.{accounts}
 use Rattle.h264_strict.specs.Strict.{TookStrict}
 use Rattle.h264_strict.specs.StrictUnits.{TellsOfBytes}
 use Rattle.h264_lines.specs.Answer.{told_of}

@@ -25,8 +25,8 @@ use Rattle.h264_base.specs.declared.summary.Summary.{Summary}
 use Rattle.h264_verify.specs.declared.state.Terms.{Terms}
 use Rattle.h264_verify.specs.Units.{terms_of, extent_by}
 use Rattle.h264_verify.specs.Telling.{Family}
-use Rattle.h264_verify.proofs.OneVerdict.{none-judged}
-use Rattle.h264_verify.proofs.AccountTaken.{accounts, front-of}
+use Rattle.h264_verify.proofs.laws.OneVerdict.{none-judged}
+use Rattle.h264_verify.proofs.laws.AccountTaken.{accounts, front-of}
 
 -- ---- with another answer
 

@@ -12,8 +12,8 @@ use Rattle.h264_verify.specs.Telling.{Told, Family, AreDecoded, took_with}
 use Rattle.h264_verify.specs.Verdict.{Judged}
 use Rattle.h264_base.specs.declared.summary.Summary.{Summary}
 use Rattle.h264_verify.specs.declared.state.Terms.{Terms}
-use Rattle.h264_verify.proofs.FamiliesByPurpose.{some-family, some-family-for}
-use Rattle.h264_verify.proofs.OneVerdict.{none-judged}
+use Rattle.h264_verify.proofs.samples.FamiliesByPurpose.{some-family, some-family-for}
+use Rattle.h264_verify.proofs.laws.OneVerdict.{none-judged}
 
 pub none-account : (terms : Terms) (bytes : List ℕ) → Account terms bytes (Err Memory)
 none-account terms bytes =

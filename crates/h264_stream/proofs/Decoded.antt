@@ -10,7 +10,7 @@ use Rattle.h264_verify.specs.Account.{Answers, Account, calls_in}
 use Rattle.h264_lines.specs.Answer.{told_of}
 use Rattle.h264_stream.specs.declared.queue.ShownFrame.{ShownFrame}
 use Rattle.h264_stream.proofs.Queued.{waits-begun, waits-taken, waits-filled}
-use Rattle.h264_verify.proofs.FamiliesAgree.{calls-both, decoded-both}
+use Rattle.h264_verify.proofs.samples.FamiliesAgree.{calls-both, decoded-both}
 use Rattle.h264_verify.specs.Feeding.{WasFed, IsFed}
 use Rattle.h264_verify.specs.Progress.{Progress}
 use Rattle.h264_verify.specs.Telling.{Told, Tells, Family, IsFamilyFor, took_with, calls_of, AreDecoded}
@@ -18,8 +18,8 @@ use Rattle.h264_verify.specs.Verdict.{Judged, JudgedBy}
 use Rattle.h264_base.specs.declared.summary.Summary.{Summary}
 use Rattle.h264_verify.specs.declared.state.Terms.{Terms}
 use Rattle.h264_verify.specs.Units.{extent_by}
-use Rattle.h264_verify.proofs.AccountTaken.{taken}
-use Rattle.h264_verify.proofs.FamiliesByPurpose.{some-family, with-family}
+use Rattle.h264_verify.proofs.laws.AccountTaken.{taken}
+use Rattle.h264_verify.proofs.samples.FamiliesByPurpose.{some-family, with-family}
 
 -- A sink that had taken nothing took some more of a stream.
 record Took {S : Type 0} (took : S → List Call → Type 0) (frames : Family) (s' : S) (more : List Told) : Type 0 where

@@ -92,7 +92,7 @@ impl Decoder {
     }
 
     /// Room for the pictures of a sequence; another format comes with an IDR picture alone, and takes memory. Memory: it was refused.
-    #[tactic(auto, using(crate::proofs::ReadsData::usable_size))]
+    #[tactic(auto, using(crate::proofs::samples::ReadsData::usable_size))]
     fn activate(&mut self, alloc: Global, sps: &Sps) -> Result<(), Stop>
         requires { is_usable sps.now ≡ true }
         ensures room { HasFormat self.old.format self.old.work → OnOk result (IsRoomFor (format_of sps.now) self.new.work) }

@@ -1,9 +1,9 @@
 use Rattle.std.proofs.Common.{refl}
-use Rattle.h264_verify.proofs.AccountTaken.{accounts}
+use Rattle.h264_verify.proofs.laws.AccountTaken.{accounts}
 use Rattle.h264_pages.proofs.Surveying.{none-surveyed}
 use Rattle.h264_verify.specs.Account.{calls_in}
 use Rattle.h264_verify.specs.Modes.{purpose_for}
-use Rattle.h264_verify.proofs.FamiliesByPurpose.{with-family}
+use Rattle.h264_verify.proofs.samples.FamiliesByPurpose.{with-family}
 use Rattle.h264_command.proofs.Answered.{answered, survey-of, surveyed-calls}
 use Rattle.h264_command.proofs.job.judge.Goals as goal
 

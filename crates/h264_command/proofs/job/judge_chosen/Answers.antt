@@ -1,9 +1,9 @@
 use Rattle.std.proofs.Common.{◌∙◌}
-use Rattle.h264_verify.proofs.AccountTaken.{accounts}
+use Rattle.h264_verify.proofs.laws.AccountTaken.{accounts}
 use Rattle.h264_lines.specs.Chosen.{pending_call}
 use Rattle.h264_verify.specs.Account.{calls_in}
 use Rattle.h264_verify.specs.Modes.{purpose_for}
-use Rattle.h264_verify.proofs.FamiliesByPurpose.{with-family}
+use Rattle.h264_verify.proofs.samples.FamiliesByPurpose.{with-family}
 use Rattle.h264_command.proofs.Texts.{left-some}
 use Rattle.h264_command.proofs.Answered.{answered, chosen-calls, fresh-of, took-calls}
 use Rattle.h264_command.proofs.job.judge_chosen.Goals as goal

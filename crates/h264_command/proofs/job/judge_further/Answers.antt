@@ -5,7 +5,7 @@ use Rattle.h264_strict.specs.declared.strict_units.UnitsRead.{UnitsRead}
 use Rattle.h264_strict.specs.Strict.{TookStrict}
 use Rattle.h264_strict.specs.declared.strict_sink.StrictSink.{StrictSink}
 use Rattle.h264_verify.specs.Modes.{purpose_for}
-use Rattle.h264_verify.proofs.FamiliesByPurpose.{with-family}
+use Rattle.h264_verify.proofs.samples.FamiliesByPurpose.{with-family}
 use Rattle.h264_command.specs.Files.{left_of}
 use Rattle.h264_words.specs.Words.{mode_of}
 use Rattle.h264_command.proofs.Answered.{answered, survey-of, surveyed-calls}

@@ -1,5 +1,5 @@
 use Rattle.std.proofs.Common.{None}
-use Rattle.h264_verify.proofs.AccountTaken.{accounts}
+use Rattle.h264_verify.proofs.laws.AccountTaken.{accounts}
 use Rattle.h264_report.proofs.Accounts.{of-bytes}
 use Rattle.h264_report.proofs.judging.judge_unnoted.Goals as goal
 

@@ -3,8 +3,8 @@ use Rattle.h264_lines.specs.Objects.{opening_of}
 use Rattle.h264_lines.specs.Told.{lines_of}
 use Rattle.h264_lines.specs.Answer.{told_of}
 use Rattle.h264_verify.specs.Modes.{purpose_for}
-use Rattle.h264_verify.proofs.AccountTaken.{accounts}
-use Rattle.h264_verify.proofs.FamiliesByPurpose.{with-family}
+use Rattle.h264_verify.proofs.laws.AccountTaken.{accounts}
+use Rattle.h264_verify.proofs.samples.FamiliesByPurpose.{with-family}
 use Rattle.h264_report.proofs.Accounts.{writes, write-failed, none-failed, read-told, still-told, of-listing, none-lines}
 use Rattle.h264_report.proofs.judging.run_lines.Goals as goal
 

@@ -1,7 +1,7 @@
 use Rattle.std.proofs.Common.{◌≡◌, ◌+◌, [], Err, sym, ap, arith}
 use Rattle.h264_verify.specs.Units.{terms_of}
 use Rattle.h264_verify.specs.Modes.{purpose_for}
-use Rattle.h264_verify.proofs.FamiliesByPurpose.{some-family, with-family}
+use Rattle.h264_verify.proofs.samples.FamiliesByPurpose.{some-family, with-family}
 use Rattle.h264_stream.proofs.Accounting.{none-account, stopped-account, fed-account}
 use Rattle.h264_stream.proofs.Decoded.{same-stop}
 use Rattle.h264_stream.proofs.whole.judge_bytes.Goals as goal

@@ -1,7 +1,7 @@
 use Rattle.std.proofs.lemmas.Result.{err_from_is_err_and}
 use Rattle.h264_verify.specs.Order.{closing_demands, whole_steps, close_steps}
-use Rattle.h264_verify.proofs.FamiliesAgree.{agree-none}
-use Rattle.h264_verify.proofs.Played.{begins, answered, refused, met, unmet, last}
+use Rattle.h264_verify.proofs.samples.FamiliesAgree.{agree-none}
+use Rattle.h264_verify.proofs.language.Played.{begins, answered, refused, met, unmet, last}
 use Rattle.h264_verify.proofs.close.close.Goals as goal
 use Rattle.h264_base.proofs.Plain.{on-ok}
 

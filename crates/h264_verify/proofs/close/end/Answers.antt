@@ -1,5 +1,5 @@
 use Rattle.std.proofs.Common.{◌∙◌, refl}
-use Rattle.h264_verify.proofs.PictureEndRules.{closing-judged, closing-held, closed-slices, none-closed}
+use Rattle.h264_verify.proofs.judged.PictureEndRules.{closing-judged, closing-held, closed-slices, none-closed}
 use Rattle.h264_verify.proofs.close.end.Goals as goal
 
 pub returns-in-None-clause-ended : goal.returns-in-None-clause-ended

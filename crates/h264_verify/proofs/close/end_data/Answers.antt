@@ -2,9 +2,9 @@ use Rattle.std.proofs.Common.{true, ◌∙◌}
 use Rattle.h264_base.specs.declared.rule.Rule.TheVariants.{Incomplete}
 use Rattle.h264_base.specs.declared.stop.Stop.TheVariants.{No}
 use Rattle.h264_verify.specs.Pictures.{goes_on, runs_of}
-use Rattle.h264_verify.proofs.HoldsCoded.{checked-outcome, whole-outcome, none-whole}
-use Rattle.h264_verify.proofs.KeepsOutput.{coded-by}
-use Rattle.h264_verify.proofs.WhereMade.{some-made, none-made, quiet-whole}
+use Rattle.h264_verify.proofs.kept.HoldsCoded.{checked-outcome, whole-outcome, none-whole}
+use Rattle.h264_verify.proofs.kept.KeepsOutput.{coded-by}
+use Rattle.h264_verify.proofs.kept.WhereMade.{some-made, none-made, quiet-whole}
 use Rattle.h264_verify.proofs.close.end_data.Goals as goal
 
 pub returns-in_default-clause-judged : goal.returns-in_default-clause-judged

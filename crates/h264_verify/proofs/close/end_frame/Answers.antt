@@ -1,7 +1,7 @@
 use Rattle.std.proofs.Common.{true}
 use Rattle.h264_verify.specs.Pictures.{goes_on, runs_of}
-use Rattle.h264_verify.proofs.EndsFrames.{is-open, some-end, ends-open, held-end, few-end, none-ends, keeps-open, is-whole, quiet-ends}
-use Rattle.h264_verify.proofs.WhereMade.{some-made, none-made}
+use Rattle.h264_verify.proofs.samples.EndsFrames.{is-open, some-end, ends-open, held-end, few-end, none-ends, keeps-open, is-whole, quiet-ends}
+use Rattle.h264_verify.proofs.kept.WhereMade.{some-made, none-made}
 use Rattle.h264_verify.proofs.close.end_frame.Goals as goal
 
 pub end-requires-clause-few : goal.end-requires-clause-few

@@ -1,4 +1,4 @@
-use Rattle.h264_verify.proofs.BeginsFrames.{goes-on, begins-now}
+use Rattle.h264_verify.proofs.samples.BeginsFrames.{goes-on, begins-now}
 use Rattle.h264_verify.proofs.data.begin_if.Goals as goal
 
 pub returns-then-not-begins-clause-holds : goal.returns-then-not-begins-clause-holds

@@ -8,10 +8,10 @@ use Rattle.h264_verify.specs.Telling.{frame_span}
 use Rattle.h264_verify.specs.Pictures.{joined_to}
 use Rattle.h264_verify.specs.Framing.{ReadsData}
 use Rattle.h264_verify.specs.CourseOutcome.{structure_from}
-use Rattle.h264_verify.proofs.OutcomesPlayed.{memory-plays}
-use Rattle.h264_verify.proofs.KeepsOutput.{enters-some}
-use Rattle.h264_verify.proofs.NamedPlaces.{slices-some}
-use Rattle.h264_verify.proofs.ReadsData.{context-is, filter-is, weights-are, read-after, data-same}
+use Rattle.h264_verify.proofs.language.OutcomesPlayed.{memory-plays}
+use Rattle.h264_verify.proofs.kept.KeepsOutput.{enters-some}
+use Rattle.h264_verify.proofs.samples.NamedPlaces.{slices-some}
+use Rattle.h264_verify.proofs.samples.ReadsData.{context-is, filter-is, weights-are, read-after, data-same}
 use Rattle.h264_verify.proofs.data.read_data.Goals as goal
 
 pub begin_if-requires-clause-kept : goal.begin_if-requires-clause-kept

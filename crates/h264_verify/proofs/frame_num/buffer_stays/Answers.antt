@@ -1,5 +1,5 @@
-use Rattle.h264_verify.proofs.WhereMade.{some-made, none-made}
-use Rattle.h264_verify.proofs.MissingUntold.{full-stays, quiet-stays}
+use Rattle.h264_verify.proofs.kept.WhereMade.{some-made, none-made}
+use Rattle.h264_verify.proofs.judged.MissingUntold.{full-stays, quiet-stays}
 use Rattle.h264_verify.proofs.frame_num.buffer_stays.Goals as goal
 
 pub returns-in-None : goal.returns-in-None

@@ -15,9 +15,9 @@ use Rattle.h264_verify.specs.Outcome.{Plays}
 use Rattle.h264_verify.specs.CourseOutcome.{outcome_of}
 use Rattle.h264_verify.specs.Order.{gap_rules}
 use Rattle.h264_verify.specs.Keeping.{WhereMade, FillsFrames, slice_at}
-use Rattle.h264_verify.proofs.OutcomesPlayed.{err-as}
-use Rattle.h264_verify.proofs.MissingNumbers.{new-filled}
-use Rattle.h264_verify.proofs.Played.{begins, met, unmet, played, stops, rules-last}
+use Rattle.h264_verify.proofs.language.OutcomesPlayed.{err-as}
+use Rattle.h264_verify.proofs.judged.MissingNumbers.{new-filled}
+use Rattle.h264_verify.proofs.language.Played.{begins, met, unmet, played, stops, rules-last}
 use Rattle.h264_verify.proofs.frame_num.check_gap.Given.{Over}
 use Rattle.h264_verify.proofs.frame_num.check_gap.Goals.{In_ok-last}
 use Rattle.h264_verify.proofs.frame_num.check_gap.Goals as goal

@@ -2,10 +2,10 @@ use Rattle.std.proofs.Common.{◌≡◌, ◌∙◌, ◌-◌, ◌<◌, sym, refl,
 use Rattle.std.proofs.lemmas.Result.{err_from_is_err_and}
 use Rattle.h264_marking.proofs.Filling.{Filled, filled-some, filled-none, filled-first, filled-next, filled-last}
 use Rattle.h264_marking.proofs.Moving.{last-within, last-after}
-use Rattle.h264_verify.proofs.WhereMade.{places-down}
-use Rattle.h264_verify.proofs.MissingNumbers.{some-missing, some-gap, fills-first, fills-more, fills-whole, fills-refused, fills-stopped, fills-next}
-use Rattle.h264_verify.proofs.MissingNumbers.{fills-last, fills-kept}
-use Rattle.h264_verify.proofs.MissingUntold.{fills-skipped}
+use Rattle.h264_verify.proofs.kept.WhereMade.{places-down}
+use Rattle.h264_verify.proofs.judged.MissingNumbers.{some-missing, some-gap, fills-first, fills-more, fills-whole, fills-refused, fills-stopped, fills-next}
+use Rattle.h264_verify.proofs.judged.MissingNumbers.{fills-last, fills-kept}
+use Rattle.h264_verify.proofs.judged.MissingUntold.{fills-skipped}
 use Rattle.h264_verify.proofs.frame_num.fill_frames.Goals as goal
 
 pub loop-turn-init : goal.loop-turn-init

@@ -4,7 +4,7 @@ use Rattle.h264_dpb.specs.Turns.{Turn}
 use Rattle.h264_marking.proofs.Filling.{Filled}
 use Rattle.h264_marking.specs.Frames.{frame_places}
 use Rattle.h264_verify.specs.Keeping.{WhereMade, FillsFrames, HasPlaces, format_in}
-use Rattle.h264_verify.proofs.MissingNumbers.{Fills}
+use Rattle.h264_verify.proofs.judged.MissingNumbers.{Fills}
 use Rattle.h264_verify.proofs.frame_num.fill_frames.Given as goal
 use Rattle.h264_verify.specs.Telling.{Family}
 

@@ -3,9 +3,9 @@ use Rattle.h264_dpb.specs.Kept.{size_of}
 use Rattle.h264_header.proofs.Entries.{where-ok}
 use Rattle.h264_verify.specs.declared.decoder.Decoder.{Decoder}
 use Rattle.h264_verify.specs.Keeping.{HasPlaces, format_in}
-use Rattle.h264_verify.proofs.WhereMade.{some-made, none-made, quiet-made, full-made, quiet-told}
-use Rattle.h264_verify.proofs.FillsFrames.{some-filled}
-use Rattle.h264_verify.proofs.OutcomesPlayed.{gives-plays}
+use Rattle.h264_verify.proofs.kept.WhereMade.{some-made, none-made, quiet-made, full-made, quiet-told}
+use Rattle.h264_verify.proofs.samples.FillsFrames.{some-filled}
+use Rattle.h264_verify.proofs.language.OutcomesPlayed.{gives-plays}
 use Rattle.h264_verify.proofs.frame_num.miss.Goals as goal
 
 pub miss-requires-clause-few : goal.miss-requires-clause-few

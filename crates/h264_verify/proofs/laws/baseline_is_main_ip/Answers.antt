@@ -1,5 +1,5 @@
 use Rattle.h264_verify.specs.Modes.{depth_of}
-use Rattle.h264_verify.proofs.BaselineIsMainIp.{holds-follows}
+use Rattle.h264_verify.proofs.laws.BaselineIsMainIp.{holds-follows}
 use Rattle.h264_verify.proofs.laws.baseline_is_main_ip.Goals as goal
 
 pub returns : goal.returns

@@ -1,5 +1,5 @@
-use Rattle.h264_verify.proofs.DecodablePictures.{legal-decodes, legal-ends, whole-decodable}
-use Rattle.h264_verify.proofs.WithinAtEnds.{told-ends}
+use Rattle.h264_verify.proofs.laws.DecodablePictures.{legal-decodes, legal-ends, whole-decodable}
+use Rattle.h264_verify.proofs.laws.WithinAtEnds.{told-ends}
 use Rattle.h264_verify.proofs.laws.buffer_stays_within.Goals as goal
 
 pub returns : goal.returns

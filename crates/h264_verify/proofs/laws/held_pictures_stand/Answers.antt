@@ -1,4 +1,4 @@
-use Rattle.h264_verify.proofs.DecodablePictures.{legal-among, whole-decodable}
+use Rattle.h264_verify.proofs.laws.DecodablePictures.{legal-among, whole-decodable}
 use Rattle.h264_verify.proofs.laws.held_pictures_stand.Goals as goal
 
 pub returns : goal.returns

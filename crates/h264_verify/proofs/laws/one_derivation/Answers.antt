@@ -1,4 +1,4 @@
-use Rattle.h264_verify.proofs.OneVerdict.{one-whole, one-stop}
+use Rattle.h264_verify.proofs.laws.OneVerdict.{one-whole, one-stop}
 use Rattle.h264_verify.proofs.laws.one_derivation.Goals as goal
 
 pub returns : goal.returns

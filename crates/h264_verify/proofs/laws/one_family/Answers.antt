@@ -1,4 +1,4 @@
-use Rattle.h264_verify.proofs.OneFamily.{one-family, legal-family}
+use Rattle.h264_verify.proofs.laws.OneFamily.{one-family, legal-family}
 use Rattle.h264_verify.proofs.laws.one_family.Goals as goal
 
 pub returns : goal.returns

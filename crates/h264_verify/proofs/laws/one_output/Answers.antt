@@ -1,4 +1,4 @@
-use Rattle.h264_verify.proofs.OneOutput.{verdict-output, legal-output, front-output, fronts-output}
+use Rattle.h264_verify.proofs.laws.OneOutput.{verdict-output, legal-output, front-output, fronts-output}
 use Rattle.h264_verify.proofs.laws.one_output.Goals as goal
 
 pub returns : goal.returns

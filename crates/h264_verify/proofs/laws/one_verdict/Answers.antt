@@ -1,4 +1,4 @@
-use Rattle.h264_verify.proofs.OneVerdict.{one-verdict}
+use Rattle.h264_verify.proofs.laws.OneVerdict.{one-verdict}
 use Rattle.h264_verify.proofs.laws.one_verdict.Goals as goal
 
 pub returns : goal.returns

@@ -1,4 +1,4 @@
-use Rattle.h264_verify.proofs.DecodablePictures.{legal-predicted, whole-decodable}
+use Rattle.h264_verify.proofs.laws.DecodablePictures.{legal-predicted, whole-decodable}
 use Rattle.h264_verify.proofs.laws.predictions_are_held.Goals as goal
 
 pub returns : goal.returns

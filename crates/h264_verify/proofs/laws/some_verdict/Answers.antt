@@ -1,4 +1,4 @@
-use Rattle.h264_verify.proofs.OneVerdict.{some-verdict}
+use Rattle.h264_verify.proofs.laws.OneVerdict.{some-verdict}
 use Rattle.h264_verify.proofs.laws.some_verdict.Goals as goal
 
 pub returns : goal.returns

@@ -1,4 +1,4 @@
-use Rattle.h264_verify.proofs.WithoutFrames.{frames-out}
+use Rattle.h264_verify.proofs.laws.WithoutFrames.{frames-out}
 use Rattle.h264_verify.proofs.laws.verdict_without_frames.Goals as goal
 
 pub returns : goal.returns

@@ -1,6 +1,6 @@
 use Rattle.std.proofs.Common.{[], ◌∷◌, false}
 use Rattle.h264_verify.specs.Slices.{idr_demand, set_demand}
-use Rattle.h264_verify.proofs.SliceSteps.{set-judged, set-kept, pass-one, some-of}
+use Rattle.h264_verify.proofs.language.SliceSteps.{set-judged, set-kept, pass-one, some-of}
 use Rattle.h264_verify.proofs.rules.check_standing.Goals as goal
 
 pub returns-then-not-begins-clause-judged : goal.returns-then-not-begins-clause-judged

@@ -1,9 +1,9 @@
 use Rattle.std.proofs.Common.{◌≡◌, ◌+◌, ◌++◌, ◌∙◌, [], List, ℕ, false, inl, inr, refl, arith, append_assoc, ap}
 use Rattle.std.proofs.lemmas.Result.{err_from_is_err_and}
-use Rattle.h264_verify.proofs.OutcomesPlayed.{told-as, told-after}
-use Rattle.h264_verify.proofs.SessionSteps.{goes-none, goes-both, comes-after, comes-as}
-use Rattle.h264_verify.proofs.SessionRest.{comes-read}
-use Rattle.h264_verify.proofs.SourceGives.{gives-none, gives-then, gives-last}
+use Rattle.h264_verify.proofs.language.OutcomesPlayed.{told-as, told-after}
+use Rattle.h264_verify.proofs.session.SessionSteps.{goes-none, goes-both, comes-after, comes-as}
+use Rattle.h264_verify.proofs.session.SessionRest.{comes-read}
+use Rattle.h264_verify.proofs.session.SourceGives.{gives-none, gives-then, gives-last}
 use Rattle.h264_verify.proofs.running.read_all.Goals as goal
 
 pub loop-init : goal.loop-init

@@ -2,11 +2,11 @@ use Rattle.std.proofs.Common.{◌≡◌, ℕ, ◌⊎◌, inl, inr, Result, Ok, E
 use Rattle.h264_base.specs.declared.stop.Stop.{Stop}
 use Rattle.h264_base.specs.declared.stop.Stop.TheVariants.{Memory, Read, Write}
 use Rattle.std.proofs.lemmas.List.{append-nil}
-use Rattle.h264_verify.proofs.AfterLegal.{err-same}
-use Rattle.h264_verify.proofs.OutcomesPlayed.{err-as, told-as, told-after}
-use Rattle.h264_verify.proofs.SourceGives.{gives-none}
-use Rattle.h264_verify.proofs.OneVerdict.{none-judged}
-use Rattle.h264_verify.proofs.SessionSteps.{comes-after, comes-as, comes-judged}
+use Rattle.h264_verify.proofs.laws.AfterLegal.{err-same}
+use Rattle.h264_verify.proofs.language.OutcomesPlayed.{err-as, told-as, told-after}
+use Rattle.h264_verify.proofs.session.SourceGives.{gives-none}
+use Rattle.h264_verify.proofs.laws.OneVerdict.{none-judged}
+use Rattle.h264_verify.proofs.session.SessionSteps.{comes-after, comes-as, comes-judged}
 use Rattle.h264_verify.specs.Units.{terms_of}
 use Rattle.h264_verify.proofs.running.run.Goals as goal
 

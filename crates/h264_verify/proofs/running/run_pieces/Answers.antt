@@ -2,9 +2,9 @@ use Rattle.std.proofs.Common.{◌≡◌, ◌<◌, ◌+◌, ◌++◌, ℕ, suc, z
 use Rattle.std.specs.List.{flat_map}
 use Rattle.std.proofs.Math.Seq.{take-length}
 use Rattle.std.proofs.lemmas.List.{append-nil}
-use Rattle.h264_verify.proofs.OutcomesPlayed.{err-as, told-as, told-after}
-use Rattle.h264_verify.proofs.OneVerdict.{none-judged}
-use Rattle.h264_verify.proofs.SessionSteps.{goes-none, goes-both, comes-after, comes-as, comes-judged}
+use Rattle.h264_verify.proofs.language.OutcomesPlayed.{err-as, told-as, told-after}
+use Rattle.h264_verify.proofs.laws.OneVerdict.{none-judged}
+use Rattle.h264_verify.proofs.session.SessionSteps.{goes-none, goes-both, comes-after, comes-as, comes-judged}
 use Rattle.h264_verify.specs.Units.{terms_of}
 use Rattle.h264_verify.proofs.running.run_pieces.Goals as goal
 

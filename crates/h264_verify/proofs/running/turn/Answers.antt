@@ -3,10 +3,10 @@ use Rattle.std.proofs.lemmas.List.{append-nil}
 use Rattle.std.proofs.lemmas.Result.{err_from_is_err_and}
 use Rattle.h264_base.specs.declared.stop.Stop.{Stop}
 use Rattle.h264_base.specs.declared.stop.Stop.TheVariants.{Read, Write}
-use Rattle.h264_verify.proofs.OutcomesPlayed.{err-as, told-as}
-use Rattle.h264_verify.proofs.SessionSteps.{goes-none, comes-as}
-use Rattle.h264_verify.proofs.SessionRest.{comes-read}
-use Rattle.h264_verify.proofs.SourceGives.{gives-failed, gives-interrupted, gives-piece, gives-end}
+use Rattle.h264_verify.proofs.language.OutcomesPlayed.{err-as, told-as}
+use Rattle.h264_verify.proofs.session.SessionSteps.{goes-none, comes-as}
+use Rattle.h264_verify.proofs.session.SessionRest.{comes-read}
+use Rattle.h264_verify.proofs.session.SourceGives.{gives-failed, gives-interrupted, gives-piece, gives-end}
 use Rattle.h264_verify.proofs.running.turn.Goals as goal
 
 -- what excludes one another

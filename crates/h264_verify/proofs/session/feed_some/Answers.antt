@@ -1,8 +1,8 @@
 use Rattle.std.proofs.Common.{Err, ap, ◌∙◌, ℕ}
 use Rattle.std.proofs.lemmas.Result.{err_from_is_err_and}
-use Rattle.h264_verify.proofs.OutcomesPlayed.{plays-not-read}
-use Rattle.h264_verify.proofs.SessionSteps.{went-on, ready-push, ready-unit, not-waiting}
-use Rattle.h264_verify.proofs.SessionPush.{goes-push, goes-unit, push-stops, push-memory, unit-stops, push-not-read}
+use Rattle.h264_verify.proofs.language.OutcomesPlayed.{plays-not-read}
+use Rattle.h264_verify.proofs.session.SessionSteps.{went-on, ready-push, ready-unit, not-waiting}
+use Rattle.h264_verify.proofs.session.SessionPush.{goes-push, goes-unit, push-stops, push-memory, unit-stops, push-not-read}
 use Rattle.h264_verify.proofs.session.feed_some.Goals as goal
 
 pub returns-in_err-n : goal.returns-in_err-n

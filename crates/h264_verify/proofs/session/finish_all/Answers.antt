@@ -1,11 +1,11 @@
 use Rattle.std.proofs.Common.{Err, ap}
 use Rattle.std.proofs.lemmas.Result.{err_from_is_err_and}
 use Rattle.h264_base.specs.declared.stop.Stop.TheVariants.{Memory, Read}
-use Rattle.h264_verify.proofs.AfterLegal.{err-same}
-use Rattle.h264_verify.proofs.OutcomesPlayed.{plays-not-read, err-as}
-use Rattle.h264_verify.proofs.SessionSteps.{fed-keeps, not-waiting}
-use Rattle.h264_verify.proofs.SessionRest.{named-not-memory, named-not-read}
-use Rattle.h264_verify.proofs.SessionEnd.{finish-stops, finish-end, finish-memory, finish-unit, finish-both, last-read, last-some, changes-read}
+use Rattle.h264_verify.proofs.laws.AfterLegal.{err-same}
+use Rattle.h264_verify.proofs.language.OutcomesPlayed.{plays-not-read, err-as}
+use Rattle.h264_verify.proofs.session.SessionSteps.{fed-keeps, not-waiting}
+use Rattle.h264_verify.proofs.session.SessionRest.{named-not-memory, named-not-read}
+use Rattle.h264_verify.proofs.session.SessionEnd.{finish-stops, finish-end, finish-memory, finish-unit, finish-both, last-read, last-some, changes-read}
 use Rattle.h264_verify.proofs.session.finish_all.Goals as goal
 
 pub returns-in_err-finish : goal.returns-in_err-finish

@@ -1,7 +1,7 @@
 use Rattle.std.proofs.Common.{◌∙◌, []}
 use Rattle.std.proofs.lemmas.List.{append-nil}
-use Rattle.h264_verify.proofs.ToldAsIs.{tells-said}
-use Rattle.h264_verify.proofs.ToldTogether.{tells-both}
+use Rattle.h264_verify.proofs.language.ToldAsIs.{tells-said}
+use Rattle.h264_verify.proofs.language.ToldTogether.{tells-both}
 use Rattle.h264_verify.proofs.session.judge_next.Goals as goal
 
 pub returns-in-Ok-clause-turns : goal.returns-in-Ok-clause-turns

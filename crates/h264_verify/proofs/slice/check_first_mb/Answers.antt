@@ -2,7 +2,7 @@ use Rattle.std.proofs.Common.{ℕ, ap, ◌∙◌}
 use Rattle.h264_verify.specs.declared.state.Depth.TheVariants as depths
 use Rattle.h264_verify.specs.Demands.{judged}
 use Rattle.h264_verify.specs.Slices.{first_mb_demands}
-use Rattle.h264_verify.proofs.WhereMade.{some-made, none-made, quiet-first}
+use Rattle.h264_verify.proofs.kept.WhereMade.{some-made, none-made, quiet-first}
 use Rattle.h264_verify.proofs.slice.check_first_mb.Goals as goal
 
 pub returns-in-None-clause-judged : goal.returns-in-None-clause-judged

@@ -1,7 +1,7 @@
 use Rattle.std.proofs.Common.{sym, ap, subst, ◌∙◌, Bool}
 use Rattle.h264_verify.specs.Order.{coded_before}
 use Rattle.h264_verify.specs.Keeping.{HoldsNewest}
-use Rattle.h264_verify.proofs.HoldsCoded.{coded-before}
+use Rattle.h264_verify.proofs.kept.HoldsCoded.{coded-before}
 use Rattle.h264_verify.proofs.slice.coded_before.Goals as goal
 
 pub returns : goal.returns

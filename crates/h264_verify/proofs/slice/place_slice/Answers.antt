@@ -6,10 +6,10 @@ use Rattle.h264_verify.specs.declared.slices.PicturesSoFar.{PicturesSoFar}
 use Rattle.h264_verify.specs.Telling.{frame_span}
 use Rattle.h264_verify.specs.Pictures.{goes_on, runs_of}
 use Rattle.h264_verify.specs.Framing.{JudgesSlice, slice_after}
-use Rattle.h264_verify.proofs.SliceSteps.{sets-before, some-of}
-use Rattle.h264_verify.proofs.KeepsEntered.{begins-as}
-use Rattle.h264_verify.proofs.SliceJudged.{slice-begins, slice-closed, slice-stands, before-held}
-use Rattle.h264_verify.proofs.Played.{stops, unmet}
+use Rattle.h264_verify.proofs.language.SliceSteps.{sets-before, some-of}
+use Rattle.h264_verify.proofs.kept.KeepsEntered.{begins-as}
+use Rattle.h264_verify.proofs.judged.SliceJudged.{slice-begins, slice-closed, slice-stands, before-held}
+use Rattle.h264_verify.proofs.language.Played.{stops, unmet}
 use Rattle.h264_verify.specs.Order.{close_if, standing_demands, coded_before}
 use Rattle.h264_verify.specs.Slices.{first_mb_demands}
 use Rattle.h264_verify.proofs.slice.place_slice.Goals as goal

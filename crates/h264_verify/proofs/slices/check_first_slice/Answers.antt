@@ -11,9 +11,9 @@ use Rattle.h264_verify.specs.Course.{Steps}
 use Rattle.h264_verify.specs.Order.{rules_before_gap, rules_after_gap, gap_rules, first_slice_rules}
 use Rattle.h264_verify.specs.Pictures.{CodedSlice}
 use Rattle.h264_verify.specs.Lists.{list_of}
-use Rattle.h264_verify.proofs.Played.{begins, met, unmet, played, stops, rules-last}
-use Rattle.h264_verify.proofs.SliceSteps.{stops-at, answers-last}
-use Rattle.h264_verify.proofs.SliceRules.{type-met}
+use Rattle.h264_verify.proofs.language.Played.{begins, met, unmet, played, stops, rules-last}
+use Rattle.h264_verify.proofs.language.SliceSteps.{stops-at, answers-last}
+use Rattle.h264_verify.proofs.judged.SliceRules.{type-met}
 use Rattle.h264_verify.proofs.slices.check_first_slice.Goals as goal
 use Rattle.h264_base.proofs.Plain.{on-ok}
 

@@ -2,8 +2,8 @@ use Rattle.std.proofs.Common.{[]}
 use Rattle.std.proofs.lemmas.Result.{err_from_is_err_and}
 use Rattle.h264_verify.specs.Keeping.{slices_by, slice_at}
 use Rattle.h264_verify.specs.Order.{later_slice_rules}
-use Rattle.h264_verify.proofs.SliceSteps.{stops-at, answers-last}
-use Rattle.h264_verify.proofs.SliceRules.{type-met}
+use Rattle.h264_verify.proofs.language.SliceSteps.{stops-at, answers-last}
+use Rattle.h264_verify.proofs.judged.SliceRules.{type-met}
 use Rattle.h264_verify.proofs.slices.check_later_slice.Goals as goal
 use Rattle.h264_base.proofs.Plain.{on-ok}
 

@@ -8,7 +8,7 @@ use Rattle.h264_verify.specs.declared.head.SliceHead.{SliceHead}
 use Rattle.h264_verify.specs.declared.slices.PicturesSoFar.{PicturesSoFar}
 use Rattle.h264_verify.specs.Slices.{id_demand, count_demand, qp_demand, list_demand}
 use Rattle.h264_verify.specs.Lists.{list_of}
-use Rattle.h264_verify.proofs.SliceSteps.{stops-at, answers-last}
+use Rattle.h264_verify.proofs.language.SliceSteps.{stops-at, answers-last}
 use Rattle.h264_verify.proofs.slices.check_new_picture.Goals as goal
 
 abbrev new_rules : PicturesSoFar → SliceHead → List Picture → List Demand

@@ -10,9 +10,9 @@ use Rattle.h264_verify.specs.Buffering.{after_all}
 use Rattle.h264_verify.specs.Order.{later_slice_rules}
 use Rattle.h264_verify.specs.Slices.{SlicesBefore, slices_before}
 use Rattle.h264_verify.specs.Pictures.{goes_on, runs_of, with_sets, counted}
-use Rattle.h264_verify.proofs.Played.{rules-play}
-use Rattle.h264_verify.proofs.KeepsOutput.{ended-gap}
-use Rattle.h264_verify.proofs.SliceRules.{some-begun, first-rules, enters-first, enters-later, later-rules}
+use Rattle.h264_verify.proofs.language.Played.{rules-play}
+use Rattle.h264_verify.proofs.kept.KeepsOutput.{ended-gap}
+use Rattle.h264_verify.proofs.judged.SliceRules.{some-begun, first-rules, enters-first, enters-later, later-rules}
 use Rattle.h264_verify.proofs.slices.check_rules.Goals as goal
 use Rattle.h264_base.proofs.Plain.{on-ok}
 

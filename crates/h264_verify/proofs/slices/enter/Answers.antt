@@ -1,5 +1,5 @@
 use Rattle.std.proofs.Common.{refl}
-use Rattle.h264_verify.proofs.KeepsEntered.{end-on, end-begun}
+use Rattle.h264_verify.proofs.kept.KeepsEntered.{end-on, end-begun}
 use Rattle.h264_verify.proofs.slices.enter.Goals as goal
 
 pub returns-then-begins-clause-end : goal.returns-then-begins-clause-end

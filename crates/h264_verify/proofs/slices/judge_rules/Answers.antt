@@ -13,9 +13,9 @@ use Rattle.h264_verify.specs.Buffering.{frame_count}
 use Rattle.h264_verify.specs.Keeping.{slice_at}
 use Rattle.h264_verify.specs.Pictures.{goes_on, runs_of}
 use Rattle.h264_verify.specs.Order.{slice_rules, told_rules}
-use Rattle.h264_verify.proofs.Played.{begins, played, stops, last}
-use Rattle.h264_verify.proofs.KeepsEntered.{slice-kept}
-use Rattle.h264_verify.proofs.SliceJudged.{ended-is}
+use Rattle.h264_verify.proofs.language.Played.{begins, played, stops, last}
+use Rattle.h264_verify.proofs.kept.KeepsEntered.{slice-kept}
+use Rattle.h264_verify.proofs.judged.SliceJudged.{ended-is}
 use Rattle.h264_verify.proofs.slices.judge_rules.Goals as goal
 
 -- how many pictures have begun

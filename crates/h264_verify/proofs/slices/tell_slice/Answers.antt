@@ -2,7 +2,7 @@ use Rattle.std.proofs.Common.{[], refl, rules}
 use Rattle.std.proofs.lemmas.Int.{to_z-of_z}
 use Rattle.std.specs.Int.{w32}
 use mir.Val.{SFits}
-use Rattle.h264_verify.proofs.ToldAsIs.{tells-said}
+use Rattle.h264_verify.proofs.language.ToldAsIs.{tells-said}
 use Rattle.h264_verify.proofs.slices.tell_slice.Goals as goal
 
 pub returns-in-Ok-clause-plays : goal.returns-in-Ok-clause-plays

@@ -1,5 +1,5 @@
 use Rattle.std.proofs.Common.{refl, subst, sym}
-use Rattle.h264_verify.proofs.WhereMade.{MakesNone, full-made, quiet-made}
+use Rattle.h264_verify.proofs.kept.WhereMade.{MakesNone, full-made, quiet-made}
 use Rattle.h264_verify.proofs.state.decoder_for.Goals as goal
 
 pub returns-in-Units : goal.returns-in-Units

@@ -2,7 +2,7 @@ use Rattle.std.proofs.Common.{◌*◌}
 use Rattle.std.proofs.lemmas.Result.{err_from_is_err_and}
 use Rattle.h264_units.specs.UnitHeader.{header_of}
 use Rattle.h264_verify.specs.Order.{header_demands}
-use Rattle.h264_verify.proofs.SliceSteps.{stops-at, answers-last}
+use Rattle.h264_verify.proofs.language.SliceSteps.{stops-at, answers-last}
 use Rattle.h264_verify.proofs.unit.check_header.Goals as goal
 
 pub returns-in_err-check : goal.returns-in_err-check

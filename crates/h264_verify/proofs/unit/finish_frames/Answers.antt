@@ -1,7 +1,7 @@
 use Rattle.h264_header.proofs.Entries.{where-ok}
-use Rattle.h264_verify.proofs.WhereMade.{some-made, none-made, quiet-made, full-made, quiet-told}
-use Rattle.h264_verify.proofs.FillsFrames.{some-filled}
-use Rattle.h264_verify.proofs.OutcomesPlayed.{gives-plays}
+use Rattle.h264_verify.proofs.kept.WhereMade.{some-made, none-made, quiet-made, full-made, quiet-told}
+use Rattle.h264_verify.proofs.samples.FillsFrames.{some-filled}
+use Rattle.h264_verify.proofs.language.OutcomesPlayed.{gives-plays}
 use Rattle.h264_verify.proofs.unit.finish_frames.Goals as goal
 
 pub finish-requires-clause-kept : goal.finish-requires-clause-kept

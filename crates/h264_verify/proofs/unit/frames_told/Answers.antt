@@ -1,7 +1,7 @@
 use Rattle.std.proofs.Common.{List, [], ◌∷◌, ◌++◌, ◌≡◌, ◌+◌, length, sym, ◌∙◌, arith}
 use Rattle.h264_dpb.specs.Turns.{last_turn}
 use Rattle.h264_verify.specs.Buffering.{after_all}
-use Rattle.h264_verify.proofs.WhereMade.{some-made, none-made, quiet-written}
+use Rattle.h264_verify.proofs.kept.WhereMade.{some-made, none-made, quiet-written}
 use Rattle.h264_verify.proofs.unit.frames_told.Goals as goal
 
 both : {A : Type 0} (xs ys : List A) → length (xs ++ ys) ≡ length xs + length ys

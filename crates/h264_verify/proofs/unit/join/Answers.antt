@@ -9,12 +9,12 @@ use Rattle.h264_units.proofs.UnitNumbers.{is-not}
 use Rattle.h264_verify.specs.declared.state.Depth.{Depth}
 use Rattle.h264_verify.specs.Content as contents
 use Rattle.h264_verify.specs.Memory.{reads_slices, bytes_of}
-use Rattle.h264_verify.proofs.FamiliesAgree.{agree-none}
-use Rattle.h264_verify.proofs.ToldInOrder.{slice-goes}
-use Rattle.h264_verify.proofs.UnitJoins.{joins-on, passed-joins, some-slice}
-use Rattle.h264_verify.proofs.WantOfMemory.{bytes-by, unread, read-bytes, read-slice}
-use Rattle.h264_verify.proofs.OutcomesPlayed.{gives-plays}
-use Rattle.h264_verify.proofs.ReadsStructures.{passed-read}
+use Rattle.h264_verify.proofs.samples.FamiliesAgree.{agree-none}
+use Rattle.h264_verify.proofs.laws.ToldInOrder.{slice-goes}
+use Rattle.h264_verify.proofs.judged.UnitJoins.{joins-on, passed-joins, some-slice}
+use Rattle.h264_verify.proofs.judged.WantOfMemory.{bytes-by, unread, read-bytes, read-slice}
+use Rattle.h264_verify.proofs.language.OutcomesPlayed.{gives-plays}
+use Rattle.h264_verify.proofs.language.ReadsStructures.{passed-read}
 use Rattle.h264_verify.proofs.unit.join.Given.{Over}
 use Rattle.h264_verify.proofs.unit.join.Goals.{In_default-kind}
 use Rattle.h264_verify.proofs.unit.join.Goals as goal

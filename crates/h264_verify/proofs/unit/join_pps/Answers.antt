@@ -2,11 +2,11 @@ use Rattle.std.proofs.Common.{ap, refl, sym, ◌∙◌}
 use Rattle.std.proofs.lemmas.Result.{err_from_is_err_and}
 use Rattle.h264_sets.specs.Sets.{with_pps}
 use Rattle.h264_verify.specs.Content as contents
-use Rattle.h264_verify.proofs.FamiliesAgree.{agree-none}
-use Rattle.h264_verify.proofs.UnitJoins.{joins-on, joins-stops, passed-joins}
-use Rattle.h264_verify.proofs.WantOfMemory.{answers-memory, error-as}
-use Rattle.h264_verify.proofs.OutcomesPlayed.{gives-plays}
-use Rattle.h264_verify.proofs.ReadsStructures.{pps-read}
+use Rattle.h264_verify.proofs.samples.FamiliesAgree.{agree-none}
+use Rattle.h264_verify.proofs.judged.UnitJoins.{joins-on, joins-stops, passed-joins}
+use Rattle.h264_verify.proofs.judged.WantOfMemory.{answers-memory, error-as}
+use Rattle.h264_verify.proofs.language.OutcomesPlayed.{gives-plays}
+use Rattle.h264_verify.proofs.language.ReadsStructures.{pps-read}
 use Rattle.h264_verify.proofs.unit.join_pps.Goals as goal
 
 pub returns-in_err-set : goal.returns-in_err-set

@@ -15,22 +15,22 @@ use Rattle.h264_near.specs.Coded.{CodedMacroblock}
 use Rattle.h264_verify.specs.Keeping.{KeepsFrames, KeepsPictures, EntersBy, format_in}
 use Rattle.h264_header.proofs.Entries.{where-ok}
 use Rattle.h264_verify.specs.declared.slices.Slice.{Slice}
-use Rattle.h264_verify.proofs.FamiliesAgree.{agree-none}
-use Rattle.h264_verify.proofs.ToldInOrder.{slice-goes, goes-later}
-use Rattle.h264_verify.proofs.SliceSteps.{some-of, sets-after}
-use Rattle.h264_verify.proofs.SlicePlaced.{some-rules, goes-on-with, slice-plays, keeps-with, sound-slice}
+use Rattle.h264_verify.proofs.samples.FamiliesAgree.{agree-none}
+use Rattle.h264_verify.proofs.laws.ToldInOrder.{slice-goes, goes-later}
+use Rattle.h264_verify.proofs.language.SliceSteps.{some-of, sets-after}
+use Rattle.h264_verify.proofs.judged.SlicePlaced.{some-rules, goes-on-with, slice-plays, keeps-with, sound-slice}
 use Rattle.h264_marking.specs.Ended.{numbering_of}
 use Rattle.h264_verify.specs.Lists.{list_of}
-use Rattle.h264_verify.proofs.ReadsData.{listed}
-use Rattle.h264_verify.proofs.KeepsEntered.{begins-as}
-use Rattle.h264_verify.proofs.UnitJoins.{headers-end, joins-stops, joins-broken, joins-on, joins-after, slice-pauses, none-ends}
-use Rattle.h264_verify.proofs.WhereMade.{full-made, some-made, none-made, quiet-made}
-use Rattle.h264_verify.proofs.ReadsStructures.{header-read, data-joins, placed as placed-first, data-there}
+use Rattle.h264_verify.proofs.samples.ReadsData.{listed}
+use Rattle.h264_verify.proofs.kept.KeepsEntered.{begins-as}
+use Rattle.h264_verify.proofs.judged.UnitJoins.{headers-end, joins-stops, joins-broken, joins-on, joins-after, slice-pauses, none-ends}
+use Rattle.h264_verify.proofs.kept.WhereMade.{full-made, some-made, none-made, quiet-made}
+use Rattle.h264_verify.proofs.language.ReadsStructures.{header-read, data-joins, placed as placed-first, data-there}
 use Rattle.h264_sets.specs.Sets.{Maps}
 use Rattle.h264_verify.specs.Sound.{NamesSet}
-use Rattle.h264_verify.proofs.SliceSets.{later-set}
-use Rattle.h264_verify.proofs.HeaderMarking.{read-marked}
-use Rattle.h264_verify.proofs.WantOfMemory.{answers-memory, is-another, begins-another}
+use Rattle.h264_verify.proofs.judged.SliceSets.{later-set}
+use Rattle.h264_verify.proofs.judged.HeaderMarking.{read-marked}
+use Rattle.h264_verify.proofs.judged.WantOfMemory.{answers-memory, is-another, begins-another}
 use Rattle.h264_verify.proofs.unit.join_slice.Goals as goal
 
 abbrev kind : NalUnit → ℕ

@@ -6,12 +6,12 @@ use Rattle.std.proofs.lemmas.Result.{err_from_is_err_and}
 use Rattle.h264_verify.specs.Pictures.{goes_on, runs_of}
 use Rattle.h264_verify.specs.Buffering.{after_all, last_frames}
 use Rattle.h264_verify.specs.Units.{picture_demand}
-use Rattle.h264_verify.proofs.OutcomesPlayed.{named-by}
+use Rattle.h264_verify.proofs.language.OutcomesPlayed.{named-by}
 use Rattle.h264_verify.specs.Order.{close_steps}
-use Rattle.h264_verify.proofs.Played.{met, unmet, played, stops, last-stops}
-use Rattle.h264_verify.proofs.KeepsOutput.{ended-gap}
-use Rattle.h264_verify.proofs.CourseParts.{end-begins, end-gives}
-use Rattle.h264_verify.proofs.WantOfMemory.{error-as, named-memory, write-alone}
+use Rattle.h264_verify.proofs.language.Played.{met, unmet, played, stops, last-stops}
+use Rattle.h264_verify.proofs.kept.KeepsOutput.{ended-gap}
+use Rattle.h264_verify.proofs.language.CourseParts.{end-begins, end-gives}
+use Rattle.h264_verify.proofs.judged.WantOfMemory.{error-as, named-memory, write-alone}
 use Rattle.h264_verify.proofs.unit.judge_end.Goals as goal
 
 check-err : (holds : Bool) (rule : Rule) (bit : ℕ) (e : Stop) → (let r : Result (Unit {0}) Stop = Err e in r ≡ (if holds then Ok tt else Err (No bit rule))) →

@@ -2,12 +2,12 @@ use Rattle.std.proofs.Common.{ℕ, ◌-◌, ◌*◌, ◌<◌, ◌^◌, sym, ◌�
 use Rattle.std.proofs.lemmas.Result.{err_from_is_err_and}
 use Rattle.h264_units.specs.UnitHeader.{header_of}
 use Rattle.h264_verify.specs.Order.{header_demands}
-use Rattle.h264_verify.proofs.OutcomesPlayed.{named-by}
-use Rattle.h264_verify.proofs.UnitJoins.{within}
-use Rattle.h264_verify.proofs.WantOfMemory.{named-memory}
-use Rattle.h264_verify.proofs.Played.{err-named}
-use Rattle.h264_verify.proofs.SliceSets.{first-met}
-use Rattle.h264_verify.proofs.UnitParts.{is-unsound, stops-header, stops-told, stops-closing, turns-on, pauses-on}
+use Rattle.h264_verify.proofs.language.OutcomesPlayed.{named-by}
+use Rattle.h264_verify.proofs.judged.UnitJoins.{within}
+use Rattle.h264_verify.proofs.judged.WantOfMemory.{named-memory}
+use Rattle.h264_verify.proofs.language.Played.{err-named}
+use Rattle.h264_verify.proofs.judged.SliceSets.{first-met}
+use Rattle.h264_verify.proofs.judged.UnitParts.{is-unsound, stops-header, stops-told, stops-closing, turns-on, pauses-on}
 use Rattle.h264_verify.proofs.unit.judge_unit.Goals as goal
 use Rattle.h264_cavlc.proofs.Loops.{quiet-after}
 

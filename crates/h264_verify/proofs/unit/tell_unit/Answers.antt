@@ -1,5 +1,5 @@
 use Rattle.std.proofs.Common.{[], refl}
-use Rattle.h264_verify.proofs.ToldAsIs.{tells-said}
+use Rattle.h264_verify.proofs.language.ToldAsIs.{tells-said}
 use Rattle.h264_verify.proofs.unit.tell_unit.Goals as goal
 
 pub returns-in-Ok-clause-plays : goal.returns-in-Ok-clause-plays

@@ -1,5 +1,5 @@
 use Rattle.std.proofs.Common.{refl, sym, ◌∙◌}
-use Rattle.h264_verify.proofs.BeginsFrames.{begun-frames, is-active, always-place, some-place}
+use Rattle.h264_verify.proofs.samples.BeginsFrames.{begun-frames, is-active, always-place, some-place}
 use Rattle.h264_verify.proofs.decoder.Decoder.begin.Goals as goal
 
 pub returns-clause-begins : goal.returns-clause-begins

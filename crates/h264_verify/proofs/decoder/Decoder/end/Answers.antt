@@ -13,13 +13,14 @@ use Rattle.h264_verify.specs.Buffering.{ended_picture, within_newest}
 use Rattle.h264_verify.specs.Keeping.{KeepsFrames}
 use Rattle.h264_verify.specs.Memory.{format_of}
 use Rattle.h264_header.proofs.Entries.{where-ok}
-use Rattle.h264_verify.proofs.WhereMade.{full-made}
-use Rattle.h264_verify.proofs.PictureEndFrame.{with_frame, with-agrees, with-family}
-use Rattle.h264_verify.proofs.FamiliesByPurpose.{lent-for, lent-some, some-map, some-both, family-kept}
-use Rattle.h264_verify.proofs.ToldFrames.{IsLentFor, writes-kept, writes-alone, written-by, written-with}
-use Rattle.h264_verify.proofs.PlacedFrames.{IsFramed, Settled, framed-by, has-frame, way-stops, way-store, ended-few, size-of, frames-then}
-use Rattle.h264_verify.proofs.PlacedFrames.{ready-then, ready-now}
-use Rattle.h264_verify.proofs.PlacedFrames.{ordered-then, at-place, shown-then, frames-now, few-stored, released-then, room-then, stored-frames, purpose-then}
+use Rattle.h264_verify.proofs.kept.WhereMade.{full-made}
+use Rattle.h264_verify.proofs.samples.PictureEndFrame.{with_frame, with-agrees, with-family}
+use Rattle.h264_verify.proofs.samples.FamiliesByPurpose.{lent-for, lent-some, some-map, some-both, family-kept}
+use Rattle.h264_verify.proofs.samples.ToldFrames.{IsLentFor, writes-kept, writes-alone, written-by, written-with}
+use Rattle.h264_verify.proofs.samples.PlacedFrames.{IsFramed, Settled, framed-by, has-frame, way-stops, way-store, ended-few, size-of, frames-then}
+use Rattle.h264_verify.proofs.samples.PlacedFrames.{ready-then, ready-now}
+use Rattle.h264_verify.proofs.samples.PlacedFrames.{ordered-then, at-place, shown-then, frames-now, few-stored, released-then, room-then}
+use Rattle.h264_verify.proofs.samples.PlacedFrames.{stored-frames, purpose-then}
 use Rattle.h264_verify.proofs.decoder.Decoder.end.Given.{Over}
 use Rattle.h264_verify.proofs.decoder.Decoder.end.Goals.{After-end, In_ok-make_way, After-settle, After-store}
 use Rattle.h264_verify.proofs.decoder.Decoder.end.Goals as goal

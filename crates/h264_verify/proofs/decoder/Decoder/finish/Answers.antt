@@ -1,8 +1,8 @@
 use Rattle.h264_dpb.specs.Turns.{last_turn}
 use Rattle.h264_picture.specs.Places.{lent}
-use Rattle.h264_verify.proofs.FamiliesByPurpose.{lent-for}
-use Rattle.h264_verify.proofs.ToldFrames.{writes-plays, writes-alone, written-by}
-use Rattle.h264_verify.proofs.FillsFrames.{gap-ordered, gap-ready}
+use Rattle.h264_verify.proofs.samples.FamiliesByPurpose.{lent-for}
+use Rattle.h264_verify.proofs.samples.ToldFrames.{writes-plays, writes-alone, written-by}
+use Rattle.h264_verify.proofs.samples.FillsFrames.{gap-ordered, gap-ready}
 use Rattle.h264_verify.proofs.decoder.Decoder.finish.Goals as goal
 
 pub finish-requires-clause-ordered : goal.finish-requires-clause-ordered

@@ -1,5 +1,5 @@
 use Rattle.std.proofs.Common.{sym, ◌∙◌}
-use Rattle.h264_verify.proofs.BeginsFrames.{none-some, some-free}
+use Rattle.h264_verify.proofs.samples.BeginsFrames.{none-some, some-free}
 use Rattle.h264_verify.proofs.decoder.Decoder.free_place.Goals as goal
 
 pub unreachable-requires : goal.unreachable-requires

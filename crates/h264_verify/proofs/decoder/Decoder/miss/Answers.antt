@@ -1,9 +1,9 @@
 use Rattle.h264_dpb.specs.Turns.{missing_turn}
 use Rattle.h264_picture.specs.Places.{lent}
 use Rattle.h264_dpb.specs.Kept.{HasFrames}
-use Rattle.h264_verify.proofs.FamiliesByPurpose.{lent-for, frames-at}
-use Rattle.h264_verify.proofs.ToldFrames.{writes-plays, writes-kept, writes-alone, written-by}
-use Rattle.h264_verify.proofs.FillsFrames.{gap-ordered, gap-ready, gap-filled}
+use Rattle.h264_verify.proofs.samples.FamiliesByPurpose.{lent-for, frames-at}
+use Rattle.h264_verify.proofs.samples.ToldFrames.{writes-plays, writes-kept, writes-alone, written-by}
+use Rattle.h264_verify.proofs.samples.FillsFrames.{gap-ordered, gap-ready, gap-filled}
 use Rattle.h264_verify.proofs.decoder.Decoder.miss.Goals as goal
 
 pub miss-requires-clause-ordered : goal.miss-requires-clause-ordered

@@ -1,4 +1,4 @@
-use Rattle.h264_verify.proofs.FamiliesByPurpose.{all-some, family-is}
+use Rattle.h264_verify.proofs.samples.FamiliesByPurpose.{all-some, family-is}
 use Rattle.h264_verify.proofs.decoder.Decoder.new.Goals as goal
 
 pub returns : goal.returns

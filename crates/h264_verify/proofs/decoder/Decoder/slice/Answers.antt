@@ -1,11 +1,11 @@
 use Rattle.std.proofs.Common.{refl, sym, ◌∙◌, subst, ◌≡◌, ◌<◌, ℕ, List, ◌∷◌, get_or, Some, None}
 use Rattle.h264_verify.specs.Keeping.{IsMaking, IsNear, HoldsFrames}
 use Rattle.h264_picture.specs.Places.{MakesFrames}
-use Rattle.h264_verify.proofs.FamiliesByPurpose.{some-of, some-map}
+use Rattle.h264_verify.proofs.samples.FamiliesByPurpose.{some-of, some-map}
 use Rattle.h264_verify.specs.declared.decoder.Decoder.{Decoder}
-use Rattle.h264_verify.proofs.SliceDataGrow.{slice-adds}
-use Rattle.h264_verify.proofs.KeepsOutput.{has-places}
-use Rattle.h264_verify.proofs.SliceSamples.{begun-on, is-slice, reads-slice, number-is, making-before}
+use Rattle.h264_verify.proofs.samples.SliceDataGrow.{slice-adds}
+use Rattle.h264_verify.proofs.kept.KeepsOutput.{has-places}
+use Rattle.h264_verify.proofs.samples.SliceSamples.{begun-on, is-slice, reads-slice, number-is, making-before}
 use Rattle.h264_verify.proofs.decoder.Decoder.slice.Goals as goal
 
 pub places-places-requires : goal.places-places-requires

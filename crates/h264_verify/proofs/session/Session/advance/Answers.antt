@@ -1,7 +1,7 @@
 use Rattle.std.proofs.Common.{◌++◌, [], ap, ◌∙◌, refl}
 use Rattle.h264_verify.specs.Progress.{Progress}
-use Rattle.h264_verify.proofs.OutcomesPlayed.{err-as, told-as}
-use Rattle.h264_verify.proofs.SessionSteps.{goes-any, comes-any, judged-told, judged-write, ready-of, session-of}
+use Rattle.h264_verify.proofs.language.OutcomesPlayed.{err-as, told-as}
+use Rattle.h264_verify.proofs.session.SessionSteps.{goes-any, comes-any, judged-told, judged-write, ready-of, session-of}
 use Rattle.h264_verify.proofs.session.Session.advance.Goals as goal
 
 pub feed_all-requires-clause-ready : goal.feed_all-requires-clause-ready

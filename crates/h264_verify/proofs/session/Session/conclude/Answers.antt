@@ -1,6 +1,6 @@
 use Rattle.std.proofs.Common.{ap, ◌∙◌}
 use Rattle.h264_verify.specs.Progress.{Progress}
-use Rattle.h264_verify.proofs.SessionSteps.{comes-any, judged-told, judged-write, ready-of}
+use Rattle.h264_verify.proofs.session.SessionSteps.{comes-any, judged-told, judged-write, ready-of}
 use Rattle.h264_verify.proofs.session.Session.conclude.Goals as goal
 
 pub returns-clause-comes : goal.returns-clause-comes

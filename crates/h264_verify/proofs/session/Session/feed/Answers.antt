@@ -6,7 +6,7 @@ use Rattle.h264_verify.specs.Telling.{Told, Family}
 use Rattle.h264_verify.specs.Progress.{Progress}
 use Rattle.h264_verify.specs.Verdict.{Judged}
 use Rattle.h264_verify.specs.Feeding.{WasFed, IsFed, GoesOn, ComesTo}
-use Rattle.h264_verify.proofs.SessionSteps.{goes-fed, comes-judged}
+use Rattle.h264_verify.proofs.session.SessionSteps.{goes-fed, comes-judged}
 use Rattle.h264_verify.proofs.session.Session.feed.Goals as goal
 
 module _ {S : Type 0} (w : SinkSpan S Call) {terms : Terms} {old : Progress} {bytes : List ℕ} {frames : Family} {told : List Told} (piece : List ℕ)

@@ -1,4 +1,4 @@
-use Rattle.h264_verify.proofs.SessionSteps.{comes-judged}
+use Rattle.h264_verify.proofs.session.SessionSteps.{comes-judged}
 use Rattle.h264_verify.proofs.session.Session.finish.Goals as goal
 
 pub returns-in-None-clause-verdict : goal.returns-in-None-clause-verdict

@@ -7,8 +7,8 @@ use Rattle.h264_verify.specs.Units.{terms_of}
 use Rattle.h264_units.specs.Splitting.{Splitting, at_start}
 use Rattle.h264_verify.specs.declared.state.State.{State}
 use Rattle.h264_verify.specs.KeepingUnits.{Keeps}
-use Rattle.h264_verify.proofs.FamiliesByPurpose.{some-family, some-family-for}
-use Rattle.h264_verify.proofs.SessionSteps.{fed-first}
+use Rattle.h264_verify.proofs.samples.FamiliesByPurpose.{some-family, some-family-for}
+use Rattle.h264_verify.proofs.session.SessionSteps.{fed-first}
 use Rattle.h264_verify.proofs.session.Session.new.Goals as goal
 
 pub returns-clause-fresh : goal.returns-clause-fresh

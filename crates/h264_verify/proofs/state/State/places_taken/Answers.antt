@@ -5,7 +5,7 @@ use Rattle.h264_verify.specs.declared.state.Depth.TheVariants as depths
 use Rattle.h264_verify.specs.Pictures.{CodedPicture, goes_on, runs_of}
 use Rattle.h264_verify.specs.Buffering.{within_newest, after_all}
 use Rattle.h264_verify.specs.Keeping.{buffer_by}
-use Rattle.h264_verify.proofs.WhereMade.{some-made, none-made}
+use Rattle.h264_verify.proofs.kept.WhereMade.{some-made, none-made}
 use Rattle.h264_verify.proofs.state.State.places_taken.Goals as goal
 
 -- the buffer while the newest picture may go on, and once it has ended

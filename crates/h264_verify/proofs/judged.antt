@@ -1,0 +1,13 @@
+pub mod HeaderSets
+pub mod HeaderMarking
+pub mod UnitJoins
+pub mod UnitParts
+pub mod WantOfMemory
+pub mod SlicePlaced
+pub mod SliceRules
+pub mod PictureEndRules
+pub mod SliceSets
+pub mod SliceJudged
+pub mod MissingNumbers
+pub mod MissingUntold
+pub mod UnitToData

@@ -1,0 +1,4 @@
+pub mod KeepsEntered
+pub mod HoldsCoded
+pub mod KeepsOutput
+pub mod WhereMade

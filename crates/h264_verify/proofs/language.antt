@@ -1,0 +1,9 @@
+pub mod CourseParts
+pub mod ReadsStructures
+pub mod ToldTogether
+pub mod ToldAsIs
+pub mod OutcomesPlayed
+pub mod Courses
+pub mod MetRules
+pub mod SliceSteps
+pub mod Played

@@ -1,0 +1,17 @@
+pub mod FamiliesAgree
+pub mod ShownFirst
+pub mod FamiliesInSlice
+pub mod ToldFrames
+pub mod FamiliesByPurpose
+pub mod LentFrames
+pub mod BeginsFrames
+pub mod SliceDataGrow
+pub mod SliceSamples
+pub mod NamedPlaces
+pub mod PictureEndFrame
+pub mod PlacedFrames
+pub mod FillsFrames
+pub mod EndsFrames
+pub mod ReadsData
+pub mod FamiliesInPicture
+pub mod NamedSizes
