@@ -1,6 +1,6 @@
 #!/usr/bin/env python3
-"""wrong_bodies.py [--jobs N] [--kept FOLDER] [--alone] [--part K/N] [--stale REV] [CRATE..]: tries the edits of wrong-bodies/CRATE/. Each has to be
-refused by the prover.
+"""wrong_bodies.py [--jobs N] [--kept FOLDER] [--alone] [--part K/N] [--since REV | --stale REV] [CRATE..]: tries the edits of wrong-bodies/CRATE/. Each
+has to be refused by the prover.
 
 Edits of functions that do not call one another are tried together, in one check of a copy of the crate. An edit is refused there where the check does
 not prove a function that the edit changes, and says so of that function itself: not because of one that it calls. Where that check does not tell, or
@@ -13,6 +13,8 @@ edit that is not refused, or only for a name in a proof or by a limit of the pro
 With --stale REV nothing is proved. It names the edits that cannot be applied to the files as they are, since an old text does not stand there once, and
 those to be tried again, since something changed after REV: the edit, a function that it turns with its contract, or a file of the crate's specs/ that the
 function's file cites, also through others of that crate. Definitions of lower crates are not looked at. Status 1 where an edit cannot be applied.
+
+With --since REV it tries the edits alone that --stale REV names.
 """
 import argparse
 import enum
@@ -46,6 +48,11 @@ class Told(enum.Enum):
     PROVED = "NOT REFUSED: it is proved"
     UNREAD = "BAD EDIT: the new text does not compile"
     UNKNOWN = "NOT TRIED: the check came to no verdict"
+
+
+def edits_of(crate, sources):
+    """The edits of a crate."""
+    return [Edit(it, sources) for it in sorted((TOP / "wrong-bodies" / crate).glob("*.edit"))]
 
 
 class Edit:
@@ -179,11 +186,12 @@ def edited_in_turn(text, pairs):
 
 
 def is_path_of(path, function):
-    """Whether a path of a function within its crate, as plane::Plane::get, is that of one in a file, as (src/plane.rt, get)."""
+    """Whether a path of a function within its crate, as plane::Plane::get, is that of one in a file, as (src/plane.rt, get). The path of a trait's method has
+    the type and the trait in one word, as plane::PlaneRead::read, and that of a function that calls itself may have a plus, as plane::+fill."""
     file, name = function
     module = file.removeprefix("src/").removesuffix(".rt").replace("/", "::")
     words = path.split("::")
-    return words[-1] == name and (module in ("lib", "main") or path.startswith(module + "::"))
+    return words[-1].removeprefix("+") == name and (module in ("lib", "main") or path.startswith(module + "::"))
 
 
 def said_of(text):
@@ -262,10 +270,14 @@ def part_of(edits, sources, is_together, part):
     return alone[which - 1 :: parts], batches[which - 1 :: parts]
 
 
-def tried(checks, crate, asked):
-    """Tries the edits of a crate: how many there are, how many were refused, and how many of these only for a name."""
+def tried(checks, crate, asked, change):
+    """Tries the edits of a crate, or those alone that a change made stale: how many, how many were refused, and how many of these only for a name."""
     began, sources = time.time(), Sources(TOP / "crates" / crate)
-    edits = [Edit(it, sources) for it in sorted((TOP / "wrong-bodies" / crate).glob("*.edit"))]
+    edits = edits_of(crate, sources)
+    if change:
+        edits = [it for it in edits if why_stale(it, crate, sources, change)]
+    if not edits:
+        return 0, 0, 0
     alone, batches = part_of(edits, sources, is_proved(checks, crate) and not asked.alone, asked.part)
     edits = [*alone, *(edit for batch in batches for edit in batch)]
     refused, named = set(), set()
@@ -349,18 +361,26 @@ def why_again(edit, crate, sources, change):
     return next((f"{it} changed" for it in sorted(cited & change.files)), "")
 
 
+def why_stale(edit, crate, sources, change):
+    """Why an edit cannot be applied, or has to be tried again; nothing where it is neither."""
+    fault = why_not_applied(edit, sources)
+    if fault:
+        return f"cannot be applied: {fault}"
+    why = why_again(edit, crate, sources, change)
+    return why and f"to be tried again: {why}"
+
+
 def stale(crates, revision):
     """Names the edits that cannot be applied, and those to be tried again; gives how many cannot."""
     change, count, broken, again = Change(revision), 0, 0, 0
     for crate in crates:
         sources = Sources(TOP / "crates" / crate)
-        for path in sorted((TOP / "wrong-bodies" / crate).glob("*.edit")):
-            edit = Edit(path, sources)
-            fault = why_not_applied(edit, sources)
-            why = "" if fault else why_again(edit, crate, sources, change)
-            if fault or why:
-                print(f"{crate}/{edit.name}: {f'cannot be applied: {fault}' if fault else f'to be tried again: {why}'}")
-            count, broken, again = count + 1, broken + bool(fault), again + bool(why)
+        for edit in edits_of(crate, sources):
+            why = why_stale(edit, crate, sources, change)
+            if why:
+                print(f"{crate}/{edit.name}: {why}")
+            cannot = why.startswith("cannot")
+            count, broken, again = count + 1, broken + cannot, again + bool(why and not cannot)
     print(f"{count} edits: {broken} cannot be applied, {again} are to be tried again")
     return broken
 
@@ -371,7 +391,9 @@ def main():
     words.add_argument("--kept", default=STATEMENTS, metavar="FOLDER", help="where the statements of crates are kept")
     words.add_argument("--alone", action="store_true", help="each edit in a check of its own")
     words.add_argument("--part", default="1/1", metavar="K/N", help="the K-th of N parts of each crate's edits")
-    words.add_argument("--stale", metavar="REV", help="proves nothing, and names the edits that a change since REV made stale")
+    which = words.add_mutually_exclusive_group()
+    which.add_argument("--stale", metavar="REV", help="proves nothing, and names the edits that a change since REV made stale")
+    which.add_argument("--since", metavar="REV", help="tries those alone")
     words.add_argument("crates", nargs="*", metavar="CRATE")
     asked = words.parse_args()
     crates = asked.crates or sorted(it.name for it in (TOP / "wrong-bodies").iterdir() if it.is_dir())
@@ -381,7 +403,8 @@ def main():
     if asked.stale:
         sys.exit(stale(crates, asked.stale) != 0)
     checks = Checks(asked.kept, asked.jobs)
-    counts = [tried(checks, it, asked) for it in crates]
+    change = Change(asked.since) if asked.since else None
+    counts = [tried(checks, it, asked, change) for it in crates]
     edits, refused, named = (sum(it) for it in zip(*counts))
     print(f"{edits} tried, {refused} refused ({named} of them only for a name in a proof), {edits - refused} not")
     sys.exit(edits != refused)

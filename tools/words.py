@@ -67,7 +67,7 @@ class Words:
         ):
             value, about = re.findall(TEXT, self.const(help_of))
             yield Option(name, letter, value, about, commands)
-        yield Option("all", None, None, re.search(rf'\.long\("all"\)[^;]*?\.help\({TEXT}\)', self.source)[1], ["explain"])
+        yield Option("all", None, None, re.findall(TEXT, self.const("ALL_HELP"))[0], ["explain"])
 
 
 def labels_by_kind():

@@ -12,3 +12,4 @@ mod Further
 mod StrictTold
 mod Kept
 mod PlainWords
+mod ListsFound

@@ -1,14 +1,15 @@
 -- Plain words that are added one after another.
 use Rattle.std.proofs.Common.{◌≡◌, ℕ, ◌+◌, ◌<◌, List, [], ◌∷◌, ◌++◌, map, take, length, get_or, flat_map, Bool, true, false, Bor, Option, Some, None, Result}
 use Rattle.std.proofs.Common.{Ok, Err, OnOk, string_bytes, codes, refl, sym, ap, ◌∙◌, subst, append_assoc}
-use Rattle.std.specs.Prelude.{String, option_map, unwrap_or}
+use Rattle.std.specs.Prelude.{String, is_some, option_map, unwrap_or}
 use Rattle.std.proofs.lemmas.List.{append-nil, map-append, take_more}
 use Rattle.std.proofs.lemmas.List.Concat.{flat_map-append}
-use Rattle.clap.proofs.WalkLemmas.{one_text-rows}
+use Rattle.clap.proofs.WalkLemmas.{first_value-rows, one_text-rows, raw_values-rows}
 use Rattle.clap.specs.Walk.{rows_of}
-use Rattle.clap.specs.Words.{Row, Text, one_of, one_text}
+use Rattle.clap.specs.Words.{Row, Text, all_of, first_of, first_value, matched_of, one_of, one_text, raw_values}
 use Rattle.clap.specs.declared.parser.matches.Found.{Found}
 use Rattle.h264_words.specs.Options.{IsFlag}
+use Rattle.h264_words.proofs.Given.{some-given}
 use Rattle.h264_command.specs.Lists.{texts_in, flag_words, named_by, AreFlags, HasFlags, HasMore}
 
 -- a word more
@@ -27,6 +28,14 @@ pub flag-found : (found : Found) (option : Text) (has : Bool) → (one_text foun
 flag-found found option has none given not_given =
     let e = one_text-rows found option in
     record { absent = λ n. none (e ∙ n); given = λ t. given (e ∙ t); not_given = λ f. not_given (e ∙ f) }
+
+-- a value is found, or values are, exactly where the rows have some
+pub one-found : (found : Found) (id : Text) (r : Option (Bor Text)) → option_map (λ s. s.now) r ≡ first_value found id → is_some r ≡ is_some (first_of id (rows_of found))
+one-found found id r e = some-given (λ s. s.now) r _ (e ∙ first_value-rows found id)
+
+pub all-found : (found : Found) (id : Text) (r : Option (Bor (List (Bor Text)))) → option_map (λ s. map (λ v. v.now) s.now) r ≡ option_map raw_values (matched_of found id) →
+    is_some r ≡ is_some (all_of id (rows_of found))
+all-found found id r e = some-given (λ s. map (λ v. v.now) s.now) r _ (e ∙ raw_values-rows found id)
 
 -- the front of plain words, word by word
 pub front-of : (old first second third fourth last : List Text) (a b z : Text) (part vals : List Text) → first ≡ old ++ a ∷ [] → second ≡ first ++ b ∷ [] →

@@ -118,7 +118,6 @@ pub data Faults (words : List Text) (status : ℕ) (out err : OutputSpan) : Type
 abbrev pub has_fault_status : Listed → Bool
 has_fault_status (lists.Words words) = true
 has_fault_status (lists.Fault status) = (status == 64) || (status == 4)
-has_fault_status lists.Memory = true
 
 -- What is known of files: the bytes that the file of a name holds, where that is known; that a read failed; and that none did.
 pub record FilesRead : Type 1 where

@@ -1,10 +1,11 @@
 -- The plain words that stand for words which name files by lists. To be read beside docs/OUTPUT.md.
-use Rattle.std.specs.Prelude.{◌≡◌, ℕ, ⊤, Bool, true, false, List, [], ◌∷◌, ◌++◌, map, flat_map, unwrap_or, codes, string_bytes}
-use Rattle.std.specs.Prelude.{Option, None, Some, String, if◌then◌else◌}
+use Rattle.std.specs.Prelude.{◌≡◌, ◌≢◌, ◌⊎◌, ◌||◌, ◌&&◌, ℕ, ⊤, Bool, true, false, List, [], ◌∷◌, ◌++◌, map, flat_map, unwrap_or, codes, string_bytes}
+use Rattle.std.specs.Prelude.{Option, None, Some, IfSome, String, is_some, if◌then◌else◌}
 use Rattle.std.specs.Str.{bytes_eq}
-use Rattle.clap.specs.Words.{Row, Text, all_of, first_of, one_of}
+use Rattle.clap.specs.Words.{Row, Text, all_of, first_of, one_of, subcommand_of}
+use Rattle.h264_words.specs.ListWords.{list_program, takes_lists}
 use Rattle.h264_words.specs.Options.{IsFlag}
-use Rattle.h264_words.specs.Words.{flags, values}
+use Rattle.h264_words.specs.Words.{Given, IsRefusedBy, IsTakenBy, flags, program, values}
 use Rattle.h264_command.specs.declared.lists.Listed.{Listed}
 use Rattle.h264_command.specs.declared.lists.Listed.TheVariants as lists
 use Rattle.h264_command.specs.declared.lists.Unlisted.{Unlisted}
@@ -69,11 +70,46 @@ IsUnread name unlisted.Memory = ⊤
 IsUnread name (unlisted.Unread told cause) = string_bytes told ≡ name
 IsUnread name (unlisted.Refused text) = ⊥
 
+-- ---- words that have a list
+
+-- the arguments in these rows name files by lists or folders, or have a pattern of names
+abbrev pub lists_files : List Row → Bool
+lists_files rows = is_some (all_of (codes "files0-from") rows) || (is_some (all_of (codes "recursive") rows) || is_some (first_of (codes "glob") rows))
+
+-- Whether a subcommand with the arguments in these rows has a list: `explain` all labels, another a name for standard input or, where it takes several files,
+-- lists of them.
+pub record HasList (subcommand : Text) (rows : List Row) (has : Bool) : Type 0 where
+  pub labels : subcommand ≡ codes "explain" → IsFlag (one_of (codes "all") rows) has
+  pub files : subcommand ≢ codes "explain" → has ≡ (is_some (first_of (codes "name") rows) || (takes_lists subcommand && lists_files rows))
+
+-- The same of what words give a subcommand, where there is one.
+abbrev pub HasListIn : Given → Bool → Type 0
+HasListIn None has = has ≡ false
+HasListIn (Some p) has = HasList p.0 p.1 has
+
+-- The command line with lists takes words, and finds a list in them.
+abbrev pub FindsList : List Text → Type 0
+FindsList words = IsTakenBy list_program words × HasListIn (subcommand_of list_program words) true
+
+-- It does not take them, or finds none in them.
+abbrev pub FindsNoList : List Text → Type 0
+FindsNoList words = IsTakenBy list_program words → HasListIn (subcommand_of list_program words) false
+
+-- Words name files by lists: the plain command line refuses them, and that with lists finds one in them.
+abbrev pub NameByLists : List Text → Type 0
+NameByLists words = IsRefusedBy program words × FindsList words
+
+-- They do not: the plain command line takes them, or that with lists finds none in them.
+abbrev pub NameNoList : List Text → Type 0
+NameNoList words = IsTakenBy program words ⊎ FindsNoList words
+
 -- ---- all of them
 
--- Words that stand for others have the front of plain words, and then names of files or labels.
-abbrev pub IsPlainForm : Listed → Type 0
-IsPlainForm (lists.Words plain) = (subcommand : Text) × (rows : List Row) × (front : List Text) × IsFront subcommand rows front
-    × HasMore front (texts_in plain.items)
-IsPlainForm (lists.Fault status) = ⊤
-IsPlainForm lists.Memory = ⊤
+-- These plain words stand for others: they have the front of plain words, with the subcommand and the options of the others, and then names of files or labels.
+abbrev pub StandsFor : (plain words : List Text) → Type 0
+StandsFor plain words = IfSome (subcommand_of list_program words) (λ p. (front : List Text) × IsFront p.0 p.1 front × HasMore front plain)
+
+-- What comes of words stands for them, where it is words.
+abbrev pub IsPlainForm : List Text → Listed → Type 0
+IsPlainForm words (lists.Words plain) = StandsFor (texts_in plain.items) words
+IsPlainForm words (lists.Fault status) = ⊤

@@ -25,8 +25,9 @@ use Rattle.h264_words.specs.declared.options.Options.{Options}
 use Rattle.h264_words.specs.declared.refusal.Refusal.{Refusal}
 use Rattle.h264_words.specs.declared.command_line.Task.{Task}
 use Rattle.h264_words.specs.declared.command_line.Task.TheVariants as tasks
-use Rattle.clap.specs.Words.{Text, subcommand_of, takes}
+use Rattle.clap.specs.Words.{Text, subcommand_of}
 use Rattle.h264_command.specs.Commands.{Output, OutputSpan, from_to, FilesRead, files_read, Comes, HasFailed, IsHandedOver}
+use Rattle.h264_command.specs.Lists.{NameByLists, NameNoList, StandsFor}
 use Rattle.h264_command.specs.Files.{Counts, HasReadAll, IsUnread, TellsFailure}
 
 -- ---- one file
@@ -273,11 +274,13 @@ pub data Ends (words : List Text) (files : FilesSpan) (status : ℕ) (out : Outp
 
 -- What the program comes to with these words.
 pub data Runs (words : List Text) (files : FilesSpan) (status : ℕ) (out : OutputSpan) (err : Output) : Type 0 where
-  Asked : Ends words files status out err → Runs words files status out err
-  -- the plain command line does not take the words, and what comes of others stands for them: they name files by lists
-  Listed : takes program words ≡ false → (plain : List Text) (err' : Output) → Ends plain files status out err' → Runs words files status out err
+  -- the plain command line takes the words, or they name no files by lists
+  Asked : NameNoList words → Ends words files status out err → Runs words files status out err
+  -- they name files by lists, and what comes of others stands for them, which have their subcommand and their options
+  Listed : NameByLists words → (plain : List Text) → StandsFor plain words → (err' : Output) → Ends plain files status out err' →
+      Runs words files status out err
   -- nor can the lists be followed, and standard output is as it was
-  Unlisted : takes program words ≡ false → out.new ≡ out.old → Runs words files status out err
+  Unlisted : NameByLists words → out.new ≡ out.old → Runs words files status out err
   -- there was no memory for the words
   NoWords : (written : Bool) → status ≡ status_of written (Err Memory) → (written ≡ true → out.new.holds_back ≡ false) →
       Takes written out.old.bytes out.new.bytes (last_line modes.Full (Err Memory)) → Runs words files status out err

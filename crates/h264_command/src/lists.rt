@@ -7,12 +7,13 @@
 ghost use Rattle.std.specs.Prelude.{◌≡◌, ℕ, Bool, List, [], ◌∷◌, ◌++◌, false, true, IfErr, IfNone, IfOk, IfSome, OnOk, codes, map, option_map, string_bytes};
 ghost use Rattle.std.specs.Prelude.{unwrap_or};
 ghost use Rattle.clap.specs.Walk.{rows_of};
-ghost use Rattle.clap.specs.Words.{Text, all_of, first_of, found_of, one_of, takes};
+ghost use Rattle.clap.specs.Words.{Text, all_of, first_of, found_of, one_of, subcommand_of, subcommand_rows_of};
+ghost use Rattle.h264_words.specs.ListWords.{list_program};
 ghost use Rattle.h264_words.specs.Options.{IsFlag};
-ghost use Rattle.h264_words.specs.Words.{flags, program};
+ghost use Rattle.h264_words.specs.Words.{flags, program, IsRefusedBy, IsTakenBy};
 ghost use Rattle.h264_command.specs.Commands.{has_fault_status};
 ghost use Rattle.h264_command.specs.Lists.{texts_in, flag_words, value_words, all_values, named_by, names_given, HasFlags, HasMore, IsFront};
-ghost use Rattle.h264_command.specs.Lists.{IsPlainForm, IsUnread};
+ghost use Rattle.h264_command.specs.Lists.{lists_files, FindsList, FindsNoList, HasList, HasListIn, IsPlainForm, IsUnread, NameByLists, NameNoList};
 ghost use Rattle.h264_command.specs.declared.lists.Unlisted.TheVariants as unlisted;
 
 use crate::command::FAULT;
@@ -54,8 +55,6 @@ pub enum Listed {
     Words(Vec<String>),
     /// They can't be followed, and standard error is told why: the exit status.
     Fault(u8),
-    /// There was no memory for them.
-    Memory,
 }
 
 /// Why lists can't be followed.
@@ -91,17 +90,20 @@ fn add(names: &mut Vec<String>, name: String) -> Result<(), Unlisted>
     }
 }
 
-/// Whether the plain command line refuses words.
-fn is_refused(alloc: Global, words: &[String]) -> bool
-    ensures { result ≡ true → takes program (map (λ w. string_bytes w) words.now) ≡ false }
+/// Whether the plain command line refuses words. AllocError: there is no memory to find that out.
+fn is_refused(alloc: Global, words: &[String]) -> Result<bool, AllocError>
+    ensures taken { IfOk result (λ refused. refused ≡ false → IsTakenBy program (map (λ w. string_bytes w) words.now)) }
+    ensures refused { IfOk result (λ refused. refused ≡ true → IsRefusedBy program (map (λ w. string_bytes w) words.now)) }
 {
-    let Err(error) = asked(alloc, words) else {
-        return false;
-    };
-    if error.kind() == ErrorKind::OutOfMemory {
-        return false;
+    match asked(alloc, words) {
+        Ok(_) => Ok(false),
+        Err(error) => {
+            if error.kind() == ErrorKind::OutOfMemory {
+                return Err(AllocError);
+            }
+            Ok(true)
+        }
     }
-    true
 }
 
 /// The name of a list or a folder that can't be read, and why.
@@ -305,9 +307,22 @@ fn add_labels(
     add_texts(alloc, names, all_labels(alloc)?.as_slice())
 }
 
-/// Whether words name files by lists, or all labels.
+/// Whether words name files by lists or folders, or have a pattern of names.
+fn lists_files(found: &ArgMatches<'_>) -> bool
+    ensures { result ≡ lists_files (rows_of (found_of found.now)) }
+{
+    if found.get_strs("files0-from").is_some() {
+        return true;
+    }
+    if found.get_strs("recursive").is_some() {
+        return true;
+    }
+    found.get_str("glob").is_some()
+}
+
+/// Whether words name files by lists, standard input by a name of its own, or all labels.
 fn has_list(name: &str, found: &ArgMatches<'_>) -> bool
-    ensures { name.now ≡ codes "explain" → IsFlag (one_of (codes "all") (rows_of (found_of found.now))) result }
+    ensures { HasList name.now (rows_of (found_of found.now)) result }
 {
     if name == "explain" {
         return found.get_flag("all");
@@ -315,10 +330,7 @@ fn has_list(name: &str, found: &ArgMatches<'_>) -> bool
     if found.get_str("name").is_some() {
         return true;
     }
-    takes_lists(name)
-        && (found.get_strs("files0-from").is_some()
-            || found.get_strs("recursive").is_some()
-            || found.get_str("glob").is_some())
+    takes_lists(name) && lists_files(found)
 }
 
 /// Adds the word of an option without a value, where it was found.
@@ -399,16 +411,39 @@ fn add_front(
     Ok(())
 }
 
-/// What words say that have a list. None where they have none.
-fn list_in<'a>(alloc: Global, words: &'a [String]) -> Option<ArgMatches<'a>> {
-    let Ok(matches) = listed(alloc, words) else {
-        return None;
-    };
-    let has_one = match matches.subcommand() {
+/// Whether the matches of words have a list.
+fn name_by_lists(matches: &ArgMatches<'_>) -> bool
+    ensures { HasListIn (subcommand_rows_of matches.now) result }
+{
+    match matches.subcommand() {
         Some((name, found)) => has_list(name, found),
         None => false,
-    };
-    if has_one { Some(matches) } else { None }
+    }
+}
+
+/// What words say that have a list. None where they have none. AllocError: there is no memory to find that out.
+fn list_in<'a>(alloc: Global, words: &'a [String]) -> Result<Option<ArgMatches<'a>>, AllocError>
+    ensures some { IfOk result (λ found. IfSome found (λ m.
+        (subcommand_rows_of m ≡ subcommand_of list_program (map (λ w. string_bytes w) words.entry.now))
+        × FindsList (map (λ w. string_bytes w) words.entry.now))) }
+    ensures none { IfOk result (λ found. IfNone found (FindsNoList (map (λ w. string_bytes w) words.entry.now))) }
+{
+    match listed(alloc, words) {
+        Ok(matches) => {
+            if name_by_lists(&matches) {
+                Ok(Some(matches))
+            } else {
+                Ok(None)
+            }
+        }
+        Err(error) => {
+            if error.kind() == ErrorKind::OutOfMemory {
+                Err(AllocError)
+            } else {
+                Ok(None)
+            }
+        }
+    }
 }
 
 /// Adds the plain words that stand for those of a subcommand with a list.
@@ -433,38 +468,40 @@ fn follow<L: Lister, E: Device>(
     }
 }
 
-/// What comes of words that name files by lists, the program's name first. None where they have no list, as all words that the plain command line takes.
+/// What comes of words that name files by lists, the program's name first. None exactly where they name none so: where the plain command line takes them, or
+/// that with lists does not, or finds no list in them. AllocError: there is no memory to find that out, or to follow the lists.
 pub fn listed_words<L: Lister, E: Device>(
     alloc: Global,
     words: &[String],
     lister: &L,
     err: &mut E,
-) -> Option<Listed>
-    ensures refused { IfSome result (λ _. takes program (map (λ w. string_bytes w) words.now) ≡ false) }
-    ensures untold { IfNone result (err.new ≡ err.old) }
-    ensures status { IfSome result (λ listed. has_fault_status listed ≡ true) }
-    ensures plain { IfSome result (λ listed. IsPlainForm listed) }
+) -> Result<Option<Listed>, AllocError>
+    ensures listed { IfOk result (λ found. IfSome found (λ _. NameByLists (map (λ w. string_bytes w) words.now))) }
+    ensures unlisted { IfOk result (λ found. IfNone found (NameNoList (map (λ w. string_bytes w) words.now))) }
+    ensures untold { IfOk result (λ found. IfNone found (err.new ≡ err.old)) }
+    ensures status { IfOk result (λ found. IfSome found (λ listed. has_fault_status listed ≡ true)) }
+    ensures plain { IfOk result (λ found. IfSome found (λ listed. IsPlainForm (map (λ w. string_bytes w) words.now) listed)) }
 {
-    if !is_refused(alloc, words) {
-        return None;
+    if !is_refused(alloc, words)? {
+        return Ok(None);
     }
-    let Some(matches) = list_in(alloc, words) else {
-        return None;
+    let Some(matches) = list_in(alloc, words)? else {
+        return Ok(None);
     };
     let Some(subcommand) = matches.subcommand() else {
-        return None;
+        return Ok(None);
     };
     let mut plain: Vec<String> = Vec::new(alloc);
     match follow(alloc, &mut plain, subcommand, lister, err) {
-        Ok(()) => Some(Listed::Words(plain)),
-        Err(Unlisted::Memory) => Some(Listed::Memory),
+        Ok(()) => Ok(Some(Listed::Words(plain))),
+        Err(Unlisted::Memory) => Err(AllocError),
         Err(Unlisted::Unread(name, cause)) => {
             blame(alloc, err, name.as_str(), &cause);
-            Some(Listed::Fault(FAILED))
+            Ok(Some(Listed::Fault(FAILED)))
         }
         Err(Unlisted::Refused(text)) => {
             let _ = put_text(err, text);
-            Some(Listed::Fault(FAULT))
+            Ok(Some(Listed::Fault(FAULT)))
         }
     }
 }

@@ -107,10 +107,12 @@ where
         (span_by W.contents out.old out.new) (output_by E.contents err.old) }
 {
     match listed_words(alloc, words, files.opener(), err) {
-        None => answer_words(alloc, words, files, out, err, meter),
-        Some(Listed::Words(plain)) => answer_words(alloc, plain.as_slice(), files, out, err, meter),
-        Some(Listed::Fault(status)) => status,
-        Some(Listed::Memory) => put_memory(out).status(),
+        Ok(None) => answer_words(alloc, words, files, out, err, meter),
+        Ok(Some(Listed::Words(plain))) => {
+            answer_words(alloc, plain.as_slice(), files, out, err, meter)
+        }
+        Ok(Some(Listed::Fault(status))) => status,
+        Err(_) => put_memory(out).status(),
     }
 }
 

@@ -1,3 +1,4 @@
 pub mod EachLabel
 pub mod Given
 mod InTurn
+mod Taken

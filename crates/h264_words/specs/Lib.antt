@@ -1,3 +1,4 @@
 pub mod Labels
+pub mod ListWords
 pub mod Options
 pub mod Words

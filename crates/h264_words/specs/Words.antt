@@ -3,7 +3,7 @@
 use Rattle.std.specs.Prelude.{◌≡◌, ℕ, Bool, true, false, List, [], ◌∷◌, fold, Option, Some, None, option_map, option_and_then, unwrap_or, codes, if◌then◌else◌}
 use Rattle.std.specs.Str.{bytes_eq}
 use Rattle.clap.specs.Lexer.{usize_max}
-use Rattle.clap.specs.Words.{App, Row, Rule, Shape, Text, new_app, all_of, first_of, new_rule, subcommand_of, subcommand_rows_of, takes, with_rule}
+use Rattle.clap.specs.Words.{App, Row, Rule, Shape, Text, fault_of, new_app, all_of, first_of, new_rule, subcommand_of, subcommand_rows_of, takes, with_rule}
 use Rattle.clap.specs.Words.{with_subcommand}
 use Rattle.clap.specs.declared.builder.action.ArgAction.TheVariants.{Set, SetTrue}
 use Rattle.clap.specs.declared.parser.matches.ArgMatches.{ArgMatches}
@@ -68,6 +68,15 @@ subcommands =
 
 abbrev pub program : App
 program = fold with_file bare subcommands
+
+-- A command line takes these words: clap has no kind of error for them.
+abbrev pub IsTakenBy : App → List Text → Type 0
+IsTakenBy app words = fault_of app words ≡ []
+
+-- A command line refuses these words: clap has a kind of error for them, and does not say that they pass.
+pub record IsRefusedBy (app : App) (words : List Text) : Type 0 where
+  pub fault : IsTakenBy app words → ⊥
+  pub fails : takes app words ≡ false
 
 -- the name of a task's subcommand
 abbrev pub name_of : Task → Text

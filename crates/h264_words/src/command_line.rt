@@ -6,14 +6,15 @@
 //! want of memory alone.
 #![tactic(auto)]
 
-ghost use Rattle.std.specs.Prelude.{◌≡◌, ◌↔◌, true, false, length, map, None, Some, IfOk, IfErr, IfSome, option_map, string_bytes, codes};
+ghost use Rattle.std.specs.Prelude.{◌≡◌, ◌↔◌, true, false, fold, length, map, None, Some, IfOk, IfErr, IfSome, option_map, string_bytes, codes};
 ghost use Rattle.clap.specs.Words.{app_of, found_of, takes, kind_of, subcommand_of, subcommand_rows_of, with_rule};
 ghost use Rattle.clap.specs.Walk.{rows_of};
 ghost use Rattle.clap.specs.declared.error.kind.ErrorKind.TheVariants as kinds;
 ghost use Rattle.clap.specs.declared.builder.command.Command.TheViews.{out-Command as fields_of};
-ghost use Rattle.h264_words.specs.Words.{files_rule, flag_rule, value_rule, with_flags, with_values, file_app, with_file, bare, program, name_of};
+ghost use Rattle.h264_words.specs.Words.{files_rule, flag_rule, value_rule, with_flags, with_values, file_app, with_file, bare, program, name_of, IsTakenBy};
 ghost use Rattle.h264_words.specs.Words.{is_judging, found_by, IsRequest, IsTarget, AsksFor, all_in, value_in, values_in};
 ghost use Rattle.h264_base.specs.declared.mode.Target.{Target as TargetView};
+ghost use Rattle.h264_words.specs.ListWords.{lettered_rule, list_app, list_program, list_rule, list_rules, takes_lists, with_list_file};
 ghost use Rattle.h264_words.specs.Options.{asks_further, flag_in, AsksForMore, HasNoOption, HasOption, IsFlag, IsPlain};
 ghost use Rattle.h264_words.specs.declared.command_line.Task.{Task as TaskView};
 
@@ -466,18 +467,55 @@ const NAME_HELP: (&str, &str) = (
     "The name that standard input has in lines and objects",
 );
 
-/// An option that takes a value, with what its help says.
-fn list_option<'a>(alloc: Global, option: &'a str, about: (&'a str, &'a str)) -> Arg<'a> {
-    Arg::new(alloc, option)
-        .long(option)
-        .action(ArgAction::Set)
-        .value_name(about.0)
-        .help(about.1)
-}
+/// What the help says of `--all`.
+const ALL_HELP: &str = "Tells all labels";
 
 /// Whether a subcommand takes several files, and so lists of them.
-pub fn takes_lists(name: &str) -> bool {
+pub fn takes_lists(name: &str) -> bool
+    ensures { result ≡ takes_lists name.now }
+{
     name != "decode" && name != "report" && name != "explain"
+}
+
+/// The command with one more option, which takes a value and has no letter.
+fn with_list<'a>(
+    alloc: Global,
+    command: Command<'a>,
+    option: &'a str,
+    action: ArgAction,
+    about: (&'a str, &'a str),
+) -> Result<Command<'a>, AllocError>
+    requires local { (fields_of command).has_globals ≡ false }
+    ensures app { IfOk result (λ c. app_of c ≡ with_rule (app_of command.entry) (list_rule option.now action)) }
+    ensures local { IfOk result (λ c. (fields_of c).has_globals ≡ false) }
+{
+    let list = Arg::new(alloc, option)
+        .long(option)
+        .action(action)
+        .value_name(about.0)
+        .help(about.1);
+    command.arg(list)
+}
+
+/// The command with one more option, which takes a value, has a letter and may come several times.
+fn with_lettered_list<'a>(
+    alloc: Global,
+    command: Command<'a>,
+    option: &'a str,
+    letter: char,
+    about: (&'a str, &'a str),
+) -> Result<Command<'a>, AllocError>
+    requires local { (fields_of command).has_globals ≡ false }
+    ensures app { IfOk result (λ c. app_of c ≡ with_rule (app_of command.entry) (lettered_rule option.now letter)) }
+    ensures local { IfOk result (λ c. (fields_of c).has_globals ≡ false) }
+{
+    let list = Arg::new(alloc, option)
+        .long(option)
+        .short(letter)
+        .action(ArgAction::Append)
+        .value_name(about.0)
+        .help(about.1);
+    command.arg(list)
 }
 
 /// The command with the options that name files by lists.
@@ -485,35 +523,28 @@ fn with_lists<'a>(
     alloc: Global,
     command: Command<'a>,
     name: &'a str,
-) -> Result<Command<'a>, AllocError> {
+) -> Result<Command<'a>, AllocError>
+    requires local { (fields_of command).has_globals ≡ false }
+    ensures app { IfOk result (λ c. app_of c ≡ fold with_rule (app_of command.entry) (list_rules name.now)) }
+    ensures local { IfOk result (λ c. (fields_of c).has_globals ≡ false) }
+{
     if name == "explain" {
-        return command.arg(
-            Arg::new(alloc, "all")
-                .long("all")
-                .action(ArgAction::SetTrue)
-                .help("Tells all labels"),
-        );
+        return with_flag(alloc, command, "all", ALL_HELP, false);
     }
-    let command = command.arg(list_option(alloc, "name", NAME_HELP))?;
+    let named = with_list(alloc, command, "name", ArgAction::Set, NAME_HELP)?;
     if !takes_lists(name) {
-        return Ok(command);
+        return Ok(named);
     }
-    let list = list_option(alloc, "files0-from", LIST_HELP).action(ArgAction::Append);
-    let folder = list_option(alloc, "recursive", FOLDER_HELP)
-        .short('r')
-        .action(ArgAction::Append);
-    command
-        .arg(list)?
-        .arg(folder)?
-        .arg(list_option(alloc, "glob", GLOB_HELP))
+    let listed = with_list(alloc, named, "files0-from", ArgAction::Append, LIST_HELP)?;
+    let below = with_lettered_list(alloc, listed, "recursive", 'r', FOLDER_HELP)?;
+    with_list(alloc, below, "glob", ArgAction::Set, GLOB_HELP)
 }
 
 /// A subcommand that takes files, options and lists of files; its help says `about`.
-fn list_command<'a>(
-    alloc: Global,
-    name: &'a str,
-    about: &'a str,
-) -> Result<Command<'a>, AllocError> {
+fn list_command<'a>(alloc: Global, name: &'a str, about: &'a str) -> Result<Command<'a>, AllocError>
+    ensures app { IfOk result (λ c. app_of c ≡ list_app name.now) }
+    ensures local { IfOk result (λ c. (fields_of c).has_globals ≡ false) }
+{
     let command = with_files(alloc, Command::new(alloc, name).about(about), name, false)?;
     let command = with_flags(alloc, command, name)?;
     let command = with_values(alloc, command, name)?;
@@ -615,6 +646,9 @@ pub fn asked<'a>(alloc: Global, words: &'a [String]) -> Result<Option<Wanted<'a>
     ensures matches { IfOk result (λ found. IfSome found (λ a. subcommand_rows_of a.matches ≡
         subcommand_of program (map (λ w. string_bytes w) words.entry.now))) }
     ensures refused { IfErr result (λ e. takes program (map (λ w. string_bytes w) words.entry.now) ≡ true → kind_of e ≡ kinds.OutOfMemory) }
+    // The command line takes the words of a request, and refuses others alone.
+    ensures taken { IfOk result (λ _. IsTakenBy program (map (λ w. string_bytes w) words.entry.now)) }
+    ensures untaken { IfErr result (λ e. IsTakenBy program (map (λ w. string_bytes w) words.entry.now) → kind_of e ≡ kinds.OutOfMemory) }
 {
     let command = program(alloc)?;
     let matches = command.try_get_matches_from(words)?;
@@ -624,17 +658,42 @@ pub fn asked<'a>(alloc: Global, words: &'a [String]) -> Result<Option<Wanted<'a>
     }
 }
 
+/// The command with one more subcommand, which takes lists of files.
+fn with_list_file<'a>(
+    alloc: Global,
+    command: Command<'a>,
+    name: &'a str,
+    about: &'a str,
+) -> Result<Command<'a>, AllocError>
+    requires local { (fields_of command).has_globals ≡ false }
+    ensures app { IfOk result (λ c. app_of c ≡ with_list_file (app_of command.entry) name.now) }
+    ensures local { IfOk result (λ c. (fields_of c).has_globals ≡ false) }
+{
+    let added = list_command(alloc, name, about)?;
+    command.subcommand(added)
+}
+
 /// The command line with lists of files.
-fn list_program<'a>(alloc: Global) -> Result<Command<'a>, AllocError> {
+fn list_program<'a>(alloc: Global) -> Result<Command<'a>, AllocError>
+    ensures { IfOk result (λ c. app_of c ≡ list_program) }
+{
     let mut command = bare(alloc);
     for (name, about) in SUBCOMMANDS {
-        command = command.subcommand(list_command(alloc, name, about)?)?;
+        command = with_list_file(alloc, command, name, about)?;
     }
     Ok(command)
 }
 
-/// What the words say to the command line with lists of files, which takes what the plain one takes, and words without a FILE. An error has the text that
-/// says why it does not take them.
-pub fn listed<'a>(alloc: Global, words: &'a [String]) -> Result<ArgMatches<'a>, Error> {
-    list_program(alloc)?.try_get_matches_from(words)
+/// What the words say to the command line with lists of files, the program's name first among them. It takes what the plain one takes, words without a FILE,
+/// and the options that name files by lists.
+///
+/// An error has the text that says why it does not take them, or memory was wanting for it.
+pub fn listed<'a>(alloc: Global, words: &'a [String]) -> Result<ArgMatches<'a>, Error>
+    ensures taken { IfOk result (λ _. IsTakenBy list_program (map (λ w. string_bytes w) words.entry.now)) }
+    // The matches are clap's of these words.
+    ensures matches { IfOk result (λ m. subcommand_rows_of m ≡ subcommand_of list_program (map (λ w. string_bytes w) words.entry.now)) }
+    ensures refused { IfErr result (λ e. IsTakenBy list_program (map (λ w. string_bytes w) words.entry.now) → kind_of e ≡ kinds.OutOfMemory) }
+{
+    let command = list_program(alloc)?;
+    command.try_get_matches_from(words)
 }
