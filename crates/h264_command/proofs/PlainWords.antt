@@ -30,10 +30,12 @@ flag-found found option has none given not_given =
     record { absent = λ n. none (e ∙ n); given = λ t. given (e ∙ t); not_given = λ f. not_given (e ∙ f) }
 
 -- a value is found, or values are, exactly where the rows have some
-pub one-found : (found : Found) (id : Text) (r : Option (Bor Text)) → option_map (λ s. s.now) r ≡ first_value found id → is_some r ≡ is_some (first_of id (rows_of found))
+pub one-found : (found : Found) (id : Text) (r : Option (Bor Text)) → option_map (λ s. s.now) r ≡ first_value found id → is_some r ≡
+    is_some (first_of id (rows_of found))
 one-found found id r e = some-given (λ s. s.now) r _ (e ∙ first_value-rows found id)
 
-pub all-found : (found : Found) (id : Text) (r : Option (Bor (List (Bor Text)))) → option_map (λ s. map (λ v. v.now) s.now) r ≡ option_map raw_values (matched_of found id) →
+pub all-found : (found : Found) (id : Text) (r : Option (Bor (List (Bor Text)))) → option_map (λ s. map (λ v. v.now) s.now) r ≡
+    option_map raw_values (matched_of found id) →
     is_some r ≡ is_some (all_of id (rows_of found))
 all-found found id r e = some-given (λ s. map (λ v. v.now) s.now) r _ (e ∙ raw_values-rows found id)
 

@@ -1,5 +1,6 @@
 -- What is found of words, by clap's rows of a subcommand.
-use Rattle.std.proofs.Common.{◌≡◌, ℕ, ◌+◌, List, [], ◌∷◌, fold, cond, Bool, refl, Bor, Option, Some, None, map, option_map, unwrap_or, codes, sym, ap, ap₂, ◌∙◌, arith}
+use Rattle.std.proofs.Common.{◌≡◌, ℕ, ◌+◌, List, [], ◌∷◌, fold, cond, Bool, refl, Bor, Option, Some, None, map, option_map, unwrap_or, codes, sym, ap}
+use Rattle.std.proofs.Common.{ap₂, ◌∙◌, arith}
 use Rattle.std.specs.Prelude.{option_and_then}
 use Rattle.std.specs.List.{count_by}
 use Rattle.std.specs.Option.{is_some}

@@ -10,7 +10,8 @@ pub returns-then-eq : goal.returns-then-eq
 returns-then-eq c =
     let is : c.args.name.now ≡ codes "explain" = search rules in
     record {
-      labels = λ _. flag-found (found_of c.args.found.now) (codes "all") c.get_flag.result c.get_flag.ensures.none c.get_flag.ensures.value c.get_flag.ensures.other;
+      labels = λ _. flag-found (found_of c.args.found.now) (codes "all") c.get_flag.result c.get_flag.ensures.none c.get_flag.ensures.value
+          c.get_flag.ensures.other;
       files = λ other. absurd (other is);
     }
 
