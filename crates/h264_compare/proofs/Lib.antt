@@ -1,0 +1,4 @@
+pub mod Noting
+pub mod Matching
+pub mod Sizes
+pub mod Adding
