@@ -2,3 +2,4 @@ pub mod Noting
 pub mod Matching
 pub mod Sizes
 pub mod Adding
+pub mod Equal

@@ -3,6 +3,7 @@
 
 pub mod comparing;
 pub mod given;
+pub mod laws;
 pub mod numbers;
 pub mod shown;
 pub mod sink;
