@@ -3,3 +3,4 @@ pub mod Matching
 pub mod Sizes
 pub mod Adding
 pub mod Equal
+pub mod Again

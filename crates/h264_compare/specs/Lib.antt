@@ -3,4 +3,5 @@ pub mod Differences
 pub mod Numbers
 pub mod Given
 pub mod Compared
+pub mod Opened
 pub mod Stands

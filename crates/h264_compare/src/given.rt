@@ -81,7 +81,7 @@ pub fn read_some<R: Read>(reader: &mut R, piece: &mut [u8]) -> Result<usize, Lac
 }
 
 /// Reads one byte.
-fn read_byte<R: Read>(reader: &mut R) -> Result<u8, Lack>
+pub(crate) fn read_byte<R: Read>(reader: &mut R) -> Result<u8, Lack>
     ensures bytes { IfOk result (λ byte. Consumes (R.remaining reader.old) (R.remaining reader.new) (byte ∷ [])) }
     ensures kept { OnErr result (Keeps (R.remaining reader.old) (R.remaining reader.new)) }
     ensures ended { IfErr result (λ lack. EndsAt lack (R.remaining reader.new)) }
