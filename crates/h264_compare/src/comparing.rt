@@ -1,8 +1,8 @@
 //! The samples of a frame, compared with the next bytes of a reconstruction.
 #![tactic(auto)]
 
-ghost use Rattle.std.specs.Prelude.{◌≡◌, ◌<◌, ◌≤◌, ◌+◌, ◌-◌, ◌^◌, [], length, take, drop, None, Some, IfOk, IfErr, OnErr, IsTrue};
-ghost use Rattle.std.specs.Io.KnownBytes.{Consumes, Keeps};
+ghost use Rattle.std.specs.Prelude.{◌≡◌, ℕ, ◌∷◌, true, false, ◌<◌, ◌≤◌, ◌+◌, ◌-◌, ◌^◌, [], length, take, drop, None, Some, IfOk, IfErr, OnErr, IsTrue};
+ghost use Rattle.std.specs.Io.KnownBytes.{Consumes, Keeps, IsAtEnd};
 ghost use Rattle.h264_dpb.specs.Shown.{fits, width_in, height_in};
 ghost use Rattle.h264_lines.specs.Frames.{shown_bytes};
 ghost use Rattle.h264_compare.specs.Given.{Compares, EndsAt};
@@ -10,7 +10,7 @@ ghost use Rattle.h264_compare.specs.Numbers.{AreNumbersOf};
 ghost use Rattle.h264_compare.specs.Compared.{ComparesFrame, ComparesNext, picture_of};
 ghost use Rattle.h264_compare.specs.Stands.{stands};
 
-use crate::given::{Lack, Layout, pass_line, read_some};
+use crate::given::{Lack, Layout, pass_line, read_byte, read_some};
 use crate::numbers::Numbers;
 use crate::shown::{ShownFrame, shown_frame};
 use h264_dpb::Rectangle;
@@ -222,5 +222,21 @@ impl<R: Read + Drop> Comparison<R> {
         let run = self.compare_next(layout, shown, frame, rectangle);
         self.numbers.end(run.differs);
         run.lack
+    }
+
+    /// Whether no byte of the reconstruction is left. Where one is, it is read.
+    ///
+    /// Unread: a read failed.
+    pub fn is_at_end(&mut self) -> Result<bool, Lack>
+        ensures ended { IfOk result (λ at_end. at_end ≡ true → IsAtEnd (R.remaining self.new.reader)) }
+        ensures goes_on { IfOk result (λ at_end. at_end ≡ false → (byte : ℕ) × Consumes (R.remaining self.old.reader) (R.remaining self.new.reader)
+            (byte ∷ [])) }
+        ensures numbers { self.new.numbers ≡ self.old.numbers }
+    {
+        match read_byte(&mut self.reader) {
+            Ok(_) => Ok(false),
+            Err(Lack::TooShort) => Ok(true),
+            Err(lack) => Err(lack),
+        }
     }
 }

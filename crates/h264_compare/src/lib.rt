@@ -13,6 +13,7 @@
 pub mod comparing;
 pub mod given;
 pub mod laws;
+pub mod lines;
 pub mod numbers;
 pub mod opening;
 pub mod psnr;

@@ -1,7 +1,8 @@
 //! A sink that compares the frames of a stream with a reconstruction.
 #![tactic(auto)]
 
-ghost use Rattle.std.specs.Prelude.{◌≡◌, ◌+◌, ◌-◌, ◌<◌, ◌^◌, false, [], None, OnOk};
+ghost use Rattle.std.specs.Prelude.{◌≡◌, ℕ, ◌+◌, ◌-◌, ◌<◌, ◌^◌, true, false, [], ◌∷◌, None, IfOk, OnOk};
+ghost use Rattle.std.specs.Io.KnownBytes.{Consumes, IsAtEnd};
 ghost use Rattle.h264_compare.specs.Numbers.{AreNumbersOf};
 
 use crate::comparing::Comparison;
@@ -73,6 +74,18 @@ impl<R: Read + Drop, K: Reconstruction> CompareSink<R, K> {
         ensures { result ≡ self.now.comparison.numbers }
     {
         self.comparison.numbers
+    }
+
+    /// Whether no byte of the reconstruction is left, after the frames that it took. Where one is, it is read.
+    ///
+    /// Unread: a read failed.
+    pub fn is_at_end(&mut self) -> Result<bool, Lack>
+        ensures ended { IfOk result (λ at_end. at_end ≡ true → IsAtEnd (R.remaining self.new.comparison.reader)) }
+        ensures goes_on { IfOk result (λ at_end. at_end ≡ false → (byte : ℕ) × Consumes (R.remaining self.old.comparison.reader)
+            (R.remaining self.new.comparison.reader) (byte ∷ [])) }
+        ensures numbers { self.new.comparison.numbers ≡ self.old.comparison.numbers }
+    {
+        self.comparison.is_at_end()
     }
 
     /// Whether nothing more is read: the reconstruction lacks something, or no more frames can be counted.
