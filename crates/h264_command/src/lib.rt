@@ -7,6 +7,7 @@
 #![tactic(auto)]
 
 mod command;
+pub mod comparing;
 mod decoding;
 mod explaining;
 pub mod files;

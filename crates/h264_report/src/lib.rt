@@ -2,6 +2,7 @@
 //!
 //! `list`, `check` and `decode` judge a stream with a sink of h264_lines, and write the last line. `judge_unnoted` gives the answer of
 //! `check` alone, and takes less time.
+//! `compare` judges a stream, and compares its frames with a reconstruction.
 //! `judge_strictly` judges a stream, and beside that reads its units, for the rules of h264_strict on start codes, on delimiters, and on bytes that the
 //! verdict passes over.
 //!
@@ -10,11 +11,13 @@
 //! are on the same bytes (`Rattle.h264_strict.specs.StrictUnits`).
 #![tactic(auto)]
 
+pub mod comparing;
 pub mod judging;
 pub mod no_sink;
 pub mod strict_judging;
 pub mod strict_source;
 
+pub use comparing::compare;
 pub use judging::{Ending, check, decode, judge_unnoted, list, put_answer, put_line, put_memory};
 pub use no_sink::NoSink;
 pub use strict_judging::{StrictJudgement, judge_strictly};

@@ -8,6 +8,7 @@
 #![tactic(auto)]
 
 pub mod command_line;
+pub mod comparing;
 pub mod glob;
 pub mod labels;
 pub mod options;
