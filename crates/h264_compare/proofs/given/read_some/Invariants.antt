@@ -1,0 +1,5 @@
+use Rattle.std.specs.Io.KnownBytes.{Keeps}
+use Rattle.h264_compare.proofs.given.read_some.Given as goal
+
+abbrev pub invariant-loop : goal.invariant-loop
+invariant-loop g l = Keeps (g.R.Read.remaining l.fn.reader) (g.R.Read.remaining l.reader)
