@@ -9,5 +9,5 @@ pub returns-clause-app : goal.returns-clause-app
 returns-clause-app c =
     let name = c.args.name.now in
     let front : app_of c.in_ok-command-3.command ≡ with_values (with_flags (with_rule (new_app name) (record files_rule { required = false }))) =
-        search rules in
+    search rules in
     IfOk-weaker c.with_lists.result _ _ (λ r h. h ∙ ap (λ (a : App). fold with_rule a (list_rules name)) front) c.with_lists.ensures.app
