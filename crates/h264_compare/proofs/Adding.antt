@@ -1,5 +1,6 @@
 -- What comes of a frame more, and of calls.
-use Rattle.std.proofs.Common.{◌≡◌, ℕ, zero, suc, ◌+◌, List, [], ◌∷◌, ◌++◌, length, Bool, Option, None, Some, if◌then◌else◌, refl, sym, ap, ap₂, ◌∙◌, subst, arith, append-nil}
+use Rattle.std.proofs.Common.{◌≡◌, ℕ, zero, suc, ◌+◌, List, [], ◌∷◌, ◌++◌, length, Bool, Option, None, Some, if◌then◌else◌, refl, sym, ap, ap₂, ◌∙◌}
+use Rattle.std.proofs.Common.{subst, arith, append-nil}
 use Rattle.std.specs.List.{All, sum_by, flat_map, range_with_len}
 use Rattle.std.specs.Io.KnownBytes.{Consumes}
 use Rattle.std.proofs.KnownBytes.{Consumes-trans}
@@ -15,7 +16,8 @@ use Rattle.h264_compare.specs.Places.{luma}
 use Rattle.h264_compare.specs.Differences.{differ, differences, first_of, squares}
 use Rattle.h264_compare.specs.Given.{Standing, EndsWith}
 use Rattle.h264_compare.specs.Numbers.{Compared, AreNoted, AreNumbersOf, capped, earlier, differences_of}
-use Rattle.h264_compare.specs.Compared.{AddsFrame, ComparesFrame, HasCompared, AreGiven, IsWhole, Picture, Suits, compared_as, picture_in, pictures_of, read_for}
+use Rattle.h264_compare.specs.Compared.{AddsFrame, ComparesFrame, HasCompared, AreGiven, IsWhole, Picture, Suits, compared_as, picture_in}
+use Rattle.h264_compare.specs.Compared.{pictures_of, read_for}
 use Rattle.h264_compare.proofs.Noting.{capped-twice, first_of-append}
 
 -- a frame that was begun, noted and ended
@@ -77,7 +79,8 @@ module _ (start : Option (List ℕ)) (layout : Layout) where
         numbered = map-append (λ f. f.shown.number) fs (f ∷ []) ∙ ap₂ (λ a n. a ++ n ∷ []) h.numbered (c.adds.number ∙ h.numbers.frames)
             ∙ sym (range-more 0 (length fs) (length fs) (omega arith)) ∙ ap (range_with_len 0)
             (let e = length-append fs (f ∷ []) in let k : suc (length fs) ≡ length (fs ++ f ∷ []) = omega (arith, e) in k);
-        read = subst (Consumes start new.left) (ap (λ l. flat_map read_for fs ++ l) (sym (append-nil (read_for f))) ∙ sym (flat_map-append read_for fs (f ∷ [])))
+        read = subst (Consumes start new.left) (ap (λ l. flat_map read_for fs ++ l) (sym (append-nil (read_for f))) ∙
+            sym (flat_map-append read_for fs (f ∷ [])))
             (Consumes-trans start old.left new.left (flat_map read_for fs) (read_for f) h.read c.read);
         suit = All-append (Suits layout) fs (f ∷ []) h.suit (All-cons (Suits layout) f [] (subst (λ l. Suits l f) same c.suits_it) (All-nil (Suits layout)));
         given = given-more lack' new.left fs f (subst (λ l. AreGiven l old.left fs) whole h.given) c.ends;

@@ -1,5 +1,6 @@
 -- What was noted of samples, and of more samples after them.
-use Rattle.std.proofs.Common.{◌≡◌, ℕ, ◌+◌, ◌-◌, ◌*◌, ◌^◌, ◌<◌, ◌≤◌, ◌==◌, ◌||◌, not, true, false, List, [], ◌∷◌, ◌++◌, length, take, slice_index, add-one, Option, Some, None, if◌then◌else◌, refl, sym, ap, ap₂, ◌∙◌, arith}
+use Rattle.std.proofs.Common.{◌≡◌, ℕ, ◌+◌, ◌-◌, ◌*◌, ◌^◌, ◌<◌, ◌≤◌, ◌==◌, ◌||◌, not, true, false, List, [], ◌∷◌, ◌++◌, length, take, slice_index}
+use Rattle.std.proofs.Common.{add-one, Option, Some, None, if◌then◌else◌, refl, sym, ap, ap₂, ◌∙◌, arith}
 use Rattle.std.proofs.Math.Seq.{take-suc}
 use Rattle.std.proofs.lemmas.List.{append_assoc, length-take-le}
 use Rattle.std.specs.Option.{is_some}
@@ -93,7 +94,8 @@ module _ (ys zs : List ℕ) where
       squares c f byte (xs ++ ys) (ws ++ zs) ≡ squares c f byte xs ws + squares c f after ys zs
   unfolding squares
   squares-append c f byte after [] [] same at =
-      let e : byte ≡ after = omega (arith, at) in ap (λ n. squares c f n ys zs) e ∙ (let z : squares c f after ys zs ≡ 0 + squares c f after ys zs = omega arith in z)
+      let e : byte ≡ after = omega (arith, at) in ap (λ n. squares c f n ys zs) e ∙
+      (let z : squares c f after ys zs ≡ 0 + squares c f after ys zs = omega arith in z)
   squares-append c f byte after [] (w ∷ ws) same at = absurd (omega (arith, same))
   squares-append c f byte after (x ∷ xs) [] same at = absurd (omega (arith, same))
   squares-append c f byte after (x ∷ xs) (w ∷ ws) same at =

@@ -27,13 +27,14 @@ pub record Standing : Type 0 where
   pub left : Option (List ℕ)
   pub numbers : Numbers
 
--- From old to new these samples were compared, which stand at this byte of a frame, with the bytes that were read.
-pub record Compares (f : ShownFrame) (byte : ℕ) (old new : Standing) (made : List ℕ) (differs : Bool) (lack : Option Lack) : Type 0 where
-  pub given : List ℕ
-  pub read : Consumes old.left new.left given
-  pub noted : AreNoted f byte old.numbers new.numbers made given
-  pub differs_are : differs ≡ differ made given
-  pub ends : EndsWith lack new.left made given
+module _ (f : ShownFrame) (byte : ℕ) where
+  -- From old to new these samples were compared, which stand at this byte of a frame, with the bytes that were read.
+  pub record Compares (old new : Standing) (made : List ℕ) (differs : Bool) (lack : Option Lack) : Type 0 where
+    pub given : List ℕ
+    pub read : Consumes old.left new.left given
+    pub noted : AreNoted f byte old.numbers new.numbers made given
+    pub differs_are : differs ≡ differ made given
+    pub ends : EndsWith lack new.left made given
 
 -- FRAME, parameters, and the end of the line
 pub record IsFrameLine (line : List ℕ) : Type 0 where

@@ -16,7 +16,8 @@ returns-else-made-given c =
     let f = c.args.frame in
     noted-one f c.args.byte c.args.made c.args.given c.args.self.now _
     (elim c.else-made-given.branch [
-      | else-made-given-via-then-made-given+else-is_none w ↦ first-kept f c.args.byte c.args.made c.args.given c.args.self.now.first (w.is_none.ensures ∙ ap not w.if-is_none.false)
+      | else-made-given-via-then-made-given+else-is_none w ↦ first-kept f c.args.byte c.args.made c.args.given c.args.self.now.first
+          (w.is_none.ensures ∙ ap not w.if-is_none.false)
       | else-made-given-via-else-made-given w ↦ first-same f c.args.byte c.args.made c.args.given c.args.self.now.first w.if-made-given.false
     ])
     (λ k. c.add.ensures k ∙ sum-at k _ _ _ _ _ c.plane_at.ensures c.square.ensures) refl refl refl
