@@ -1,0 +1,4 @@
+pub mod States
+pub mod Engine
+pub mod Register
+pub mod Given
