@@ -5,3 +5,6 @@ pub mod Loads
 pub mod Parts
 pub mod Doublings
 pub mod Decisions
+pub mod Initials
+pub mod Slopes
+pub mod Given

@@ -2,6 +2,7 @@
 use Rattle.std.specs.Prelude.{◌≡◌, Bool, Option, Some, None, Result, Ok, Err}
 use Rattle.h264_bits.specs.declared.bits.NoWord.{NoWord}
 use Rattle.h264_cabac.specs.declared.context.Context.{Context}
+use Rattle.h264_cabac.specs.Bins.{Bins, DecoderState, Step, decoded}
 use Rattle.h264_cabac.specs.Engine.{EngineState, ContextState, Decoded, Decision}
 
 -- the state of a context
@@ -17,3 +18,16 @@ GivesBin step new (Err e) = step ≡ None
 abbrev pub GivesDecision : Option Decision → ContextState → EngineState → Result Bool NoWord → Type 0
 GivesDecision step context new (Ok b) = step ≡ Some (record { bin = b; context = context; engine = new })
 GivesDecision step context new (Err e) = step ≡ None
+
+-- a bin with the decoder after it
+abbrev pub GivesStep : Option Step → DecoderState → Result Bool NoWord → Type 0
+GivesStep step new (Ok b) = step ≡ Some (record { bin = b; decoder = new })
+GivesStep step new (Err e) = step ≡ None
+
+-- an element's value, seen so, with the decoder after it, or that there is none
+abbrev pub GivesBy : {X A : Type 0} → (X → A) → Bins A → DecoderState → DecoderState → Result X NoWord → Type 0
+GivesBy view tree old new (Ok x) = decoded tree old ≡ Some (view x, new)
+GivesBy view tree old new (Err e) = decoded tree old ≡ None
+
+abbrev pub Gives : {A : Type 0} → Bins A → DecoderState → DecoderState → Result A NoWord → Type 0
+Gives {A} tree old new result = GivesBy (λ (x : A). x) tree old new result
