@@ -7,4 +7,6 @@ pub mod Doublings
 pub mod Decisions
 pub mod Initials
 pub mod Slopes
+pub mod Runs
+pub mod Spellings
 pub mod Given

@@ -79,3 +79,14 @@ decoded NoValue d = None
 decoded (Regular index k) d = option_and_then (λ s. decoded (k s.bin) s.decoder) (regular_step index d)
 decoded (Bypass k) d = option_and_then (λ s. decoded (k s.bin) s.decoder) (bypass_step d)
 decoded (Terminate k) d = option_and_then (λ s. decoded (k s.bin) s.decoder) (terminate_step d)
+
+-- These bins were decoded one after another, each with the context that the tree names, and led to this decoder.
+abbrev pub Takes : {A : Type 0} → Bins A → DecoderState → List Bool → DecoderState → Type 0
+Takes (Value x) d bins e = (bins ≡ []) × (e ≡ d)
+Takes NoValue d bins e = ⊥
+Takes (Regular index k) d [] e = ⊥
+Takes (Regular index k) d (b ∷ bins) e = (s : DecoderState) × (regular_step index d ≡ Some (record { bin = b; decoder = s })) × Takes (k b) s bins e
+Takes (Bypass k) d [] e = ⊥
+Takes (Bypass k) d (b ∷ bins) e = (s : DecoderState) × (bypass_step d ≡ Some (record { bin = b; decoder = s })) × Takes (k b) s bins e
+Takes (Terminate k) d [] e = ⊥
+Takes (Terminate k) d (b ∷ bins) e = (s : DecoderState) × (terminate_step d ≡ Some (record { bin = b; decoder = s })) × Takes (k b) s bins e

@@ -1,6 +1,8 @@
 -- The binarization of each element, and the contexts of its bins (9.3.2, 9.3.3.1, Tables 9-34 to 9-39). To be read beside the standard.
-use Rattle.std.specs.Prelude.{ℕ, zero, suc, ◌+◌, ◌*◌, ◌^◌, List, [], ◌∷◌, ℤ, pos, neg_ℤ, min, nat_lt, slice_index, if◌then◌else◌}
+use Rattle.std.specs.Prelude.{ℕ, zero, suc, ◌+◌, ◌*◌, ◌^◌, List, [], ◌∷◌, ℤ, pos, neg_ℤ, min, nat_lt, ◌==◌, slice_index, if◌then◌else◌}
 use Rattle.h264_base.specs.Word.{digit, signed}
+use Rattle.h264_cabac.specs.declared.elements.Direction.{Direction}
+use Rattle.h264_cabac.specs.declared.elements.Direction.TheVariants.{Across, Down}
 use Rattle.h264_cabac.specs.Bins.{Bins, Value, NoValue, ◌>>=◌, regular, bypassed, terminating}
 
 -- The ctxIdx of bin k: the fifth is that of all bins from the fifth on.
@@ -35,19 +37,14 @@ number_from (suc n) number = do
   b ← bypassed
   number_from n (2 * number + digit b)
 
--- The suffix of UEGk (9.3.2.3): ones, each of which adds 2^k and makes k greater by one, a 0, and a number of k bins. This many ones may follow.
-abbrev pub number_after : ℕ → ℕ → Bins ℕ
-number_after k sum = do
-  number ← number_from k 0
-  Value (sum + number)
-
+-- The suffix of UEGk (9.3.2.3): ones, each of which adds 2^k and makes k greater by one, a 0, and a number of k bins. This many ones and the 0 may follow.
 unfoldable pub golomb_from : ℕ → ℕ → ℕ → Bins ℕ
-golomb_from zero k sum = do
-  one ← bypassed
-  if one then NoValue else number_after k sum
+golomb_from zero k sum = NoValue
 golomb_from (suc left) k sum = do
   one ← bypassed
-  if one then golomb_from left (k + 1) (sum + 2 ^ k) else number_after k sum
+  if one then golomb_from left (k + 1) (sum + 2 ^ k) else (do
+    number ← number_from k 0
+    Value (sum + number))
 
 -- the chroma pattern of Intra 16x16 (Table 9-36), from 0 to 2
 abbrev pub chroma_pattern : ℕ → ℕ → Bins ℕ
@@ -126,18 +123,23 @@ rem_intra_pred_mode = do
   c ← regular 69
   Value (digit a + 2 * digit b + 4 * digit c)
 
--- UEGk with a prefix of at most c_max ones
+-- UEGk with a prefix of at most c_max ones; no suffix has more than 16 ones
 abbrev pub with_suffix : List ℕ → ℕ → ℕ → Bins ℕ
 with_suffix indices c_max k = do
   prefix ← truncated indices c_max
-  if nat_lt prefix c_max then Value prefix else golomb_from 16 k c_max
+  if nat_lt prefix c_max then Value prefix else golomb_from 17 k c_max
 
 -- a sign, where the size is not 0
 abbrev pub with_sign : ℕ → Bins ℤ
-with_sign zero = Value (pos 0)
-with_sign (suc n) = do
-  negative ← bypassed
-  Value (if negative then neg_ℤ (pos (suc n)) else pos (suc n))
+with_sign size =
+    if size == 0 then Value (pos 0) else (do
+      negative ← bypassed
+      Value (if negative then neg_ℤ (pos size) else pos size))
+
+-- the first ctxIdx of the contexts of mvd_l0
+abbrev pub first_of : Direction → ℕ
+first_of Across = 40
+first_of Down = 47
 
 -- mvd_l0 (9.3.2.3), from the first ctxIdx of its direction, and by ctxIdxInc of its first bin
 abbrev pub mvd : ℕ → ℕ → Bins ℤ

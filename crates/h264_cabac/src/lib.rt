@@ -7,12 +7,15 @@
 //! What follows from macroblocks beside, as the ctxIdxInc of a first bin, is not decided here, nor is the order of elements.
 #![tactic(auto)]
 
+mod bins;
 pub mod context;
 pub mod decoder;
 pub mod elements;
 pub mod engine;
 pub mod initial;
+pub mod laws;
 mod load;
+pub mod mb_type;
 mod pairs_1_2;
 mod pairs_i_0;
 mod register;
