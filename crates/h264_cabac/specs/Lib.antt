@@ -6,3 +6,4 @@ pub mod Pairs
 pub mod Contexts
 pub mod Bins
 pub mod Elements
+pub mod Pattern

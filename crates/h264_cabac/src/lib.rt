@@ -18,6 +18,7 @@ mod load;
 pub mod mb_type;
 mod pairs_1_2;
 mod pairs_i_0;
+pub mod pattern;
 mod register;
 mod states;
 
