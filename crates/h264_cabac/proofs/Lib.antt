@@ -8,5 +8,7 @@ pub mod Decisions
 pub mod Initials
 pub mod Slopes
 pub mod Runs
+pub mod Divided
+pub mod Quotients
 pub mod Spellings
 pub mod Given

@@ -79,6 +79,11 @@ without_range e =
 unfoldable pub bypass : EngineState → Option Decoded
 bypass e = option_map (λ b. without_range (record e { at = e.at + 1; offset = 2 * e.offset + digit b })) (bit_of e.bytes e.at)
 
+-- n bins by bypass, each as the lowest digit of a number
+unfoldable pub bypass_number : ℕ → ℕ → EngineState → Option (ℕ × EngineState)
+bypass_number zero number e = Some (number, e)
+bypass_number (suc n) number e = option_and_then (λ s. bypass_number n (2 * number + digit s.bin) s.engine) (bypass e)
+
 -- DecodeTerminate (9.3.3.2.4). After a 1 the range is not used any more, so that nothing is said of the 2 taken from it.
 unfoldable pub terminate : EngineState → Option Decoded
 terminate e =

@@ -1,5 +1,5 @@
 -- What the functions of the engine give, as its steps see it. A working form.
-use Rattle.std.specs.Prelude.{◌≡◌, Bool, Option, Some, None, Result, Ok, Err}
+use Rattle.std.specs.Prelude.{◌≡◌, ℕ, Bool, Option, Some, None, Result, Ok, Err}
 use Rattle.h264_bits.specs.declared.bits.NoWord.{NoWord}
 use Rattle.h264_cabac.specs.declared.context.Context.{Context}
 use Rattle.h264_cabac.specs.Bins.{Bins, DecoderState, Step, decoded}
@@ -14,7 +14,12 @@ abbrev pub GivesBin : Option Decoded → EngineState → Result Bool NoWord → 
 GivesBin step new (Ok b) = step ≡ Some (record { bin = b; engine = new })
 GivesBin step new (Err e) = step ≡ None
 
--- the same with the context after it
+-- a number with the engine after it, or that the bits end before
+abbrev pub GivesNumber : Option (ℕ × EngineState) → EngineState → Result ℕ NoWord → Type 0
+GivesNumber step new (Ok n) = step ≡ Some (n, new)
+GivesNumber step new (Err e) = step ≡ None
+
+-- the same as of a bin, with the context after it
 abbrev pub GivesDecision : Option Decision → ContextState → EngineState → Result Bool NoWord → Type 0
 GivesDecision step context new (Ok b) = step ≡ Some (record { bin = b; context = context; engine = new })
 GivesDecision step context new (Err e) = step ≡ None

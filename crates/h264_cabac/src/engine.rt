@@ -2,13 +2,13 @@
 #![tactic(auto)]
 
 ghost use Rattle.std.specs.Prelude.{◌≡◌, ◌+◌, ◌-◌, ◌*◌, ◌/◌, ◌^◌, ◌<◌, ◌≤◌, length, IfOk, OnErr, Some, None};
-ghost use Rattle.h264_cabac.specs.Engine.{initialised, decision, bypass, terminate};
-ghost use Rattle.h264_cabac.specs.Given.{state_of, GivesBin, GivesDecision};
+ghost use Rattle.h264_cabac.specs.Engine.{initialised, decision, bypass, bypass_number, terminate};
+ghost use Rattle.h264_cabac.specs.Given.{state_of, GivesBin, GivesDecision, GivesNumber};
 
 use crate::context::Context;
 use crate::load::load;
 use crate::register::{
-    Register, is_below, passed, reduced, refilled, renormalized, with_range, without,
+    Register, divided, is_below, passed, reduced, refilled, renormalized, with_range, without,
 };
 use h264_bits::NoWord;
 use std::marker::Model;
@@ -114,6 +114,23 @@ impl<'a> Engine<'a> {
         let (bin, next) = reduced(passed(self.bytes, r, 1), r.range);
         self.register = refilled(self.bytes, next);
         Ok(bin)
+    }
+
+    /// Decodes `n` bins by bypass at once, as the digits of a number, the first the highest (9.3.3.2.3). NoWord: the bits end before; then nothing has
+    /// changed.
+    pub fn bypass_number(&mut self, n: u32) -> Result<u32, NoWord>
+        requires { n ≤ 8 }
+        ensures step { GivesNumber (bypass_number n 0 self.old) self.new result }
+        ensures small { IfOk result (λ v. v < 2 ^ n) }
+        ensures kept { OnErr result (self.new ≡ self.old) }
+    {
+        let r = self.register;
+        if n as usize > 8 * self.bytes.len() - r.at {
+            return Err(NoWord);
+        }
+        let (number, next) = divided(r, n);
+        self.register = refilled(self.bytes, next);
+        Ok(number)
     }
 
     /// Decodes a bin before a termination (9.3.3.2.4). After a 1 no bin follows. NoWord: the bits end before; then nothing has changed.

@@ -148,3 +148,34 @@ pub fn reduced(r: Register, range: u32) -> (bool, Register)
     }
     (true, without(r, range, range))
 }
+
+/// The number that the next `n` bins by bypass spell, and the register after them: a division by the range of the offset that is longer by `n` bits.
+#[inline(always)]
+pub fn divided(r: Register, n: u32) -> (u32, Register)
+    requires few { n ≤ 8 }
+    requires place { r.at < 2 ^ 32 }
+    requires ahead { n ≤ r.ahead }
+    requires most { r.ahead ≤ 55 }
+    requires low { 256 ≤ r.range }
+    requires high { r.range < 512 }
+    requires below { r.number < r.range * 2 ^ r.ahead }
+    ensures number { result.0 ≡ r.number / 2 ^ (r.ahead - n) / r.range }
+    ensures small { result.0 < 2 ^ n }
+    ensures register { result.1 ≡ record {
+      at = r.at + n;
+      range = r.range;
+      ahead = r.ahead - n;
+      number = r.number - r.number / 2 ^ (r.ahead - n) / r.range * r.range * 2 ^ (r.ahead - n);
+    } }
+{
+    let ahead = r.ahead - n;
+    let quotient = (r.number >> ahead) / r.range as u64;
+    let taken = (quotient * r.range as u64) << ahead;
+    let next = Register {
+        at: r.at + n as usize,
+        range: r.range,
+        number: r.number - taken,
+        ahead,
+    };
+    (quotient as u32, next)
+}
