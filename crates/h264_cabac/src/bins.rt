@@ -13,6 +13,9 @@ use h264_bits::NoWord;
 /// U has no more ones than this, since no value of an element that is so binarized is greater.
 const MOST_ONES: u32 = 52;
 
+/// So many bins by bypass are decoded at once.
+const AT_ONCE: u32 = 8;
+
 /// The suffix of UEGk has no more ones than this.
 const MOST_SUFFIX_ONES: u32 = 16;
 
@@ -50,8 +53,8 @@ pub(crate) fn read_truncated(
     Ok(c_max)
 }
 
-/// Reads a number of `n` bins by bypass, the highest first.
-pub(crate) fn read_number(decoder: &mut Decoder, n: u32) -> Result<u32, NoWord>
+/// Reads a number of `n` bins by bypass, one after another.
+fn read_long_number(decoder: &mut Decoder, n: u32) -> Result<u32, NoWord>
     requires { n ≤ 20 }
     ensures value { Gives (number_from n 0) decoder.old decoder.new result }
     ensures small { IfOk result (λ v. v < 2 ^ n) }
@@ -61,6 +64,18 @@ pub(crate) fn read_number(decoder: &mut Decoder, n: u32) -> Result<u32, NoWord>
         number = 2 * number + decoder.bypass()? as u32;
     }
     Ok(number)
+}
+
+/// Reads a number of `n` bins by bypass, the highest first.
+pub(crate) fn read_number(decoder: &mut Decoder, n: u32) -> Result<u32, NoWord>
+    requires { n ≤ 20 }
+    ensures value { Gives (number_from n 0) decoder.old decoder.new result }
+    ensures small { IfOk result (λ v. v < 2 ^ n) }
+{
+    if n <= AT_ONCE {
+        return decoder.bypass_number(n);
+    }
+    read_long_number(decoder, n)
 }
 
 /// Reads the suffix of UEGk after a prefix of cMax ones (9.3.2.3).

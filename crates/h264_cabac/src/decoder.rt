@@ -5,7 +5,8 @@ ghost use Rattle.std.specs.Prelude.{◌≡◌, ◌*◌, ◌<◌, ◌≤◌, ◌^
 ghost use Rattle.h264_cabac.specs.Bins.{regular_step, bypass_step, terminate_step};
 ghost use Rattle.h264_cabac.specs.Contexts.{IsInitial};
 ghost use Rattle.h264_cabac.specs.Engine.{initialised};
-ghost use Rattle.h264_cabac.specs.Given.{GivesStep, state_of};
+ghost use Rattle.h264_cabac.specs.Elements.{number_from};
+ghost use Rattle.h264_cabac.specs.Given.{Gives, GivesStep, state_of};
 
 use crate::context::Context;
 use crate::engine::Engine;
@@ -105,6 +106,16 @@ impl<'a> Decoder<'a> {
         ensures kept { OnErr result (self.new ≡ self.old) }
     {
         self.engine.bypass()
+    }
+
+    /// Decodes `n` bins by bypass at once, as the digits of a number, the first the highest. NoWord: the bits end before; then nothing has changed.
+    pub fn bypass_number(&mut self, n: u32) -> Result<u32, NoWord>
+        requires { n ≤ 8 }
+        ensures value { Gives (number_from n 0) self.old self.new result }
+        ensures small { IfOk result (λ v. v < 2 ^ n) }
+        ensures kept { OnErr result (self.new ≡ self.old) }
+    {
+        self.engine.bypass_number(n)
     }
 
     /// Decodes a bin before a termination, as end_of_slice_flag (9.3.3.2.4). NoWord: the bits end before; then nothing has changed.

@@ -3,7 +3,7 @@ use Rattle.std.proofs.lemmas.Result.{err_from_is_err_and}
 use Rattle.h264_cabac.specs.Bins.{decoded}
 use Rattle.h264_cabac.specs.Elements.{number_from}
 use Rattle.h264_cabac.proofs.Runs.{number-more, number-none, number-end, byte-digit, power-more}
-use Rattle.h264_cabac.proofs.bins.read_number.Goals as goal
+use Rattle.h264_cabac.proofs.bins.read_long_number.Goals as goal
 
 pub returns-in_err-number-clause-value : goal.returns-in_err-number-clause-value
 returns-in_err-number-clause-value c =
