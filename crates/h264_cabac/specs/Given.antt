@@ -1,4 +1,4 @@
--- What the functions of the engine give, as its steps see it. A working form.
+-- What the functions of this crate give: a bin, a number or a value, with what stands after it, or that there is none. To be read beside the standard.
 use Rattle.std.specs.Prelude.{◌≡◌, ℕ, Bool, Option, Some, None, Result, Ok, Err}
 use Rattle.h264_bits.specs.declared.bits.NoWord.{NoWord}
 use Rattle.h264_cabac.specs.declared.context.Context.{Context}
@@ -29,10 +29,7 @@ abbrev pub GivesStep : Option Step → DecoderState → Result Bool NoWord → T
 GivesStep step new (Ok b) = step ≡ Some (record { bin = b; decoder = new })
 GivesStep step new (Err e) = step ≡ None
 
--- an element's value, seen so, with the decoder after it, or that there is none
-abbrev pub GivesBy : {X A : Type 0} → (X → A) → Bins A → DecoderState → DecoderState → Result X NoWord → Type 0
-GivesBy view tree old new (Ok x) = decoded tree old ≡ Some (view x, new)
-GivesBy view tree old new (Err e) = decoded tree old ≡ None
-
+-- an element's value with the decoder after it, or that there is none
 abbrev pub Gives : {A : Type 0} → Bins A → DecoderState → DecoderState → Result A NoWord → Type 0
-Gives {A} tree old new result = GivesBy (λ (x : A). x) tree old new result
+Gives tree old new (Ok v) = decoded tree old ≡ Some (v, new)
+Gives tree old new (Err e) = decoded tree old ≡ None
