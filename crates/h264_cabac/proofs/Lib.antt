@@ -1,0 +1,14 @@
+pub mod Registers
+pub mod Renormalized
+pub mod Between
+pub mod Loads
+pub mod Parts
+pub mod Doublings
+pub mod Decisions
+pub mod Initials
+pub mod Slopes
+pub mod Runs
+pub mod Divided
+pub mod Quotients
+pub mod Spellings
+pub mod Given
