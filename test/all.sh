@@ -45,6 +45,7 @@ lists_labels() {
 
 step 'rules and their entries' tools/rules.py --check
 step 'commands, options and labels' tools/words.py --check
+step 'tables of CABAC' tools/cabac_tables.py --check
 step 'versions' tools/version.py --check
 step 'lines within 160 characters' tools/lines.py
 step 'definitions within six arguments' tools/arguments.py
