@@ -37,6 +37,7 @@ OF_FUNCTION = re.compile(r"(?m)^(?:so far: )?fn \w+::([\w:<>+' ]*?): (not proved
 OF_PROOF = re.compile(r"(?m)^(?:so far: )?(?:\./)?proofs/(\S+)/\w+\.antt:\d+:\d+: error(.*)$")
 OF_NAME = re.compile(r"has no field|is not in scope|has no `|was not admitted")
 # what is wrong with the text itself, of which no contract says anything
+OF_SOURCE = re.compile(r"(?m)^(?:so far: )?(?:\./)?(src/\S+):(\d+):\d+: error")
 OF_TEXT = re.compile(r"(?m)^(?:so far: )?(?:\./)?(?:src|specs)/\S+:\d+:\d+: error|\berror\[[\w-]+\]")
 
 
@@ -236,9 +237,21 @@ def is_verdict(ran):
     return ran.returncode == 1 and "logic=not-proved" in ran.stdout and not OF_TEXT.search(ran.stdout)
 
 
+def unread(batch, said, sources):
+    """The edits of a batch in whose functions the compiler finds an error."""
+    places = {(file, int(line)) for file, line in OF_SOURCE.findall(said)}
+    spans = {it: [(file, sources.span_at(file, old)) for file, old, _ in it.pairs] for it in batch}
+    return [it for it in batch if any(file == of and span[0] <= line <= span[1] for file, line in places for of, span in spans[it])]
+
+
 def told_together(checks, crate, batch, sources):
-    """Tries edits together: those that are refused, and of these the ones that are refused for a name alone."""
+    """Tries edits together: those that are refused, and of these the ones that are refused for a name alone. One that does not compile is left out."""
     ran = checked_with(checks, crate, batch, sources)
+    while left := unread(batch, ran.stdout, sources):
+        batch = [it for it in batch if it not in left]
+        if not batch:
+            return [], []
+        ran = checked_with(checks, crate, batch, sources)
     if not is_verdict(ran):
         return [], []
     own, beyond_names = said_of(ran.stdout)
