@@ -30,11 +30,15 @@ class Checks:
     def below(self, name):
         """Proves what changed below a crate: whether all of it is proved."""
         needed = self.crates[name].below
-        return not needed or self.built(needed).run()
+        if not needed:
+            return True
+        made = self.built(needed)
+        return all(map(made.is_kept, made.wanted)) or made.run()
 
     def built(self, names):
         """What is built of these crates and of all below them."""
-        asked = types.SimpleNamespace(folder=self.kept, crates=names, jobs=self.jobs, memory=build.free_memory() * 9 // 10, cpu=None)
+        cores = len(os.sched_getaffinity(0))
+        asked = types.SimpleNamespace(folder=self.kept, crates=names, jobs=cores, memory=build.free_memory() * 9 // 10, cpu=None)
         return build.Build(self.crates, asked)
 
     def command(self, name, work, flags=()):

@@ -107,6 +107,11 @@ class Build:
         parts = [(KIT / "KIT-ID").read_text(), self.asked.cpu or "", *(f"{it} {self.crates[it].sum()}" for it in sorted(all_below(self.crates, name)))]
         return hashlib.sha256("\n".join(parts).encode()).hexdigest()
 
+    def is_kept(self, name):
+        """Whether a crate was proved and built of the same text by an earlier run."""
+        kept = self.folder / name / "stamp"
+        return kept.is_file() and kept.read_text() == self.stamp(name)
+
     def words(self, crate):
         """What rattle is told of a crate: its name, its root, and the libraries that it stands on."""
         words = ["--crate-name", crate.name, "src/main.rt" if crate.is_program else "src/lib.rt"]
@@ -142,9 +147,9 @@ class Build:
     def built(self, crate, jobs):
         """Proves and builds a crate, unless that was done: whether that went well, and the processor time that it took, in seconds."""
         room, log, used = self.folder / crate.name, self.folder / "log" / crate.name, 0
-        stamp, kept = self.stamp(crate.name), self.folder / crate.name / "stamp"
-        if kept.is_file() and kept.read_text() == stamp:
+        if self.is_kept(crate.name):
             return True, 0
+        stamp = self.stamp(crate.name)
         shutil.rmtree(room, ignore_errors=True)
         room.mkdir(parents=True)
         with open(log, "w") as said:
@@ -157,7 +162,7 @@ class Build:
                     return False, used
         if stamp != self.stamp(crate.name) or "logic=proved " not in log.read_text():
             return False, used
-        kept.write_text(stamp)
+        (room / "stamp").write_text(stamp)
         return True, used
 
     def work(self, name, jobs):
