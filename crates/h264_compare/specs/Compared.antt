@@ -1,4 +1,4 @@
--- What comes of frames, compared one after another with a reconstruction. To be read beside docs/OUTPUT.md.
+-- What comes of frames, compared one after another with a reconstruction. To be read as it stands, beside no clause of the standard.
 use Rattle.std.specs.Prelude.{◌≡◌, ℕ, ◌+◌, ◌<◌, List, [], ◌∷◌, ◌++◌, map, length, Option, None, Some, IsTrue, if◌then◌else◌}
 use Rattle.std.specs.List.{All, flat_map, range_with_len}
 use Rattle.std.specs.Io.KnownBytes.{Consumes}

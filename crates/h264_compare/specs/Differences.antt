@@ -1,4 +1,4 @@
--- Where the samples that were made differ from those that were given, and by how much. To be read beside docs/OUTPUT.md.
+-- Where the samples that were made differ from those that were given, and by how much. To be read as it stands, beside no clause of the standard.
 use Rattle.std.specs.Prelude.{ℕ, ◌+◌, ◌-◌, ◌*◌, ◌==◌, ◌||◌, not, Bool, false, List, [], ◌∷◌, ◌++◌, Option, None, Some, if◌then◌else◌}
 use Rattle.h264_plane.specs.declared.frame.Component.{Component}
 use Rattle.h264_plane.specs.declared.frame.Component.TheVariants.{Y, Cb, Cr}

@@ -1,4 +1,4 @@
--- The numbers of a comparison. To be read beside docs/OUTPUT.md.
+-- The numbers of a comparison. To be read as it stands, beside no clause of the standard.
 use Rattle.std.specs.Prelude.{◌≡◌, ℕ, ◌+◌, ◌-◌, ◌^◌, min, length, List, Option, None, Some, if◌then◌else◌}
 use Rattle.std.specs.List.{sum_by, flat_map}
 use Rattle.h264_plane.specs.declared.frame.Component.{Component}
